@@ -1,0 +1,3 @@
+pub use Rattle.iop_base.specs.Counts
+pub use Rattle.iop_base.specs.Seen
+pub mod Files
