@@ -1,2 +1,3 @@
 pub mod ChoosingLemmas
 pub mod Giving
+pub mod Memory

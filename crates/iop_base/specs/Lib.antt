@@ -1,6 +1,7 @@
 pub mod Numbers
 pub mod Places
 pub mod Choosing
+pub mod Keeping
 pub mod Counts
 pub mod Piece
 pub mod Seen

@@ -1,3 +1,7 @@
+ghost use Rattle.std.specs.Prelude.{◌≡◌};
+ghost use Rattle.iop_base.specs.Numbers.{width_bytes};
+ghost use Rattle.iop_base.specs.Keeping.{kept_of};
+
 /// What the guest did that stops the machine. An instruction that faults changes nothing and is not
 /// counted.
 #[derive(Clone, Copy, Debug, PartialEq, Eq)]
@@ -72,6 +76,19 @@ pub enum Width {
     Word,
 }
 
+impl Width {
+    /// How many bytes it is: 1, 2 or 4.
+    pub fn bytes(self) -> usize
+        ensures { result ≡ width_bytes self }
+    {
+        match self {
+            Width::Byte => 1,
+            Width::Half => 2,
+            Width::Word => 4,
+        }
+    }
+}
+
 /// Why a file is not a module.
 #[derive(Clone, Copy, Debug, PartialEq, Eq)]
 pub struct Illegal {
@@ -90,4 +107,17 @@ pub enum Kept {
     Removed,
     /// It stays until it is unloaded. Its result's low two bits are 2.
     Removable,
+}
+
+impl Kept {
+    /// What becomes of a module that returned this value, by its low two bits (ps2sdk's module results).
+    pub fn of_value(value: u32) -> Kept
+        ensures { result ≡ kept_of value }
+    {
+        match value % 4 {
+            0 => Kept::Resident,
+            2 => Kept::Removable,
+            _ => Kept::Removed,
+        }
+    }
 }

@@ -1,3 +1,9 @@
 pub use Rattle.iop_base.specs.Counts
 pub use Rattle.iop_base.specs.Seen
 pub mod Files
+pub mod Calls
+pub mod Shelf
+pub mod MemFiles
+pub mod SureFiles
+pub mod MemSink
+pub mod Places

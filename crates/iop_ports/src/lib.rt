@@ -1,6 +1,22 @@
 //! The outside of the machine: the files that it reads and the sinks that it writes.
 #![tactic(auto)]
 
+mod calls;
+mod count_sink;
+mod disk_files;
+mod mem_files;
+mod mem_sink;
 mod ports;
+mod shelf;
+mod stream_sink;
+mod sure_files;
+#[cfg(test)]
+mod tests;
 
+pub use count_sink::CountSink;
+pub use disk_files::DiskFiles;
+pub use mem_files::MemFiles;
+pub use mem_sink::MemSink;
 pub use ports::{Failed, Files, Sink};
+pub use stream_sink::StreamSink;
+pub use sure_files::SureFiles;

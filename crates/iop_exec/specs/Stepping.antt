@@ -1,0 +1,17 @@
+-- What the execution of one instruction does, by its row.
+use Rattle.std.specs.Prelude.{◌≡◌, ℕ, Some, None}
+use Rattle.iop_base.specs.declared.outcomes.Width.{Width}
+use Rattle.iop_exec.specs.declared.cpu.Cpu.{Cpu}
+use Rattle.iop_exec.specs.declared.cpu.Event.{Event}
+use Rattle.iop_exec.specs.declared.cpu.Event.TheVariants.{Plain, Service, Fault}
+use Rattle.iop_exec.specs.Row.{Row, Goes, Serves, Faults}
+
+-- what stores do is the bus's matter
+abbrev pub Does : {B : Type 0} → (B → ℕ → Width → ℕ → B → Type 0) → Row → Event → Cpu → B → Cpu → B → Type 0
+-- it is done; the bus stays as it is, or takes one store
+Does stores (Goes after None) event cpu bus cpu' bus' = (event ≡ Plain) × (cpu' ≡ after) × (bus' ≡ bus)
+Does stores (Goes after (Some s)) event cpu bus cpu' bus' = (event ≡ Plain) × (cpu' ≡ after) × stores bus s.at s.width s.value bus'
+-- a service is called
+Does stores (Serves code after) event cpu bus cpu' bus' = (event ≡ Service code) × (cpu' ≡ after) × (bus' ≡ bus)
+-- a fault changes nothing
+Does stores (Faults fault) event cpu bus cpu' bus' = (event ≡ Fault fault) × (cpu' ≡ cpu) × (bus' ≡ bus)

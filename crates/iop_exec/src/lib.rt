@@ -1,0 +1,13 @@
+//! Executes one instruction of the R3000 over the registers of a processor and a bus.
+#![tactic(auto)]
+
+mod bus;
+mod cpu;
+mod execution;
+pub mod isa;
+#[cfg(test)]
+mod tests;
+
+pub use bus::Bus;
+pub use cpu::{Cpu, Event};
+pub use execution::step;

@@ -1,0 +1,201 @@
+//! A processor over a small RAM.
+
+ghost use Rattle.std.specs.Prelude.{◌≡◌, ◌+◌, ◌<◌, ◌≤◌, IfSome, length, slice_index};
+ghost use Rattle.iop_base.specs.Numbers.{number_at, bytes_of, width_bytes, with_bytes};
+ghost use Rattle.iop_base.specs.Places.{access_at};
+
+use crate::{Bus, Cpu, Event, step};
+use iop_base::{Bad, GuestFault, Width};
+use std::alloc::{AllocError, Global};
+use std::test::Fail;
+
+/// The bytes of a RAM.
+#[derive(Drop)]
+struct Ram {
+    bytes: Vec<u8>,
+}
+
+impl Ram {
+    /// A RAM of these words.
+    fn new(alloc: Global, words: &[u32]) -> Result<Self, AllocError> {
+        let mut bytes = Vec::new(alloc);
+        for word in words {
+            bytes.extend_from_slice(&word.to_le_bytes())?;
+        }
+        Ok(Ram { bytes })
+    }
+
+    /// The place of an access of so many bytes.
+    fn place(&self, at: u32, width: u32) -> Option<usize>
+        requires { 0 < width }
+        ensures place { result ≡ access_at (length self.now.bytes.items) at width }
+        ensures within { IfSome result (λ p. p + width ≤ length self.now.bytes.items) }
+    {
+        let place = (at % 0x2000_0000) as usize;
+        let mapped = matches!(at / 0x2000_0000, 0 | 4 | 5);
+        if at % width == 0 && mapped && place + width as usize <= self.bytes.len() {
+            Some(place)
+        } else {
+            None
+        }
+    }
+
+    fn byte(&self, place: usize) -> u32
+        requires { place < length self.now.bytes.items }
+        ensures value { result ≡ slice_index self.now.bytes.items place }
+        ensures below { result < 256 }
+    {
+        u32::from(self.bytes[place])
+    }
+
+    fn half(&self, place: usize) -> u32
+        requires { place + 1 < length self.now.bytes.items }
+        ensures value { result ≡ number_at self.now.bytes.items place 2 }
+        ensures below { result < 65536 }
+    {
+        self.byte(place) + 256 * self.byte(place + 1)
+    }
+
+    /// Writes the lowest bytes of a value.
+    fn put(&mut self, place: usize, count: u32, value: u32)
+        requires { place + count ≤ length self.old.bytes.items }
+        ensures { self.new.bytes.items ≡ with_bytes self.old.bytes.items place (bytes_of count value) }
+    {
+        if count > 0 {
+            self.bytes[place] = (value % 256) as u8;
+            self.put(place + 1, count - 1, value / 256);
+        }
+    }
+}
+
+/// How many bytes an access has.
+fn count_of(width: Width) -> u32
+    ensures count { result ≡ width_bytes width }
+    ensures some { 0 < result }
+{
+    match width {
+        Width::Byte => 1,
+        Width::Half => 2,
+        Width::Word => 4,
+    }
+}
+
+impl Bus for Ram {
+    ghost use Rattle.std.specs.Prelude.{◌≡◌, Some};
+    ghost use Rattle.iop_base.specs.Places.{stored};
+
+    ghost bytes = { λ r. r.bytes.items };
+
+    ghost stores = { λ r at width value after. Unit {0} };
+
+    fn fetch(&self, at: u32) -> Result<u32, Bad> {
+        self.load(at, Width::Word)
+    }
+
+    fn load(&self, at: u32, width: Width) -> Result<u32, Bad> {
+        match width {
+            Width::Byte => Ok(self.byte(self.place(at, 1).ok_or(Bad)?)),
+            Width::Half => Ok(self.half(self.place(at, 2).ok_or(Bad)?)),
+            Width::Word => {
+                let place = self.place(at, 4).ok_or(Bad)?;
+                Ok(self.half(place) + 65536 * self.half(place + 2))
+            }
+        }
+    }
+
+    fn store(&mut self, at: u32, width: Width, value: u32) -> Result<(), Bad> {
+        let count = count_of(width);
+        let place = self.place(at, count).ok_or(Bad)?;
+        self.put(place, count, value);
+        Ok(())
+    }
+}
+
+/// A processor before this address, whose register 31 is 0x3020 and whose other registers are 0.
+fn cpu_at(pc: u32) -> Cpu {
+    let mut regs = [0; 32];
+    regs[31] = 0x3020;
+    Cpu {
+        regs,
+        hi: 0,
+        lo: 0,
+        pc,
+        next: pc.wrapping_add(4),
+        in_slot: false,
+    }
+}
+
+#[test]
+fn one_instruction(rt: HostRuntime) -> Result<(), Fail> {
+    // a word, the event, and register 2 after it
+    let table = [
+        (0x2402_FFFF, Event::Plain, 0xFFFF_FFFF),
+        (0x3C02_0001, Event::Plain, 0x0001_0000),
+        (0x03E0_1021, Event::Plain, 0x3020),
+        (0x001F_1100, Event::Plain, 0x0003_0200),
+        (0x0003_C08C, Event::Service(0xF02), 0),
+        (0xFFFF_FFFF, Event::Fault(GuestFault::Reserved), 0),
+    ];
+    for (word, event, value) in table {
+        let mut cpu = cpu_at(0);
+        let mut ram = Ram::new(rt.alloc(), &[word])?;
+        let before = cpu;
+        assert_eq!(rt; step(&mut cpu, &mut ram), event);
+        assert_eq!(rt; cpu.regs[2], value);
+        match event {
+            Event::Fault(_) => assert_eq!(rt; cpu, before),
+            _ => assert_eq!(rt; (cpu.pc, cpu.next, cpu.in_slot), (4, 8, false)),
+        }
+    }
+    Ok(())
+}
+
+#[test]
+fn function_returns(rt: HostRuntime) -> Result<(), Fail> {
+    let mut ram = Ram::new(
+        rt.alloc(),
+        &[0x3C02_0001, 0x3442_0002, 0x03E0_0008, 0x0000_0000],
+    )?;
+    for start in [0, 0x8000_0000, 0xA000_0000] {
+        let mut cpu = cpu_at(start);
+        for _ in 0..4 {
+            assert_eq!(rt; step(&mut cpu, &mut ram), Event::Plain);
+        }
+        assert_eq!(rt; (cpu.regs[2], cpu.pc), (65538, 0x3020));
+    }
+    Ok(())
+}
+
+#[test]
+fn jump_in_a_slot(rt: HostRuntime) -> Result<(), Fail> {
+    let mut ram = Ram::new(rt.alloc(), &[0x03E0_0008, 0x03E0_0008])?;
+    let mut cpu = cpu_at(0);
+    assert_eq!(rt; step(&mut cpu, &mut ram), Event::Plain);
+    let before = cpu;
+    assert_eq!(rt;
+        step(&mut cpu, &mut ram),
+        Event::Fault(GuestFault::BranchInSlot)
+    );
+    assert_eq!(rt; cpu, before);
+    Ok(())
+}
+
+#[test]
+fn no_place(rt: HostRuntime) -> Result<(), Fail> {
+    let mut ram = Ram::new(rt.alloc(), &[0, 0])?;
+    for pc in [2, 8, 0x4000_0000] {
+        let mut cpu = cpu_at(pc);
+        assert_eq!(rt; step(&mut cpu, &mut ram), Event::Fault(GuestFault::Address));
+        assert_eq!(rt; cpu.pc, pc);
+    }
+    Ok(())
+}
+
+#[test]
+fn register_zero(rt: HostRuntime) -> Result<(), Fail> {
+    let mut ram = Ram::new(rt.alloc(), &[0x2400_000E])?;
+    let mut cpu = cpu_at(0);
+    assert_eq!(rt; step(&mut cpu, &mut ram), Event::Plain);
+    assert_eq!(rt; cpu.regs[0], 0);
+    Ok(())
+}

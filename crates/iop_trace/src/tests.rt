@@ -1,0 +1,148 @@
+//! The text of each line, and what two sinks hold until one of them fails.
+
+ghost use Rattle.std.specs.Prelude.{[], ◌∷◌};
+ghost use Rattle.iop_base.specs.Piece.{Traced};
+ghost use Rattle.iop_base.specs.Seen.{Gives};
+ghost use Rattle.iop_base.specs.Text.{line_bytes};
+ghost use Rattle.iop_trace.specs.Outs.{sinks, Leaves};
+
+use crate::{Out, line_text, send};
+use iop_base::{GuestFault, Kept, Line, Lines, Stop};
+use iop_ports::{Failed, Sink};
+use std::alloc::Global;
+use std::test::Fail;
+
+/// Takes a byte at a time until it is full. From then on each write fails.
+#[derive(Drop)]
+struct Page {
+    bytes: Vec<u8>,
+    room: usize,
+    faults: u64,
+}
+
+impl Page {
+    fn new(alloc: Global, room: usize) -> Self {
+        Page {
+            bytes: Vec::new(alloc),
+            room,
+            faults: 0,
+        }
+    }
+}
+
+impl Sink for Page {
+    ghost use Rattle.std.specs.Prelude.{Some};
+
+    ghost taken = { λ page. Some page.bytes.items };
+
+    ghost faults = { λ page. page.faults };
+
+    fn write(&mut self, piece: &[u8]) -> Result<usize, Failed> {
+        if piece.is_empty() {
+            return Ok(0);
+        }
+        if self.bytes.len() < self.room && self.bytes.push(piece[0]).is_ok() {
+            return Ok(1);
+        }
+        self.faults = self.faults.saturating_add(1);
+        Err(Failed)
+    }
+}
+
+/// Gives a line to whatever takes lines.
+fn give_line<L: Lines>(lines: &mut L, t: u64, line: Line)
+    ensures { Gives (L.seen lines.old) (L.seen lines.new) (Traced (line_bytes t line) ∷ []) }
+{
+    lines.line(t, line);
+}
+
+/// Gives one line to two sinks, and says whether a write failed.
+fn one_line<C: Sink, T: Sink>(console: &mut C, trace: &mut T, t: u64, line: Line) -> bool
+    ensures { Leaves result
+        (sinks C.taken C.faults T.taken T.faults console.old trace.old)
+        (sinks C.taken C.faults T.taken T.faults console.new trace.new)
+        (Traced (line_bytes t line) ∷ []) }
+{
+    let mut out = Out::new(console, trace);
+    give_line(&mut out, t, line);
+    out.failed()
+}
+
+#[test]
+fn writes_each_line(rt: HostRuntime) -> Result<(), Fail> {
+    let loaded = Line::Load {
+        k: 1,
+        code: 0,
+        base: 0x10000,
+        len: 8,
+    };
+    let refused = Line::Load {
+        k: 1,
+        code: -201,
+        base: 0,
+        len: 0,
+    };
+    let resident = Line::Returned {
+        k: 1,
+        value: 0,
+        kept: Kept::Resident,
+    };
+    let removable = Line::Returned {
+        k: 1,
+        value: 65538,
+        kept: Kept::Removable,
+    };
+    let removed = Line::Returned {
+        k: 1,
+        value: 0xffffffff,
+        kept: Kept::Removed,
+    };
+    let unlisted = Line::Unlisted { lib: 1, index: 63 };
+    let overflow = Line::End(Stop::Fault(GuestFault::Overflow, 0x10008));
+    let slot = Line::End(Stop::Fault(GuestFault::BranchInSlot, 0xffffffff));
+    let table: [(u64, Line, &str); 15] = [
+        (0, loaded, "0 load 1 ok 00010000 00000008\n"),
+        (0, refused, "0 load 1 -201\n"),
+        (2, resident, "2 result 1 0 resident\n"),
+        (4, removable, "4 result 1 65538 removable\n"),
+        (3, removed, "3 result 1 -1 removed\n"),
+        (0, Line::Run(1), "0 run 1\n"),
+        (42, Line::Irq(0), "42 line 0\n"),
+        (1003, Line::Alarm(1), "1003 alarm 1\n"),
+        (1006, Line::Due(5), "1006 due 5\n"),
+        (11, Line::Stub(0x10014), "11 stub 00010014\n"),
+        (6, unlisted, "6 service sysmem 63\n"),
+        (3, Line::End(Stop::Quiet), "3 end quiet\n"),
+        (5, Line::End(Stop::Budget), "5 end budget\n"),
+        (2, overflow, "2 end fault overflow 00010008\n"),
+        (
+            u64::MAX,
+            slot,
+            "18446744073709551615 end fault slot ffffffff\n",
+        ),
+    ];
+    for (t, line, text) in &table {
+        assert_eq!(rt; line_text(*t, line).as_slice(), text.as_bytes());
+    }
+    Ok(())
+}
+
+#[test]
+fn stops_at_a_failing_write(rt: HostRuntime) -> Result<(), Fail> {
+    let mut console = Page::new(rt.alloc(), 100);
+    let mut trace = Page::new(rt.alloc(), 12);
+    assert!(rt; send(&mut console, b"<"));
+    assert!(rt; !one_line(&mut console, &mut trace, 0, Line::Run(1)));
+    let mut out = Out::new(&mut console, &mut trace);
+    out.text(b"boot");
+    assert!(rt; !out.failed());
+    out.line(42, Line::Irq(0));
+    assert!(rt; out.failed());
+    out.text(b"more");
+    out.line(43, Line::Irq(0));
+    assert!(rt; out.failed());
+    assert_eq!(rt; console.bytes.as_slice(), b"<boot".as_slice());
+    assert_eq!(rt; trace.bytes.as_slice(), b"0 run 1\n42 l".as_slice());
+    assert_eq!(rt; trace.faults, 1);
+    Ok(())
+}
