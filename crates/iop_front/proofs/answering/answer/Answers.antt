@@ -1,0 +1,14 @@
+use Rattle.std.proofs.Common.{refl, sym}
+use Rattle.iop_front.specs.Answers.{outside}
+use Rattle.iop_front.proofs.AnswerLemmas.{refuses, refused_by, good_words}
+use Rattle.iop_front.proofs.answering.answer.Goals as goal
+
+pub returns-in-Some-clause-untouched : goal.returns-in-Some-clause-untouched
+returns-in-Some-clause-untouched g c = λ e. absurd (good_words c.answer_named.ensures e)
+
+pub returns-in-None-clause-answers : goal.returns-in-None-clause-answers
+returns-in-None-clause-answers g c =
+    let seen = outside g.F.Files.told g.F.Files.faults g.C.Sink.taken g.C.Sink.faults g.T.Sink.taken g.T.Sink.faults in
+    let sent = c.refuse.ensures.sent in
+    refused_by _ _ (seen c.args.files.now c.args.console.now c.args.trace.now) (seen c.args.files.now c.args.console.now c.refuse.new.trace) (sym c.in-None.ensures) c.refuse.ensures.status refl refl
+    (refuses sent.0 _ _ _ _ _ _ _ _ refl sent.1)

@@ -1,0 +1,58 @@
+use Rattle.std.proofs.Common.{sym, ◌∙◌, ap, subst}
+use Rattle.iop_base.specs.Seen.{Seen}
+use Rattle.iop_front.specs.Statuses.{IsExitCode, IsCutCode}
+use Rattle.iop_front.proofs.CauseLemmas as causes
+use Rattle.iop_front.proofs.top.iop_main.Goals as goal
+
+pub returns-clause-outcome : goal.returns-clause-outcome
+returns-clause-outcome g c = λ told is none. causes.outcome c.code.result c.answer.ensures.answers c.code.ensures told is none
+
+pub returns-clause-bad_words : goal.returns-clause-bad_words
+returns-clause-bad_words g c =
+    let h = causes.bad_words c.answer.ensures.answers in
+    (λ e. h.0 (sym c.code.ensures ∙ e), λ e. c.code.ensures ∙ h.1 e)
+
+pub returns-clause-bad_words_line : goal.returns-clause-bad_words_line
+returns-clause-bad_words_line g c = λ e. causes.bad_words_told c.answer.ensures.answers (sym c.code.ensures ∙ e)
+
+pub returns-clause-unread : goal.returns-clause-unread
+returns-clause-unread g c = λ e. causes.unread_cause c.answer.ensures.answers (sym c.code.ensures ∙ e)
+
+pub returns-clause-unread_shows : goal.returns-clause-unread_shows
+returns-clause-unread_shows g c = λ ne. c.code.ensures ∙ causes.unread_shows c.answer.ensures.answers ne
+
+pub returns-clause-unread_line : goal.returns-clause-unread_line
+returns-clause-unread_line g c = λ name named e. causes.unread_line c.answer.ensures.answers name named (sym c.code.ensures ∙ e)
+
+pub returns-clause-read : goal.returns-clause-read
+returns-clause-read g c = causes.files_read c.answer.ensures.answers
+
+pub returns-clause-asked : goal.returns-clause-asked
+returns-clause-asked g c = λ e. causes.asked c.answer.ensures.answers (sym c.code.ensures ∙ e)
+
+pub returns-clause-no_stray : goal.returns-clause-no_stray
+returns-clause-no_stray g c = causes.no_stray c.answer.ensures.answers
+
+pub returns-clause-not_built_line : goal.returns-clause-not_built_line
+returns-clause-not_built_line g c = λ e. causes.not_built_told c.answer.ensures.answers (sym c.code.ensures ∙ e)
+
+pub returns-clause-cut : goal.returns-clause-cut
+returns-clause-cut g c = λ e. causes.cut_cause c.answer.ensures.answers (sym c.code.ensures ∙ e)
+
+pub returns-clause-cut_shows : goal.returns-clause-cut_shows
+returns-clause-cut_shows g c = λ ne. subst IsCutCode (sym c.code.ensures) (causes.cut_shows c.answer.ensures.answers ne)
+
+pub returns-clause-console : goal.returns-clause-console
+returns-clause-console g c = (causes.console c.answer.ensures.answers).taken
+
+pub returns-clause-console_faults : goal.returns-clause-console_faults
+returns-clause-console_faults g c = (causes.console c.answer.ensures.answers).faults
+
+pub returns-clause-memory : goal.returns-clause-memory
+returns-clause-memory g c = λ e. ap (λ (s : Seen). s.trace) (causes.memory c.answer.ensures.answers (sym c.code.ensures ∙ e))
+
+pub returns-clause-memory_faults : goal.returns-clause-memory_faults
+returns-clause-memory_faults g c = λ e. ap (λ (s : Seen). s.trace_faults) (causes.memory c.answer.ensures.answers (sym c.code.ensures ∙ e))
+
+pub returns-clause-statuses : goal.returns-clause-statuses
+returns-clause-statuses g c = subst IsExitCode (sym c.code.ensures) (causes.exit_codes c.answer.ensures.answers)

@@ -1,0 +1,55 @@
+ghost use Rattle.std.specs.Prelude.{◌≡◌};
+ghost use Rattle.iop_front.specs.Statuses.{status_code, status_of};
+
+use iop_base::Stop;
+
+/// How a command ends. Its code is the program's exit status.
+#[derive(Clone, Copy, Debug, PartialEq, Eq)]
+pub enum Status {
+    /// 0: the machine had nothing left to do.
+    Quiet,
+    /// 10: as many instructions as allowed were executed.
+    Budget,
+    /// 11: the guest faulted.
+    GuestFault,
+    /// 20: the words are no command.
+    BadWords,
+    /// 22: a file cannot be read.
+    CannotRead,
+    /// 24: a write to the console or the trace failed.
+    SinkFault,
+    /// 30: no memory was left. Nothing was written.
+    NoMemory,
+    /// 40: the file is none that the command runs yet.
+    NotBuilt,
+}
+
+impl Status {
+    /// The exit status.
+    pub fn code(self) -> u8
+        ensures { result ≡ status_code self }
+    {
+        match self {
+            Status::Quiet => 0,
+            Status::Budget => 10,
+            Status::GuestFault => 11,
+            Status::BadWords => 20,
+            Status::CannotRead => 22,
+            Status::SinkFault => 24,
+            Status::NoMemory => 30,
+            Status::NotBuilt => 40,
+        }
+    }
+}
+
+impl From<Stop> for Status {
+    ghost from_gives = { λ stop status. status ≡ status_of stop };
+
+    fn from(stop: Stop) -> Status {
+        match stop {
+            Stop::Quiet => Status::Quiet,
+            Stop::Budget => Status::Budget,
+            Stop::Fault(..) => Status::GuestFault,
+        }
+    }
+}
