@@ -1,0 +1,8 @@
+-- Ranges of memory that are looked at as they stand. That a range not wholly in RAM has none is this
+-- project's own profile; the size of RAM is the length of the list of its bytes.
+use Rattle.std.specs.Prelude.{ℕ, Option, option_map, List, length, take, drop}
+use Rattle.iop_base.specs.Places.{range_at}
+
+-- the bytes of a range that lies wholly in RAM
+abbrev pub window_of : List ℕ → ℕ → ℕ → Option (List ℕ)
+window_of memory at len = option_map (λ p. take len (drop p memory)) (range_at (length memory) at len)

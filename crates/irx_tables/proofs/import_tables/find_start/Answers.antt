@@ -1,0 +1,16 @@
+use Rattle.std.proofs.Common.{arith}
+use Rattle.irx_tables.proofs.Starts.{start_after, no_start}
+use Rattle.irx_tables.proofs.import_tables.find_start.Goals as goal
+
+pub returns-then-words-eq0-clause-start : goal.returns-then-words-eq0-clause-start
+returns-then-words-eq0-clause-start c =
+    no_start c.args.ram.now c.args.stop c.args.scan (λ j lt. absurd (omega arith))
+
+pub returns-then-second-eq0-clause-start : goal.returns-then-second-eq0-clause-start
+returns-then-second-eq0-clause-start c =
+    start_after c.args.ram.now c.args.stop c.args.scan c.loop-index.index c.loop-index.first c.word-second.result (omega arith) (omega arith)
+    c.loop-index.invariant.0 c.loop-index.invariant.1 c.word-second.ensures.value c.if-first-eq-IMPORT_MAGIC.true c.if-second-eq0.true
+
+pub returns-clause-start : goal.returns-clause-start
+returns-clause-start c =
+    no_start c.args.ram.now c.args.stop c.args.scan (λ j lt. c.loop-index.invariant.0 j (omega arith))

@@ -1,0 +1,5 @@
+pub mod Words
+pub mod Imports
+pub mod Exports
+pub mod Results
+pub mod Laws

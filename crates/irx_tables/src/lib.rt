@@ -1,0 +1,12 @@
+//! Import and export tables as they stand in memory.
+#![tactic(auto)]
+
+mod export_tables;
+mod import_tables;
+pub mod laws;
+mod reading;
+#[cfg(test)]
+mod tests;
+
+pub use export_tables::{export_word, exports_count, header};
+pub use import_tables::{Import, Next, imports, stub};
