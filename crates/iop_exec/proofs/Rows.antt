@@ -4,8 +4,8 @@ use Rattle.iop_base.specs.Places.{loaded}
 use Rattle.iop_base.specs.declared.outcomes.GuestFault.TheVariants.{Address, Reserved, BranchInSlot}
 use Rattle.iop_base.specs.declared.outcomes.Width.TheVariants.{Word}
 use Rattle.iop_exec.specs.declared.cpu.Cpu.{Cpu}
-use Rattle.iop_exec.specs.declared.isa.Inst.{Inst}
-use Rattle.iop_exec.specs.Instructions.{inst_of, is_jump}
+use Rattle.iop_isa.specs.declared.instruction.Inst.{Inst}
+use Rattle.iop_isa.specs.Instructions.{inst_of, is_jump}
 use Rattle.iop_exec.specs.Row.{Faults, effect_of, executed, executed_as, row, row_of}
 
 module _ (word : ℕ) (memory : List ℕ) (c : Cpu) where

@@ -1,3 +1,3 @@
-pub mod Instructions
+pub mod Arithmetic
 pub mod Row
 pub mod Stepping

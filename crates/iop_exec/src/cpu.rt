@@ -1,8 +1,9 @@
-ghost use Rattle.std.specs.Prelude.{◌≡◌};
-ghost use Rattle.iop_exec.specs.Row.{reg, with_reg, moved, jumped};
+ghost use Rattle.std.specs.Prelude.{◌≡◌, ◌/◌, ◌%◌, ◌^◌, MatchOption};
+ghost use Rattle.iop_exec.specs.Row.{reg, with_reg, moved, jumped, jump_target, branched, linked, place};
 
-use crate::isa::Reg;
+use crate::arithmetic::signed;
 use iop_base::GuestFault;
+use iop_isa::{Code20, Reg, Target26};
 
 /// The registers of the processor.
 ///
@@ -57,6 +58,56 @@ impl Cpu {
         Event::Plain
     }
 
+    /// A load is done, of a number that goes into a register: `Address` where there is none.
+    pub(crate) fn load(&mut self, register: Reg, number: Option<u32>) -> Event
+        ensures { MatchOption number ((result ≡ Event.Fault GuestFault.Address) × (self.new ≡ self.old))
+            (λ n. (result ≡ Event.Plain) × (self.new ≡ moved (with_reg self.old register n))) }
+    {
+        match number {
+            Some(number) => self.complete(register, number),
+            None => Event::Fault(GuestFault::Address),
+        }
+    }
+
+    /// A sum is done, which goes into a register: `Overflow` where it does not fit.
+    pub(crate) fn complete_sum(&mut self, register: Reg, sum: Option<u32>) -> Event
+        ensures { MatchOption sum ((result ≡ Event.Fault GuestFault.Overflow) × (self.new ≡ self.old))
+            (λ n. (result ≡ Event.Plain) × (self.new ≡ moved (with_reg self.old register n))) }
+    {
+        match sum {
+            Some(sum) => self.complete(register, sum),
+            None => Event::Fault(GuestFault::Overflow),
+        }
+    }
+
+    /// An instruction is done that writes HI and LO.
+    pub(crate) fn complete_pair(&mut self, hi: u32, lo: u32) -> Event
+        ensures state { self.new ≡ moved (record self.old { hi = hi; lo = lo }) }
+        ensures event { result ≡ Event.Plain }
+    {
+        self.hi = hi;
+        self.lo = lo;
+        self.advance();
+        Event::Plain
+    }
+
+    /// An instruction is done that writes the upper and lower half of a product to HI and LO.
+    pub(crate) fn complete_product(&mut self, product: u64) -> Event
+        ensures state { self.new ≡ moved (record self.old { hi = product / 2 ^ 32; lo = product % 2 ^ 32 }) }
+        ensures event { result ≡ Event.Plain }
+    {
+        self.complete_pair((product >> 32) as u32, (product % (1 << 32)) as u32)
+    }
+
+    /// An instruction is done that calls a service.
+    pub(crate) fn serve(&mut self, code: Code20) -> Event
+        ensures state { self.new ≡ moved self.old }
+        ensures event { result ≡ Event.Service code }
+    {
+        self.advance();
+        Event::Service(code.number())
+    }
+
     /// A jump is done: the instruction at `next` stands in its delay slot, and the one at the target
     /// comes after it.
     pub(crate) fn jump(&mut self, target: u32) -> Event
@@ -67,6 +118,58 @@ impl Cpu {
         self.next = target;
         self.in_slot = true;
         Event::Plain
+    }
+
+    /// A jump is done that links.
+    pub(crate) fn jump_and_link(&mut self, register: Reg, target: u32) -> Event
+        ensures state { self.new ≡ jumped (linked self.old register) target }
+        ensures event { result ≡ Event.Plain }
+    {
+        self.link(register);
+        self.jump(target)
+    }
+
+    /// A branch is done: what comes after its delay slot depends on whether it is taken.
+    pub(crate) fn branch(&mut self, taken: bool, imm: u16) -> Event
+        ensures state { self.new ≡ branched self.old taken imm }
+        ensures event { result ≡ Event.Plain }
+    {
+        let target = if taken {
+            self.pc.wrapping_add(4).wrapping_add(signed(imm) << 2)
+        } else {
+            self.next.wrapping_add(4)
+        };
+        self.jump(target)
+    }
+
+    /// A branch is done that links, taken or not.
+    pub(crate) fn branch_and_link(&mut self, taken: bool, imm: u16) -> Event
+        ensures state { self.new ≡ branched (linked self.old 31) taken imm }
+        ensures event { result ≡ Event.Plain }
+    {
+        self.link(Reg::new(31));
+        self.branch(taken, imm)
+    }
+
+    /// Where a jump to a target goes.
+    pub(crate) fn jump_target(&self, target: Target26) -> u32
+        ensures { result ≡ jump_target self.now target }
+    {
+        (self.pc.wrapping_add(4) >> 28 << 28) + (target.number() << 2)
+    }
+
+    /// The address of a load or a store.
+    pub(crate) fn place(&self, register: Reg, imm: u16) -> u32
+        ensures { result ≡ place self.now register imm }
+    {
+        self.reg(register).wrapping_add(signed(imm))
+    }
+
+    /// Writes the address behind the delay slot to a register.
+    fn link(&mut self, register: Reg)
+        ensures { self.new ≡ linked self.old register }
+    {
+        self.write(register, self.pc.wrapping_add(8));
     }
 
     /// Moves on to the next instruction, after one that is no branch or jump.

@@ -1,11 +1,19 @@
-ghost use Rattle.iop_exec.specs.Row.{effect_of, executed, row, sign_extended};
+ghost use Rattle.iop_exec.specs.Row.{effect_of, executed, row};
 ghost use Rattle.iop_exec.specs.Stepping.{Does};
 ghost use Rattle.std.specs.Prelude.{◌≡◌};
 
+use crate::arithmetic::{
+    difference, is_less, is_negative, quotient, remainder, shifted_signed, signed, signed_product,
+    signed_quotient, signed_remainder, sum,
+};
 use crate::bus::Bus;
 use crate::cpu::{Cpu, Event};
-use crate::isa::{Inst, decode};
-use iop_base::GuestFault;
+use crate::memory::{
+    loaded, lower_part, signed_byte, signed_half, store, store_lower_part, store_upper_part,
+    upper_part,
+};
+use iop_base::{GuestFault, Width};
+use iop_isa::{Inst, Reg, decode};
 
 /// Executes the instruction at `pc`.
 ///
@@ -41,28 +49,79 @@ fn execute<B: Bus>(inst: Inst, cpu: &mut Cpu, bus: &mut B) -> Event
 {
     match inst {
         Inst::Sll { rd, rt, sa } => cpu.complete(rd, cpu.reg(rt) << sa.number()),
-        Inst::Jr { rs } => cpu.jump(cpu.reg(rs)),
-        Inst::Syscall { n } => {
-            cpu.advance();
-            Event::Service(n.number())
-        }
-        Inst::Addu { rd, rs, rt } => cpu.complete(rd, cpu.reg(rs).wrapping_add(cpu.reg(rt))),
-        Inst::Addiu { rt, rs, imm } => cpu.complete(
-            rt,
-            cpu.reg(rs).wrapping_add(sign_extended(imm)),
+        Inst::Srl { rd, rt, sa } => cpu.complete(rd, cpu.reg(rt) >> sa.number()),
+        Inst::Sra { rd, rt, sa } => cpu.complete(
+            rd,
+            shifted_signed(cpu.reg(rt), sa.number().into()),
         ),
+        Inst::Sllv { rd, rt, rs } => cpu.complete(rd, cpu.reg(rt) << (cpu.reg(rs) % 32)),
+        Inst::Srlv { rd, rt, rs } => cpu.complete(rd, cpu.reg(rt) >> (cpu.reg(rs) % 32)),
+        Inst::Srav { rd, rt, rs } => cpu.complete(
+            rd,
+            shifted_signed(cpu.reg(rt), cpu.reg(rs) % 32),
+        ),
+        Inst::Jr { rs } => cpu.jump(cpu.reg(rs)),
+        Inst::Jalr { rd, rs } => cpu.jump_and_link(rd, cpu.reg(rs)),
+        Inst::Syscall { n } => cpu.serve(n),
+        Inst::Break { .. } => Event::Fault(GuestFault::Break),
+        Inst::Mfhi { rd } => cpu.complete(rd, cpu.hi),
+        Inst::Mthi { rs } => cpu.complete_pair(cpu.reg(rs), cpu.lo),
+        Inst::Mflo { rd } => cpu.complete(rd, cpu.lo),
+        Inst::Mtlo { rs } => cpu.complete_pair(cpu.hi, cpu.reg(rs)),
+        Inst::Mult { rs, rt } => cpu.complete_product(signed_product(cpu.reg(rs), cpu.reg(rt))),
+        Inst::Multu { rs, rt } => cpu.complete_product(
+            u64::from(cpu.reg(rs)) * u64::from(cpu.reg(rt)),
+        ),
+        Inst::Div { rs, rt } => cpu.complete_pair(
+            signed_remainder(cpu.reg(rs), cpu.reg(rt)),
+            signed_quotient(cpu.reg(rs), cpu.reg(rt)),
+        ),
+        Inst::Divu { rs, rt } => cpu.complete_pair(
+            remainder(cpu.reg(rs), cpu.reg(rt)),
+            quotient(cpu.reg(rs), cpu.reg(rt)),
+        ),
+        Inst::Add { rd, rs, rt } => cpu.complete_sum(rd, sum(cpu.reg(rs), cpu.reg(rt))),
+        Inst::Addu { rd, rs, rt } => cpu.complete(rd, cpu.reg(rs).wrapping_add(cpu.reg(rt))),
+        Inst::Sub { rd, rs, rt } => cpu.complete_sum(rd, difference(cpu.reg(rs), cpu.reg(rt))),
+        Inst::Subu { rd, rs, rt } => cpu.complete(rd, cpu.reg(rs).wrapping_sub(cpu.reg(rt))),
+        Inst::And { rd, rs, rt } => cpu.complete(rd, cpu.reg(rs) & cpu.reg(rt)),
+        Inst::Or { rd, rs, rt } => cpu.complete(rd, cpu.reg(rs) | cpu.reg(rt)),
+        Inst::Xor { rd, rs, rt } => cpu.complete(rd, cpu.reg(rs) ^ cpu.reg(rt)),
+        Inst::Nor { rd, rs, rt } => cpu.complete(rd, !(cpu.reg(rs) | cpu.reg(rt))),
+        Inst::Slt { rd, rs, rt } => cpu.complete(rd, u32::from(is_less(cpu.reg(rs), cpu.reg(rt)))),
+        Inst::Sltu { rd, rs, rt } => cpu.complete(rd, u32::from(cpu.reg(rs) < cpu.reg(rt))),
+        Inst::Bltz { rs, imm } => cpu.branch(is_negative(cpu.reg(rs)), imm),
+        Inst::Bgez { rs, imm } => cpu.branch(!is_negative(cpu.reg(rs)), imm),
+        Inst::Bltzal { rs, imm } => cpu.branch_and_link(is_negative(cpu.reg(rs)), imm),
+        Inst::Bgezal { rs, imm } => cpu.branch_and_link(!is_negative(cpu.reg(rs)), imm),
+        Inst::J { target } => cpu.jump(cpu.jump_target(target)),
+        Inst::Jal { target } => cpu.jump_and_link(Reg::new(31), cpu.jump_target(target)),
+        Inst::Beq { rs, rt, imm } => cpu.branch(cpu.reg(rs) == cpu.reg(rt), imm),
+        Inst::Bne { rs, rt, imm } => cpu.branch(cpu.reg(rs) != cpu.reg(rt), imm),
+        Inst::Blez { rs, imm } => cpu.branch(is_negative(cpu.reg(rs)) || cpu.reg(rs) == 0, imm),
+        Inst::Bgtz { rs, imm } => cpu.branch(!(is_negative(cpu.reg(rs)) || cpu.reg(rs) == 0), imm),
+        Inst::Addi { rt, rs, imm } => cpu.complete_sum(rt, sum(cpu.reg(rs), signed(imm))),
+        Inst::Addiu { rt, rs, imm } => cpu.complete(rt, cpu.reg(rs).wrapping_add(signed(imm))),
+        Inst::Slti { rt, rs, imm } => cpu.complete(
+            rt,
+            u32::from(is_less(cpu.reg(rs), signed(imm))),
+        ),
+        Inst::Sltiu { rt, rs, imm } => cpu.complete(rt, u32::from(cpu.reg(rs) < signed(imm))),
+        Inst::Andi { rt, rs, imm } => cpu.complete(rt, cpu.reg(rs) & u32::from(imm)),
         Inst::Ori { rt, rs, imm } => cpu.complete(rt, cpu.reg(rs) | u32::from(imm)),
+        Inst::Xori { rt, rs, imm } => cpu.complete(rt, cpu.reg(rs) ^ u32::from(imm)),
         Inst::Lui { rt, imm } => cpu.complete(rt, u32::from(imm) << 16),
-    }
-}
-
-/// A signed immediate as a word.
-fn sign_extended(imm: u16) -> u32
-    ensures { result ≡ sign_extended imm }
-{
-    if imm < 0x8000 {
-        u32::from(imm)
-    } else {
-        u32::from(imm) + 0xFFFF_0000
+        Inst::Lb { rt, imm, rs } => cpu.load(rt, signed_byte(bus, cpu.place(rs, imm))),
+        Inst::Lh { rt, imm, rs } => cpu.load(rt, signed_half(bus, cpu.place(rs, imm))),
+        Inst::Lwl { rt, imm, rs } => cpu.load(rt, upper_part(bus, cpu.place(rs, imm), cpu.reg(rt))),
+        Inst::Lw { rt, imm, rs } => cpu.load(rt, loaded(bus, cpu.place(rs, imm), Width::Word)),
+        Inst::Lbu { rt, imm, rs } => cpu.load(rt, loaded(bus, cpu.place(rs, imm), Width::Byte)),
+        Inst::Lhu { rt, imm, rs } => cpu.load(rt, loaded(bus, cpu.place(rs, imm), Width::Half)),
+        Inst::Lwr { rt, imm, rs } => cpu.load(rt, lower_part(bus, cpu.place(rs, imm), cpu.reg(rt))),
+        Inst::Sb { rt, imm, rs } => store(cpu, bus, cpu.place(rs, imm), Width::Byte, cpu.reg(rt)),
+        Inst::Sh { rt, imm, rs } => store(cpu, bus, cpu.place(rs, imm), Width::Half, cpu.reg(rt)),
+        Inst::Swl { rt, imm, rs } => store_upper_part(cpu, bus, cpu.place(rs, imm), cpu.reg(rt)),
+        Inst::Sw { rt, imm, rs } => store(cpu, bus, cpu.place(rs, imm), Width::Word, cpu.reg(rt)),
+        Inst::Swr { rt, imm, rs } => store_lower_part(cpu, bus, cpu.place(rs, imm), cpu.reg(rt)),
     }
 }

@@ -1,10 +1,11 @@
 //! Executes one instruction of the R3000 over the registers of a processor and a bus.
 #![tactic(auto)]
 
+mod arithmetic;
 mod bus;
 mod cpu;
 mod execution;
-pub mod isa;
+mod memory;
 #[cfg(test)]
 mod tests;
 

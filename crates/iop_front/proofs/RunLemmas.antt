@@ -5,9 +5,9 @@ use Rattle.std.proofs.lemmas.List.{get_or-set_other, drop_more, drop_all}
 use Rattle.iop_base.specs.Numbers.{number_at, wrapped, with_bytes}
 use Rattle.iop_base.proofs.Memory.{number_at_inside, number_at_before, length-with_bytes, loaded-low_word}
 use Rattle.iop_exec.specs.declared.cpu.Cpu.{Cpu}
-use Rattle.iop_exec.specs.declared.isa.Inst.{Inst}
-use Rattle.iop_exec.specs.declared.isa.Inst.TheVariants.{Sll, Jr, Syscall, Addu, Addiu, Ori, Lui}
-use Rattle.iop_exec.specs.Instructions.{inst_of}
+use Rattle.iop_isa.specs.declared.instruction.Inst.{Inst}
+use Rattle.iop_isa.specs.declared.instruction.Inst.TheVariants.{Sll, Jr, Syscall, Addu, Addiu, Ori, Lui}
+use Rattle.iop_isa.specs.Instructions.{inst_of}
 use Rattle.iop_exec.specs.Row.{Row, Goes, Serves, reg, with_reg, moved, jumped, results, effect_of, executed}
 use Rattle.iop_exec.specs.Row.{row}
 use Rattle.iop_exec.specs.Stepping.{Does}
@@ -61,9 +61,7 @@ module _ (word : ℕ) (c : Cpu) where
   computing (Addiu rt rs imm) e h = record { register = rt; value = _; other = not_true _ h; effect = λ m. executed_no_jump word m c (Addiu rt rs imm) e refl }
   computing (Ori rt rs imm) e h = record { register = rt; value = _; other = not_true _ h; effect = λ m. executed_no_jump word m c (Ori rt rs imm) e refl }
   computing (Lui rt imm) e h = record { register = rt; value = _; other = not_true _ h; effect = λ m. executed_no_jump word m c (Lui rt imm) e refl }
-  computing (Sll rd rt sa) e h = absurd (cc)
-  computing (Jr rs) e h = absurd (cc)
-  computing (Syscall n) e h = absurd (cc)
+  computing other e h = absurd (cc)
 
   computing_option : (o : Option Inst) → inst_of word ≡ o → computes o ≡ true → Computes word c
   computing_option None e h = absurd (cc)

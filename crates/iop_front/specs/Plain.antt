@@ -3,9 +3,9 @@
 -- returns follows from its words alone. All this is this project's profile.
 use Rattle.std.specs.Prelude.{ℕ, zero, suc, ◌+◌, ◌/◌, ◌%◌, ◌==◌, nat_le, Bool, true, false, not, ◌&&◌, ◌||◌, if◌then◌else◌, Option, Some, None, option_and_then, List, [], ◌∷◌, length}
 use Rattle.iop_base.specs.Numbers.{number_at}
-use Rattle.iop_exec.specs.declared.isa.Inst.{Inst}
-use Rattle.iop_exec.specs.declared.isa.Inst.TheVariants.{Sll, Jr, Syscall, Addu, Addiu, Ori, Lui}
-use Rattle.iop_exec.specs.Instructions.{inst_of}
+use Rattle.iop_isa.specs.declared.instruction.Inst.{Inst}
+use Rattle.iop_isa.specs.declared.instruction.Inst.TheVariants.{Addu, Addiu, Ori, Lui}
+use Rattle.iop_isa.specs.Instructions.{inst_of}
 use Rattle.iop_front.specs.Irx.{half_at, bytes_of_part, image_length, irx_parts}
 use Rattle.iop_front.specs.declared.irx.Parts.{Parts}
 
@@ -20,9 +20,7 @@ keeps_return (Addu rd rs rt) = not (rd == 31)
 keeps_return (Addiu rt rs imm) = not (rt == 31)
 keeps_return (Ori rt rs imm) = not (rt == 31)
 keeps_return (Lui rt imm) = not (rt == 31)
-keeps_return (Sll rd rt sa) = false
-keeps_return (Jr rs) = false
-keeps_return (Syscall n) = false
+keeps_return other = false
 
 abbrev pub computes : Option Inst → Bool
 computes None = false

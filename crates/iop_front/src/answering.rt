@@ -49,19 +49,19 @@ fn cannot_read(name: &str) -> ArrayVec<u8, LONGEST_REFUSAL>
 /// Runs a module, and gives its lines.
 fn run_module<C: Sink, T: Sink>(
     alloc: Global,
-    module: &PlainModule<'_>,
+    plain: &PlainModule<'_>,
     console: &mut C,
     trace: &mut T,
 ) -> Status
-    requires { ArePlain module.now.text.now }
-    ensures { Meets (outcome_by (Some (module_of module.now))) result (sinks C.taken C.faults T.taken T.faults console.old trace.old) (sinks C.taken C.faults T.taken T.faults console.new trace.new) }
+    requires { ArePlain plain.now.text.now }
+    ensures { Meets (outcome_by (Some (module_of plain.now))) result (sinks C.taken C.faults T.taken T.faults console.old trace.old) (sinks C.taken C.faults T.taken T.faults console.new trace.new) }
 {
-    let Ok(mut ram) = boot(alloc, module.text) else {
+    let Ok(mut bus) = boot(alloc, plain.text) else {
         return Status::NoMemory;
     };
-    let mut cpu = first_registers(module.gp);
+    let mut cpu = first_registers(plain.gp);
     let mut out = Out::new(console, trace);
-    let stop = tell_run(module.text.len() as u32, &mut cpu, &mut ram, &mut out);
+    let stop = tell_run(plain.text.len() as u32, &mut cpu, &mut bus, &mut out);
     if out.failed() {
         Status::SinkFault
     } else {

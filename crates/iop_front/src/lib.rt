@@ -5,7 +5,7 @@ mod answering;
 mod command;
 mod irx;
 mod plain;
-mod ram;
+mod ram_bus;
 mod reading;
 mod running;
 mod status;

@@ -6,7 +6,7 @@ ghost use Rattle.iop_front.specs.Running.{ArePlain};
 ghost use Rattle.iop_front.specs.Plain.{keeps_return, is_straight, may_stand, all_may_stand, is_text_alone, words_from, plain_module};
 
 use crate::irx::{Parts, bytes_of, half_at, parts_of, word_at};
-use iop_exec::isa::{Inst, decode};
+use iop_isa::{Inst, decode};
 
 /// The number of the return address register, `$ra`.
 const RETURN_REGISTER: u8 = 31;
@@ -35,7 +35,7 @@ fn keeps_return(inst: Inst) -> bool
         Inst::Addiu { rt, .. } => rt.number() != RETURN_REGISTER,
         Inst::Ori { rt, .. } => rt.number() != RETURN_REGISTER,
         Inst::Lui { rt, .. } => rt.number() != RETURN_REGISTER,
-        Inst::Sll { .. } | Inst::Jr { .. } | Inst::Syscall { .. } => false,
+        _ => false,
     }
 }
 

@@ -1,13 +1,15 @@
 //! The run of a plain module, and its lines.
 
 ghost use Rattle.std.specs.Prelude.{◌≡◌, ℕ, ◌+◌, ◌*◌, ◌<◌, ◌≤◌, IfOk, List, length};
+ghost use Rattle.iop_base.specs.Numbers.{with_bytes};
 ghost use Rattle.iop_base.specs.Seen.{Gives};
 ghost use Rattle.iop_front.specs.PlainRun.{module_start, run_lines};
 ghost use Rattle.iop_front.specs.Running.{Holds, Returns, ArePlain, moment_of, words_of};
 
-use crate::ram::Ram;
+use crate::ram_bus::RamBus;
 use iop_base::{GuestFault, Kept, Line, Lines, Stop};
 use iop_exec::{Cpu, Event, step};
+use iop_ram::Ram;
 use std::alloc::{AllocError, Global};
 
 /// Where the first module's image is loaded.
@@ -62,26 +64,38 @@ pub(crate) fn first_registers(gp: u32) -> Cpu
 }
 
 /// Memory with the module's return and the module.
-pub(crate) fn boot(alloc: Global, text: &[u8]) -> Result<Ram, AllocError>
+pub(crate) fn boot(alloc: Global, text: &[u8]) -> Result<RamBus, AllocError>
     requires { length text.now ≤ 4096 }
-    ensures { IfOk result (λ ram. Holds ram.bytes.items text.now) }
+    ensures { IfOk result (λ bus. Holds bus.ram text.now) }
 {
     let mut ram = Ram::new(alloc)?;
-    ram.put(MODULE_RETURN as usize, &MODULE_RETURN_WORD.to_le_bytes());
-    ram.put(FIRST_BASE as usize, text);
-    Ok(ram)
+    put(&mut ram, MODULE_RETURN, &MODULE_RETURN_WORD.to_le_bytes());
+    put(&mut ram, FIRST_BASE, text);
+    Ok(RamBus { ram })
+}
+
+/// Stores bytes from an address of KUSEG on.
+fn put(ram: &mut Ram, at: u32, bytes: &[u8])
+    requires inside { at + length bytes.now ≤ 0x200000 }
+    requires sized { length ram.old ≡ 0x200000 }
+    ensures memory { ram.new ≡ with_bytes ram.old at bytes.now }
+    ensures sized { length ram.new ≡ 0x200000 }
+{
+    for (index, byte) in bytes.iter().enumerate() {
+        ram.store8(at + index as u32, *byte).unwrap();
+    }
 }
 
 /// Executes instructions until the module returns, an instruction faults, or the budget is used up.
-pub(crate) fn run(cpu: &mut Cpu, ram: &mut Ram) -> Ending
-    ensures plain { (text : List ℕ) (gp : ℕ) → Holds ram.old.bytes.items text → ArePlain text
+pub(crate) fn run(cpu: &mut Cpu, bus: &mut RamBus) -> Ending
+    ensures plain { (text : List ℕ) (gp : ℕ) → Holds bus.old.ram text → ArePlain text
         → cpu.old ≡ module_start gp → Returns text gp result }
     ensures within { moment_of result ≤ 10000000 }
 {
     let mut at = 0;
     while at < BUDGET {
         let pc = cpu.pc;
-        match step(cpu, ram) {
+        match step(cpu, bus) {
             Event::Plain => at += 1,
             Event::Service(MODULE_RETURN_CODE) => {
                 let value = cpu.regs[2];
@@ -102,8 +116,8 @@ pub(crate) fn run(cpu: &mut Cpu, ram: &mut Ram) -> Ending
 }
 
 /// Runs the module that memory holds, of so many bytes, and gives the lines of the run.
-pub(crate) fn tell_run<L: Lines>(len: u32, cpu: &mut Cpu, ram: &mut Ram, lines: &mut L) -> Stop
-    ensures { (text : List ℕ) (gp : ℕ) → Holds ram.old.bytes.items text → ArePlain text
+pub(crate) fn tell_run<L: Lines>(len: u32, cpu: &mut Cpu, bus: &mut RamBus, lines: &mut L) -> Stop
+    ensures { (text : List ℕ) (gp : ℕ) → Holds bus.old.ram text → ArePlain text
         → cpu.old ≡ module_start gp → len ≡ length text
         → (result ≡ Stop.Quiet) × Gives (L.seen lines.old) (L.seen lines.new) (run_lines (record { words = words_of text; gp = gp })) }
 {
@@ -118,7 +132,7 @@ pub(crate) fn tell_run<L: Lines>(len: u32, cpu: &mut Cpu, ram: &mut Ram, lines: 
         },
     );
     lines.line(0, Line::Run(1));
-    match run(cpu, ram) {
+    match run(cpu, bus) {
         Ending::Returned { at, value } => {
             let kept = Kept::of_value(value);
             lines.line(at, Line::Returned { k: 1, value, kept });

@@ -6,7 +6,7 @@ use Rattle.iop_front.proofs.answering.run_module.Goals as goal
 
 pub returns-then-failed : goal.returns-then-failed
 returns-then-failed g c =
-    let told = c.tell_run-stop.ensures c.args.module.now.text.now c.args.module.now.gp c.in-Ok.ensures c.requires c.first_registers-cpu.ensures refl in
+    let told = c.tell_run-stop.ensures c.args.plain.now.text.now c.args.plain.now.gp c.in-Ok.ensures c.requires c.first_registers-cpu.ensures refl in
     let names = gives_same_names g.C.Sink.taken g.C.Sink.faults g.T.Sink.taken g.T.Sink.faults c.new-out.result c.tell_run-stop.new.lines _ told.1 in
     let console : console_name c.new-out.result ≡ console_name c.tell_run-stop.new.lines = names.0 in
     let trace : trace_name c.new-out.result ≡ trace_name c.tell_run-stop.new.lines = names.1 in
@@ -20,7 +20,7 @@ returns-then-failed g c =
 
 pub returns : goal.returns
 returns g c =
-    let told = c.tell_run-stop.ensures c.args.module.now.text.now c.args.module.now.gp c.in-Ok.ensures c.requires c.first_registers-cpu.ensures refl in
+    let told = c.tell_run-stop.ensures c.args.plain.now.text.now c.args.plain.now.gp c.in-Ok.ensures c.requires c.first_registers-cpu.ensures refl in
     let names = gives_same_names g.C.Sink.taken g.C.Sink.faults g.T.Sink.taken g.T.Sink.faults c.new-out.result c.tell_run-stop.new.lines _ told.1 in
     let console : console_name c.new-out.result ≡ console_name c.tell_run-stop.new.lines = names.0 in
     let trace : trace_name c.new-out.result ≡ trace_name c.tell_run-stop.new.lines = names.1 in

@@ -1,7 +1,7 @@
 use Rattle.std.proofs.Common.{◌≡◌, ℕ, List, refl, sym, subst, arith, length, ◌∙◌, ◌/◌}
 use Rattle.iop_front.specs.PlainRun.{module_start}
 use Rattle.iop_front.specs.Running.{Holds, ArePlain}
-use Rattle.iop_front.specs.declared.ram.Ram.{Ram}
+use Rattle.iop_front.specs.declared.ram_bus.RamBus.{RamBus}
 use Rattle.iop_front.proofs.PlainLemmas.{length-words_from}
 use Rattle.iop_front.proofs.RunLemmas.{HasRun, StepIs, begins, step_is, is_word, is_back, is_no_fault}
 use Rattle.iop_front.proofs.running.run.Goals as goal
@@ -14,11 +14,11 @@ loop-at-init c = record {
 }
 
 -- what the step was
-stepped : (c : After-step) (text : List ℕ) (gp : ℕ) → Holds c.args.ram.now.bytes.items text → ArePlain text → c.args.cpu.now ≡ module_start gp → StepIs text gp c.loop-at.at c.step.result c.step.new.cpu × (c.step.new.bus ≡ c.args.ram.now)
+stepped : (c : After-step) (text : List ℕ) (gp : ℕ) → Holds c.args.bus.now.ram text → ArePlain text → c.args.cpu.now ≡ module_start gp → StepIs text gp c.loop-at.at c.step.result c.step.new.cpu × (c.step.new.bus ≡ c.args.bus.now)
 stepped c text gp holds plain_text start =
     let run = c.loop-at.invariant.run text gp holds plain_text start in
-    let here = subst (λ (ram : Ram). Holds ram.bytes.items text) (sym run.1) holds in
-    let step = step_is _ text c.loop-at.ram.bytes.items gp c.loop-at.at c.step.result c.loop-at.cpu c.loop-at.ram c.step.new.cpu c.step.new.bus here plain_text run.0 c.step.ensures in
+    let here = subst (λ (bus : RamBus). Holds bus.ram text) (sym run.1) holds in
+    let step = step_is _ text c.loop-at.bus.ram gp c.loop-at.at c.step.result c.loop-at.cpu c.loop-at.bus c.step.new.cpu c.step.new.bus here plain_text run.0 c.step.ensures in
     (step.0, step.1 ∙ run.1)
 
 pub loop-at-preserved : goal.loop-at-preserved
