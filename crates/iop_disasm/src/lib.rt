@@ -1,0 +1,11 @@
+//! Instruction words as text, and listings of memory.
+#![tactic(auto)]
+
+mod lines;
+mod spelling;
+#[cfg(test)]
+mod tests;
+mod text;
+
+pub use lines::listing;
+pub use text::inst_text;

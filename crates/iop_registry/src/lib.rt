@@ -1,0 +1,8 @@
+//! The registry of libraries: by name and major version, the place of each library's export table.
+#![tactic(auto)]
+
+mod registry;
+#[cfg(test)]
+mod tests;
+
+pub use registry::Registry;
