@@ -1,0 +1,3 @@
+pub mod Reporting
+pub mod Storing
+pub mod Binding

@@ -1,0 +1,54 @@
+-- What binding a stub does and asks for, and what holds of every memory (ps2sdk's irx.h: the words of a
+-- stub; MIPS I: j). That at most 65,536 stubs are live is this project's own profile.
+use Rattle.std.specs.Prelude.{◌≡◌, ℕ, ◌+◌, ◌/◌, ◌%◌, ◌^◌, ◌<◌, ◌≤◌, nat_lt, false, if◌then◌else◌, List, [], ◌∷◌, length, All, AllPairs}
+use Rattle.iop_base.specs.Numbers.{number_at, bytes_of, with_bytes}
+use Rattle.iop_stubs.specs.Stubs.{Memory, meets}
+use Rattle.iop_stubs.specs.declared.live_stub.Stub.{Stub}
+
+-- j target
+abbrev pub jump_word : ℕ → ℕ
+jump_word target = 0x08000000 + target / 4
+
+-- the stubs with one more before the first that stands behind it
+abbrev pub with_stub : Stub → List Stub → List Stub
+with_stub stub [] = stub ∷ []
+with_stub stub (first ∷ rest) =
+    if nat_lt stub.at first.at then stub ∷ first ∷ rest else first ∷ with_stub stub rest
+
+-- memory after a stub was bound
+abbrev pub after_bind : Memory → Stub → Memory
+after_bind memory stub = record {
+  ram = with_bytes memory.ram stub.at (bytes_of 4 (jump_word stub.target));
+  live = with_stub stub memory.live;
+}
+
+-- the stub may be bound in this memory
+pub record MayBind (memory : Memory) (stub : Stub) : Type 0 where
+  pub aligned : stub.at % 4 ≡ 0
+  pub inside : stub.at + 8 ≤ 0x200000
+  -- jr $ra
+  pub jump_back : number_at memory.ram stub.at 4 ≡ 0x03E00008
+  -- addiu $0, $0, index
+  pub index : number_at memory.ram (stub.at + 4) 4 ≡ 0x24000000 + stub.index
+  pub target_aligned : stub.target % 4 ≡ 0
+  pub target_near : stub.target < 2 ^ 28
+  -- no live stub overlaps it
+  pub apart : All (λ other. meets stub.at 8 other ≡ false) memory.live
+  pub room : length memory.live < 65536
+
+-- the stub's words in RAM are the jump and its index
+pub record IsBound (ram : List ℕ) (stub : Stub) : Type 0 where
+  pub aligned : stub.at % 4 ≡ 0
+  pub inside : stub.at + 8 ≤ 0x200000
+  pub jump : number_at ram stub.at 4 ≡ jump_word stub.target
+  pub index : number_at ram (stub.at + 4) 4 ≡ 0x24000000 + stub.index
+  pub target_aligned : stub.target % 4 ≡ 0
+  pub target_near : stub.target < 2 ^ 28
+
+-- what holds of every memory
+pub record IsSound (memory : Memory) : Type 0 where
+  pub sized : length memory.ram ≡ 0x200000
+  pub few : length memory.live ≤ 65536
+  pub bound : All (IsBound memory.ram) memory.live
+  -- they stand in order, and no two overlap
+  pub apart : AllPairs (λ first second. first.at + 8 ≤ second.at) memory.live

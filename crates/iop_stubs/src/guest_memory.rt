@@ -1,0 +1,247 @@
+ghost use Rattle.std.specs.Prelude.{◌≡◌, ℕ, ◌+◌, ◌%◌, ◌≤◌, ◌<◌, IfOk, [], find, is_ok, is_some, length, OnErr, option_copied, position, replicate, slice_index, vec_capacity, vec_len};
+ghost use Rattle.std.specs.Option.{ok_or};
+ghost use Rattle.iop_base.specs.Numbers.{width_bytes, bytes_of, with_bytes};
+ghost use Rattle.iop_base.specs.Places.{range_at, access_at};
+ghost use Rattle.iop_base.specs.Seen.{Gives};
+ghost use Rattle.iop_stubs.specs.Stubs.{is_of, stands_at, stands_behind, kept, reported, after_store, store_lines};
+ghost use Rattle.iop_stubs.specs.Binding.{after_bind, with_stub, MayBind, IsSound};
+
+use crate::live_stub::Stub;
+use iop_base::{Bad, Lines, Width};
+use iop_ram::{Ram, physical};
+use std::alloc::{AllocError, Global};
+use std::marker::Model;
+
+/// So many stubs can be live.
+const ROOM: u32 = 65_536;
+
+/// `j` to place 0.
+const JUMP: u32 = 0x0800_0000;
+
+/// Stores a number of this width, and gives its place.
+fn store_number(ram: &mut Ram, at: u32, width: Width, value: u32) -> Result<u32, Bad>
+    ensures place { result ≡ ok_or (access_at (length ram.old) at (width_bytes width)) (record {}) }
+    ensures inside { IfOk result (λ place. place + width_bytes width ≤ length ram.old) }
+    ensures memory { IfOk result (λ place. ram.new ≡ with_bytes ram.old place (bytes_of (width_bytes width) value)) }
+    ensures same { OnErr result (ram.new ≡ ram.old) }
+{
+    match width {
+        Width::Byte => ram.store8(at, (value % 0x100) as u8),
+        Width::Half => ram.store16(at, (value % 0x1_0000) as u16),
+        Width::Word => ram.store32(at, value),
+    }?;
+    physical(at).ok_or(Bad)
+}
+
+/// The place of a range that lies wholly in RAM.
+fn range(ram: &Ram, at: u32, len: u32) -> Result<u32, Bad>
+    ensures place { result ≡ ok_or (range_at (length ram.now) at len) (record {}) }
+    ensures inside { IfOk result (λ place. place + len ≤ length ram.now) }
+{
+    ram.window(at, len).ok_or(Bad)?;
+    physical(at).ok_or(Bad)
+}
+
+/// Stores one byte at every place of a range in RAM.
+fn fill_range(ram: &mut Ram, place: u32, len: u32, byte: u8)
+    requires inside { place + len ≤ 0x200000 }
+    requires sized { length ram.old ≡ 0x200000 }
+    ensures memory { ram.new ≡ with_bytes ram.old place (replicate len byte) }
+{
+    for offset in 0..len {
+        ram.store8(place + offset, byte).unwrap();
+    }
+}
+
+/// Gives a line for each stub that the range meets.
+fn report<L: Lines>(live: &[Stub], place: u32, len: u32, t: u64, lines: &mut L)
+    ensures { Gives (L.seen lines.old) (L.seen lines.new) (reported t place len live.now) }
+{
+    for stub in live {
+        stub.report(place, len, t, lines);
+    }
+}
+
+/// Tells of each stub that the range meets, and takes it out.
+fn end_stubs<L: Lines>(live: &mut Vec<Stub>, place: u32, len: u32, t: u64, lines: &mut L)
+    ensures live { live.new.items ≡ kept place len live.old.items }
+    ensures room { vec_capacity live.new ≡ vec_capacity live.old }
+    ensures lines { Gives (L.seen lines.old) (L.seen lines.new) (reported t place len live.old.items) }
+{
+    report(live, place, len, t, lines);
+    live.retain(|stub| !stub.meets(place, len));
+}
+
+/// Stores a word.
+fn store_word(ram: &mut Ram, place: u32, word: u32)
+    requires aligned { place % 4 ≡ 0 }
+    requires inside { place + 4 ≤ 0x200000 }
+    ensures { ram.new ≡ with_bytes ram.old place (bytes_of 4 word) }
+{
+    ram.store32(place, word).unwrap();
+}
+
+/// The index of the first stub that stands behind a place.
+fn index_behind(live: &[Stub], place: u32) -> Option<usize>
+    ensures { result ≡ position (stands_behind place) live.now }
+{
+    live.iter().position(|stub| place < stub.at)
+}
+
+/// Puts a stub before the first that stands behind it. There is room for it.
+fn put_in_order(live: &mut Vec<Stub>, stub: Stub)
+    requires { vec_len live.old < vec_capacity live.old }
+    ensures live { live.new.items ≡ with_stub stub live.old.items }
+    ensures room { vec_capacity live.old ≤ vec_capacity live.new }
+{
+    let index = index_behind(live, stub.at).unwrap_or(live.len());
+    let _ = live.insert(index, stub);
+}
+
+/// The stub at a place.
+fn find_at(live: &[Stub], place: u32) -> Option<&Stub>
+    ensures { option_copied result ≡ find (stands_at place) live.now }
+{
+    live.iter().find(|stub| stub.at == place)
+}
+
+/// The first stub of the library of this name and major version.
+fn find_of<'a>(live: &'a [Stub], name: &[u8; 8], major: u8) -> Option<&'a Stub>
+    ensures { option_copied result ≡ find (is_of name.now major) live.now }
+{
+    live.iter().find(|stub| stub.is_of(name, major))
+}
+
+/// RAM, and the live stubs in the order of their places, no two of which overlap. At each of them RAM
+/// holds the jump to its target, and behind it the word with its index.
+///
+/// An address is `Bad` as it is for `Ram`.
+#[derive(Drop)]
+pub struct Guest {
+    ram: Ram,
+    live: Vec<Stub>,
+}
+
+impl Model for Guest {
+    ghost use Rattle.std.specs.Prelude.{◌≤◌};
+    ghost use Rattle.std.specs.Vec.{vec_capacity};
+    ghost use Rattle.iop_stubs.specs.Stubs.{Memory};
+    ghost use Rattle.iop_stubs.specs.Binding.{IsSound};
+
+    ghost Value = { Memory };
+
+    ghost view = { λ g. record { ram = g.ram; live = g.live.items } };
+
+    ghost invariant = { λ g. IsSound (record { ram = g.ram; live = g.live.items }) × (65536 ≤ vec_capacity g.live) };
+}
+
+impl Guest {
+    /// Memory that is all zero, without a live stub. It takes all the memory that will be needed.
+    pub fn new(alloc: Global) -> Result<Self, AllocError>
+        ensures zero { IfOk result (λ guest. (p : ℕ) → slice_index guest.ram p ≡ 0) }
+        ensures none { IfOk result (λ guest. guest.live ≡ []) }
+        ensures sound { IfOk result IsSound }
+    {
+        let ram = Ram::new(alloc)?;
+        let live = Vec::with_capacity(alloc, ROOM as usize)?;
+        Ok(Guest { ram, live })
+    }
+
+    /// The memory as it stands, to be read.
+    pub fn ram(&self) -> &Ram
+        ensures value { result.now ≡ self.now.ram }
+        ensures sound { IsSound self.now }
+    {
+        &self.ram
+    }
+
+    /// Stores the low bytes of a number. Each live stub that has one of these bytes is told of by a
+    /// line of moment `t`, in the order of their places, and lives no more.
+    ///
+    /// `Bad` exactly where the address is outside RAM or not a multiple of the width; nothing changes
+    /// then, and there is no line.
+    pub fn store<L: Lines>(
+        &mut self,
+        at: u32,
+        width: Width,
+        value: u32,
+        t: u64,
+        lines: &mut L,
+    ) -> Result<(), Bad>
+        ensures accepted { is_ok result ≡ is_some (access_at (length self.old.ram) at (width_bytes width)) }
+        ensures memory { self.new ≡ after_store self.old (access_at (length self.old.ram) at (width_bytes width)) (bytes_of (width_bytes width) value) }
+        ensures lines { Gives (L.seen lines.old) (L.seen lines.new) (store_lines t self.old (access_at (length self.old.ram) at (width_bytes width)) (width_bytes width)) }
+        ensures was_sound { IsSound self.old }
+        ensures sound { IsSound self.new }
+    {
+        let place = store_number(&mut self.ram, at, width, value)?;
+        end_stubs(&mut self.live, place, width.bytes() as u32, t, lines);
+        Ok(())
+    }
+
+    /// Stores one byte at every place of a range of `len` bytes. Each live stub that has one of these
+    /// places is told of by a line of moment `t`, in the order of their places, and lives no more. With
+    /// a `len` of 0 nothing changes.
+    ///
+    /// `Bad` exactly where the range is not wholly in RAM, also with a `len` of 0: the address itself
+    /// names a place in RAM, and the end is at most its size. Nothing changes then, and there is no
+    /// line.
+    pub fn fill<L: Lines>(
+        &mut self,
+        at: u32,
+        len: u32,
+        byte: u8,
+        t: u64,
+        lines: &mut L,
+    ) -> Result<(), Bad>
+        ensures accepted { is_ok result ≡ is_some (range_at (length self.old.ram) at len) }
+        ensures memory { self.new ≡ after_store self.old (range_at (length self.old.ram) at len) (replicate len byte) }
+        ensures lines { Gives (L.seen lines.old) (L.seen lines.new) (store_lines t self.old (range_at (length self.old.ram) at len) len) }
+        ensures was_sound { IsSound self.old }
+        ensures sound { IsSound self.new }
+    {
+        let place = range(&self.ram, at, len)?;
+        end_stubs(&mut self.live, place, len, t, lines);
+        fill_range(&mut self.ram, place, len, byte);
+        Ok(())
+    }
+
+    /// How many more stubs can be bound: 65,536 less the live stubs.
+    pub fn room(&self) -> u32
+        ensures room { result + length self.now.live ≡ 65536 }
+        ensures sound { IsSound self.now }
+    {
+        ROOM - self.live.len() as u32
+    }
+
+    /// Binds a stub: its first word becomes a jump to its target, and it is live.
+    ///
+    /// There is room for it. Its place is a multiple of 4 with its 8 bytes in RAM, where the words
+    /// 0x03E00008 and 0x24000000 + its index stand, and no live stub overlaps it. Its target is a
+    /// multiple of 4 below 2^28.
+    pub fn bind(&mut self, stub: Stub)
+        requires { MayBind self.old stub }
+        ensures memory { self.new ≡ after_bind self.old stub }
+        ensures was_sound { IsSound self.old }
+        ensures sound { IsSound self.new }
+    {
+        put_in_order(&mut self.live, stub);
+        store_word(&mut self.ram, stub.at, JUMP + stub.target / 4);
+    }
+
+    /// The live stub at a physical place. None exactly where none begins there.
+    pub fn at(&self, addr: u32) -> Option<Stub>
+        ensures stub { result ≡ find (stands_at addr) self.now.live }
+        ensures sound { IsSound self.now }
+    {
+        find_at(&self.live, addr).copied()
+    }
+
+    /// Whether a live stub is one of the library of this name and major version.
+    pub fn bound_to(&self, name: [u8; 8], major: u8) -> bool
+        ensures stub { result ≡ is_some (find (is_of name major) self.now.live) }
+        ensures sound { IsSound self.now }
+    {
+        find_of(&self.live, &name, major).is_some()
+    }
+}

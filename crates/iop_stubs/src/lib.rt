@@ -1,0 +1,11 @@
+//! The memory that a guest sees: RAM in which bound import stubs stand as jumps, and the list of the
+//! live stubs.
+#![tactic(auto)]
+
+mod guest_memory;
+mod live_stub;
+#[cfg(test)]
+mod tests;
+
+pub use guest_memory::Guest;
+pub use live_stub::Stub;

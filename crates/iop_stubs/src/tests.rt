@@ -1,0 +1,124 @@
+//! One stub from its binding to the store that ends it.
+
+ghost use Rattle.std.specs.Prelude.{◌≡◌, ◌+◌, ◌%◌, ◌^◌, ◌<◌, ◌≤◌};
+
+use crate::{Guest, Stub};
+use iop_base::{Bad, Line, Lines, Width};
+use std::alloc::Global;
+use std::process::Abort;
+use std::test::Fail;
+
+/// Keeps the moments and places of the stubs that it is told of.
+#[derive(Drop)]
+struct Told {
+    stubs: Vec<(u64, u32)>,
+}
+
+impl Lines for Told {
+    ghost use Rattle.std.specs.Prelude.{None, false, []};
+
+    ghost seen = { λ told. record { console = None; trace = None; failed = false; console_faults = 0; trace_faults = 0; names = [] } };
+
+    fn line(&mut self, t: u64, line: Line) {
+        if let Line::Stub(at) = line {
+            let _ = self.stubs.push((t, at));
+        }
+    }
+
+    fn text(&mut self, _bytes: &[u8]) {}
+}
+
+/// The import of number 14 of `sysmem`, bound to a function at 0x44E0.
+const STUB: Stub = Stub {
+    at: 0x1_0014,
+    name: *b"sysmem\0\0",
+    major: 1,
+    index: 14,
+    target: 0x44E0,
+};
+
+/// Binds a stub where none is live and its two words stand.
+fn bind_first(rt: &impl Abort, guest: &mut Guest, stub: Stub)
+    requires aligned { stub.at % 4 ≡ 0 }
+    requires inside { stub.at + 8 ≤ 0x200000 }
+    requires target_aligned { stub.target % 4 ≡ 0 }
+    requires target_near { stub.target < 2 ^ 28 }
+{
+    assert_eq!(rt; guest.room(), 65_536);
+    assert_eq!(rt; guest.ram().load32(stub.at), Ok(0x03E0_0008));
+    assert_eq!(rt;
+        guest.ram().load32(stub.at + 4),
+        Ok(0x2400_0000 + u32::from(stub.index))
+    );
+    guest.bind(stub);
+}
+
+/// Memory in which the stub is bound.
+fn bound(rt: &impl Abort, alloc: Global, told: &mut Told) -> Result<Guest, Fail> {
+    let mut guest = Guest::new(alloc)?;
+    for (at, word) in [(0x1_0014, 0x03E0_0008), (0x8001_0018, 0x2400_000E)] {
+        assert_eq!(rt; guest.store(at, Width::Word, word, 0, told), Ok(()));
+    }
+    bind_first(rt, &mut guest, STUB);
+    assert_eq!(rt; guest.ram().load32(STUB.at), Ok(0x0800_1138));
+    assert_eq!(rt; guest.room(), 65_535);
+    Ok(guest)
+}
+
+#[test]
+fn stores_end_a_stub(rt: HostRuntime) -> Result<(), Fail> {
+    let mut told = Told {
+        stubs: Vec::new(rt.alloc()),
+    };
+    let mut guest = bound(&rt, rt.alloc(), &mut told)?;
+    for (at, width, result) in [
+        (0x1_0010, Width::Word, Ok(())),
+        (0x1_001C, Width::Word, Ok(())),
+        (0x1_0015, Width::Half, Err(Bad)),
+        (0x20_0000, Width::Byte, Err(Bad)),
+    ] {
+        assert_eq!(rt; guest.store(at, width, 7, 1, &mut told), result);
+    }
+    assert_eq!(rt; guest.at(0x1_0014), Some(STUB));
+    assert_eq!(rt; guest.at(0x1_0018), None);
+    for (name, major, wanted) in [
+        (*b"sysmem\0\0", 1, true),
+        (*b"sysmem\0\0", 2, false),
+        (*b"stdio\0\0\0", 1, false),
+    ] {
+        assert_eq!(rt; guest.bound_to(name, major), wanted);
+    }
+    assert_eq!(rt;
+        guest.store(0xA001_001B, Width::Byte, 7, 2, &mut told),
+        Ok(())
+    );
+    assert_eq!(rt; guest.at(0x1_0014), None);
+    assert_eq!(rt; guest.room(), 65_536);
+    assert_eq!(rt; guest.ram().load32(0x1_0014), Ok(0x0800_1138));
+    assert_eq!(rt; guest.ram().load32(0x1_0018), Ok(0x0700_000E));
+    assert_eq!(rt; told.stubs.as_slice(), [(2, 0x1_0014)].as_slice());
+    Ok(())
+}
+
+#[test]
+fn fills_end_a_stub(rt: HostRuntime) -> Result<(), Fail> {
+    let mut told = Told {
+        stubs: Vec::new(rt.alloc()),
+    };
+    let mut guest = bound(&rt, rt.alloc(), &mut told)?;
+    for (at, len, result) in [
+        (0x1_0018, 0, Ok(())),
+        (0x1_0000, 0x14, Ok(())),
+        (0x1F_FFFF, 2, Err(Bad)),
+        (0x20_0000, 0, Err(Bad)),
+    ] {
+        assert_eq!(rt; guest.fill(at, len, 0xFF, 1, &mut told), result);
+    }
+    assert_eq!(rt; guest.at(0x1_0014), Some(STUB));
+    assert_eq!(rt; guest.fill(0x1_0000, 0x15, 0, 3, &mut told), Ok(()));
+    assert_eq!(rt; guest.bound_to(*b"sysmem\0\0", 1), false);
+    assert_eq!(rt; guest.ram().load32(0x1_0014), Ok(0x0800_1100));
+    assert_eq!(rt; guest.ram().load32(0x1_0010), Ok(0));
+    assert_eq!(rt; told.stubs.as_slice(), [(3, 0x1_0014)].as_slice());
+    Ok(())
+}
