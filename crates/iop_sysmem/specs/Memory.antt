@@ -1,8 +1,10 @@
 -- The blocks of RAM and the services on them (ps2sdk: sysmem.h). That sizes round up to 256 bytes, which
 -- place each mode takes, and what the queries answer in free memory is this project's own profile.
-use Rattle.std.specs.Prelude.{ℕ, zero, suc, ◌≡◌, ◌+◌, ◌-◌, ◌*◌, ◌/◌, ◌%◌, ◌==◌, ◌<◌, ◌≤◌, nat_le, nat_lt, ◌&&◌, if◌then◌else◌, Option, Some, None, option_map, option_and_then, List, [], ◌∷◌, length, slice_index_or, ◌⊎◌}
+use Rattle.std.specs.Prelude.{ℕ, negsuc, zero, suc, ◌≡◌, ◌+◌, ◌-◌, ◌*◌, ◌/◌, ◌%◌, ◌==◌, ◌<◌, ◌≤◌, nat_le, nat_lt, ◌&&◌, if◌then◌else◌, Option, Some, None, option_map, option_and_then, List, [], ◌∷◌, length, slice_index_or, ◌⊎◌}
 use Rattle.std.specs.List.{position, remove}
 use Rattle.iop_base.specs.Places.{phys}
+use Rattle.iop_base.specs.declared.codes.Code.{Code}
+use Rattle.iop_base.specs.declared.codes.TheConstants.Code.{OK}
 
 -- the size of RAM, and the start and size of each used range in order of start
 pub record Memory : Type 0 where
@@ -87,6 +89,18 @@ freed_index memory at =
 -- memory without the block of this index
 abbrev pub without_block : Memory → ℕ → Memory
 without_block memory i = record memory { used = remove memory.used i }
+
+-- what is answered where no block starts that may be freed
+abbrev pub no_block : Code
+no_block = record { 0 = negsuc 0 }
+
+-- what the freeing of the block of this index is answered, and the memory that it leaves
+abbrev pub freed_at : Memory → Option ℕ → Code × Memory
+freed_at memory None = (no_block, memory)
+freed_at memory (Some i) = (OK, without_block memory i)
+
+abbrev pub freed : Memory → ℕ → Code × Memory
+freed memory at = freed_at memory (freed_index memory at)
 
 -- the index of the used range that holds a place
 abbrev pub index_holding : Memory → ℕ → Option ℕ

@@ -1,7 +1,7 @@
-ghost use Rattle.std.specs.Prelude.{◌≡◌, pos, negsuc, ◌+◌, ◌<◌, ◌%◌, ◌==◌, ℕ, IfOk, MatchOption, option_map, unwrap_or, length, [], ◌∷◌};
+ghost use Rattle.std.specs.Prelude.{◌≡◌, ◌+◌, ◌<◌, ◌%◌, ◌==◌, ℕ, IfOk, MatchOption, option_map, unwrap_or, length, [], ◌∷◌};
 ghost use Rattle.std.specs.List.{position};
 ghost use Rattle.iop_base.specs.Places.{phys};
-ghost use Rattle.iop_sysmem.specs.Memory.{IsFree, HasNoFree, IsKept, IsLeastFree, IsGreatestFree, IsMostFree, Allocates, with_block, without_block, freed_index, index_holding, IsTaken, holder, used_bytes};
+ghost use Rattle.iop_sysmem.specs.Memory.{IsFree, HasNoFree, IsKept, IsLeastFree, IsGreatestFree, IsMostFree, Allocates, with_block, freed, index_holding, IsTaken, holder, used_bytes};
 
 use iop_base::Code;
 use std::alloc::{AllocError, Global};
@@ -167,7 +167,8 @@ impl Blocks {
     /// Frees the block that starts at this address. -1, and no change, exactly where none starts there or
     /// it is the kernel's.
     pub fn free(&mut self, at: u32) -> Code
-        ensures { MatchOption (freed_index self.old at) ((result ≡ record { 0 = negsuc 0 }) × (self.new ≡ self.old)) (λ index. (result ≡ record { 0 = pos 0 }) × (self.new ≡ without_block self.old index)) }
+        ensures code { result ≡ (freed self.old at).0 }
+        ensures memory { self.new ≡ (freed self.old at).1 }
     {
         let Some(place) = self.physical(at) else {
             return NO_BLOCK;
