@@ -3,7 +3,7 @@ ghost use Rattle.std.specs.Option.{ok_or};
 ghost use Rattle.iop_base.specs.Numbers.{width_bytes, with_bytes};
 ghost use Rattle.iop_base.specs.Places.{phys, range_at, access_at, loaded, stored};
 ghost use Rattle.iop_base.specs.declared.outcomes.Width.TheVariants.{Byte, Half, Word};
-ghost use Rattle.iop_ram.specs.Windows.{window_of};
+ghost use Rattle.iop_ram.specs.Windows.{window_of, stored_bytes};
 
 use byteorder::{ByteOrder, LittleEndian};
 use iop_base::{Bad, Width};
@@ -159,6 +159,20 @@ impl Ram {
     {
         let place = self.access(at, Width::Word)?;
         self.put(place, &value.to_le_bytes());
+        Ok(())
+    }
+
+    /// Stores bytes from an address on. `Bad` exactly where their range is not wholly in RAM, also for no
+    /// byte: the address itself names a place in RAM, and the end is at most its size. They need not be
+    /// aligned.
+    pub fn store_bytes(&mut self, at: u32, bytes: &[u8]) -> Result<(), Bad>
+        ensures accepted { is_ok result ≡ is_some (stored_bytes self.old at bytes.now) }
+        ensures memory { self.new ≡ unwrap_or (stored_bytes self.old at bytes.now) self.old }
+        ensures was_sized { length self.old ≡ 0x200000 }
+        ensures sized { length self.new ≡ 0x200000 }
+    {
+        let place = self.range(at, bytes.len()).ok_or(Bad)?;
+        self.put(place, bytes);
         Ok(())
     }
 

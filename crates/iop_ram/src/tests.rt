@@ -32,3 +32,23 @@ fn numbers_and_places(rt: HostRuntime) -> Result<(), Fail> {
     assert_eq!(rt; physical(0x2000_0000), None);
     Ok(())
 }
+
+#[test]
+fn stores_of_bytes(rt: HostRuntime) -> Result<(), Fail> {
+    let mut ram = Ram::new(rt.alloc())?;
+    let bytes = [0x34, 0x12, 0x78, 0x56];
+    let rows = [
+        (0x101, 4, Ok(())),
+        (0xA01F_FFFC, 4, Ok(())),
+        (0x1F_FFFD, 4, Err(Bad)),
+        (0x1F_FFFF, 0, Ok(())),
+        (0x20_0000, 0, Err(Bad)),
+    ];
+    for (at, len, wanted) in rows {
+        assert_eq!(rt; ram.store_bytes(at, &bytes[..len]), wanted);
+    }
+    assert_eq!(rt; ram.load32(0x100), Ok(0x7812_3400));
+    assert_eq!(rt; ram.load32(0x104), Ok(0x56));
+    assert_eq!(rt; ram.load32(0x1F_FFFC), Ok(0x5678_1234));
+    Ok(())
+}
