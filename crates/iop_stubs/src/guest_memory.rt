@@ -33,6 +33,17 @@ fn store_number(ram: &mut Ram, at: u32, width: Width, value: u32) -> Result<u32,
     physical(at).ok_or(Bad)
 }
 
+/// Stores bytes, and gives their place.
+fn put_bytes(ram: &mut Ram, at: u32, bytes: &[u8]) -> Result<u32, Bad>
+    ensures place { result ≡ ok_or (range_at (length ram.old) at (length bytes.now)) (record {}) }
+    ensures inside { IfOk result (λ place. place + length bytes.now ≤ length ram.old) }
+    ensures memory { IfOk result (λ place. ram.new ≡ with_bytes ram.old place bytes.now) }
+    ensures same { OnErr result (ram.new ≡ ram.old) }
+{
+    ram.store_bytes(at, bytes)?;
+    physical(at).ok_or(Bad)
+}
+
 /// The place of a range that lies wholly in RAM.
 fn range(ram: &Ram, at: u32, len: u32) -> Result<u32, Bad>
     ensures place { result ≡ ok_or (range_at (length ram.now) at len) (record {}) }
@@ -176,6 +187,30 @@ impl Guest {
     {
         let place = store_number(&mut self.ram, at, width, value)?;
         end_stubs(&mut self.live, place, width.bytes() as u32, t, lines);
+        Ok(())
+    }
+
+    /// Stores bytes from an address on; they need not be aligned. Each live stub that has one of their
+    /// places is told of by a line of moment `t`, in the order of their places, and lives no more. With
+    /// no byte nothing changes.
+    ///
+    /// `Bad` exactly where their range is not wholly in RAM, also for no byte: the address itself names
+    /// a place in RAM, and the end is at most its size. Nothing changes then, and there is no line.
+    pub fn store_bytes<L: Lines>(
+        &mut self,
+        at: u32,
+        bytes: &[u8],
+        t: u64,
+        lines: &mut L,
+    ) -> Result<(), Bad>
+        ensures accepted { is_ok result ≡ is_some (range_at (length self.old.ram) at (length bytes.now)) }
+        ensures memory { self.new ≡ after_store self.old (range_at (length self.old.ram) at (length bytes.now)) bytes.now }
+        ensures lines { Gives (L.seen lines.old) (L.seen lines.new) (store_lines t self.old (range_at (length self.old.ram) at (length bytes.now)) (length bytes.now)) }
+        ensures was_sound { IsSound self.old }
+        ensures sound { IsSound self.new }
+    {
+        let place = put_bytes(&mut self.ram, at, bytes)?;
+        end_stubs(&mut self.live, place, bytes.len() as u32, t, lines);
         Ok(())
     }
 

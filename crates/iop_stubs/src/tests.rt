@@ -114,11 +114,35 @@ fn fills_end_a_stub(rt: HostRuntime) -> Result<(), Fail> {
     ] {
         assert_eq!(rt; guest.fill(at, len, 0xFF, 1, &mut told), result);
     }
+    for (at, bytes, result) in [
+        (0x1_001C, b"end".as_slice(), Ok(())),
+        (0x1_0011, b"end".as_slice(), Ok(())),
+        (0x1F_FFFE, b"end".as_slice(), Err(Bad)),
+    ] {
+        assert_eq!(rt; guest.store_bytes(at, bytes, 1, &mut told), result);
+    }
     assert_eq!(rt; guest.at(0x1_0014), Some(STUB));
     assert_eq!(rt; guest.fill(0x1_0000, 0x15, 0, 3, &mut told), Ok(()));
     assert_eq!(rt; guest.bound_to(*b"sysmem\0\0", 1), false);
     assert_eq!(rt; guest.ram().load32(0x1_0014), Ok(0x0800_1100));
     assert_eq!(rt; guest.ram().load32(0x1_0010), Ok(0));
     assert_eq!(rt; told.stubs.as_slice(), [(3, 0x1_0014)].as_slice());
+    Ok(())
+}
+
+#[test]
+fn a_store_of_bytes_ends_a_stub(rt: HostRuntime) -> Result<(), Fail> {
+    let mut told = Told {
+        stubs: Vec::new(rt.alloc()),
+    };
+    let mut guest = bound(&rt, rt.alloc(), &mut told)?;
+    assert_eq!(rt;
+        guest.store_bytes(0x8001_001B, b"end", 4, &mut told),
+        Ok(())
+    );
+    assert_eq!(rt; guest.at(0x1_0014), None);
+    assert_eq!(rt; guest.ram().load32(0x1_0018), Ok(0x6500_000E));
+    assert_eq!(rt; guest.ram().load16(0x1_001C), Ok(0x646E));
+    assert_eq!(rt; told.stubs.as_slice(), [(4, 0x1_0014)].as_slice());
     Ok(())
 }
