@@ -1,40 +1,34 @@
 -- What one stub more leaves is sound.
-use Rattle.std.proofs.Common.{◌≡◌, ℕ, suc, ◌+◌, ◌^◌, ◌<◌, ◌≤◌, Bool, true, false, cond, not, Some, None, List, [], ◌∷◌, length, get_or, nat_lt, refl, ap, sym, ◌∙◌, arith, unwrap_or}
-use Rattle.std.specs.List.{All, AllPairs, insert, position, position_or_len}
+use Rattle.std.proofs.Common.{◌≡◌, ℕ, suc, ◌+◌, ◌^◌, ◌<◌, ◌≤◌, Bool, true, false, cond, not, List, [], ◌∷◌, length, get_or, nat_lt, refl, ap, sym, ◌∙◌, arith}
+use Rattle.std.specs.List.{All, AllPairs, insert, prefix_len}
 use Rattle.std.proofs.lemmas.List.Elements.{All-cons, All-head, All-tail, All-weaker}
 use Rattle.std.proofs.lemmas.List.Kept.{AllPairs-cons}
-use Rattle.std.proofs.lemmas.List.Sums.{prefix_len-le-length}
-use Rattle.std.proofs.lemmas.Bool.{ltb-true, ltb-false}
+use Rattle.std.proofs.lemmas.Bool.{ltb-true, ltb-false, lt-ltb, le-ltb}
 use Rattle.iop_base.specs.Numbers.{number_at, bytes_of, with_bytes}
 use Rattle.iop_base.proofs.Memory.{length-with_bytes, number_at_inside}
-use Rattle.iop_stubs.specs.Stubs.{Memory, stands_behind}
+use Rattle.iop_stubs.specs.Stubs.{Memory, stands_before}
 use Rattle.iop_stubs.specs.Binding.{jump_word, with_stub, after_bind, MayBind, IsBound, IsSound}
 use Rattle.iop_stubs.specs.declared.live_stub.Stub.{Stub}
 use Rattle.iop_stubs.proofs.Storing.{Apart, before, behind, empty, apart, stays_bound, number_at_behind}
 
-or_length : (n len : ℕ) (b : Bool) → nat_lt n len ≡ b → n ≤ len → unwrap_or (cond b (Some n) None) len ≡ n
-or_length n len true e le = refl
-or_length n len false e le = omega (arith, ltb-false _ _ e)
-
 module _ (stub : Stub) where
-  insert_by : (b : Bool) (first : Stub) (rest : List Stub) (n m : ℕ) → m ≡ suc n → insert rest n stub ≡ with_stub stub rest → insert (first ∷ rest) (cond (not b) m 0) stub ≡ cond b (stub ∷ first ∷ rest) (first ∷ with_stub stub rest)
-  insert_by true first rest n m next e = refl
-  insert_by false first rest n m next e =
-      ap (λ k. insert (first ∷ rest) k stub) next ∙ ap (λ stubs. first ∷ stubs) e
+  insert_by : (b c : Bool) (first : Stub) (rest : List Stub) (n m : ℕ) → c ≡ not b → m ≡ suc n → insert rest n stub ≡ with_stub stub rest → insert (first ∷ rest) (cond b m 0) stub ≡ cond c (stub ∷ first ∷ rest) (first ∷ with_stub stub rest)
+  insert_by true c first rest n m other next e = rw (other, next) (ap (λ stubs. first ∷ stubs) e)
+  insert_by false c first rest n m other next e = rw other refl
 
-  insert_first : (stubs : List Stub) → insert stubs (position_or_len (stands_behind stub.at) stubs) stub ≡ with_stub stub stubs
-  insert_first [] = refl
-  insert_first (first ∷ rest) =
-      let n = position_or_len (stands_behind stub.at) rest in
-      insert_by (nat_lt stub.at first.at) first rest n (1 + n) (omega arith) (insert_first rest)
+  one_side : (other : Stub) → Apart other.at stub.at 8 → nat_lt stub.at other.at ≡ not (nat_lt other.at stub.at)
+  one_side other (before h) = le-ltb _ _ (omega arith) ∙ ap not (sym (lt-ltb _ _ (omega arith)))
+  one_side other (behind h) = lt-ltb _ _ (omega arith) ∙ ap not (sym (le-ltb _ _ (omega arith)))
+  one_side other (empty h) = cc
 
   -- the place that a search gives
-  pub insert_is : (stubs : List Stub) → insert stubs (unwrap_or (position (stands_behind stub.at) stubs) (length stubs)) stub ≡ with_stub stub stubs
-  insert_is stubs =
-      let n = position_or_len (stands_behind stub.at) stubs in
-      ap (λ k. insert stubs k stub)
-      (or_length n (length stubs) (nat_lt n (length stubs)) refl (prefix_len-le-length (λ s. not (stands_behind stub.at s)) stubs))
-      ∙ insert_first stubs
+  pub insert_is : (stubs : List Stub) → All (λ other. Apart other.at stub.at 8) stubs → insert stubs (prefix_len (stands_before stub.at) stubs) stub ≡ with_stub stub stubs
+  insert_is [] far = refl
+  insert_is (first ∷ rest) far =
+      let n = prefix_len (stands_before stub.at) rest in
+      insert_by (nat_lt first.at stub.at) (nat_lt stub.at first.at) first rest n (1 + n)
+      (one_side first (All-head (λ other. Apart other.at stub.at 8) first rest far)) (omega arith)
+      (insert_is rest (All-tail (λ other. Apart other.at stub.at 8) first rest far))
 
   length_by : (b : Bool) (first : Stub) (rest : List Stub) → length (with_stub stub rest) ≡ suc (length rest) → length (cond b (stub ∷ first ∷ rest) (first ∷ with_stub stub rest)) ≡ suc (suc (length rest))
   length_by true first rest e = refl
@@ -48,7 +42,7 @@ module _ (stub : Stub) where
   all_by P true first rest p all later = All-cons P stub (first ∷ rest) p all
   all_by P false first rest p all later = All-cons P first (with_stub stub rest) (All-head P first rest all) later
 
-  All-with_stub : (P : Stub → Type 0) (stubs : List Stub) → P stub → All P stubs → All P (with_stub stub stubs)
+  pub All-with_stub : (P : Stub → Type 0) (stubs : List Stub) → P stub → All P stubs → All P (with_stub stub stubs)
   All-with_stub P [] p all = All-cons P stub [] p all
   All-with_stub P (first ∷ rest) p all =
       all_by P (nat_lt stub.at first.at) first rest p all (All-with_stub P rest p (All-tail P first rest all))
@@ -73,7 +67,7 @@ module _ (stub : Stub) where
   pairs_by false first rest e far all pairs later =
       AllPairs-cons IsBefore first (with_stub stub rest) (All-with_stub (IsBefore first) rest (comes_behind first far (ltb-false _ _ e)) all) later
 
-  AllPairs-with_stub : (stubs : List Stub) → All (λ other. Apart other.at stub.at 8) stubs → AllPairs IsBefore stubs → AllPairs IsBefore (with_stub stub stubs)
+  pub AllPairs-with_stub : (stubs : List Stub) → All (λ other. Apart other.at stub.at 8) stubs → AllPairs IsBefore stubs → AllPairs IsBefore (with_stub stub stubs)
   AllPairs-with_stub [] far pairs = AllPairs-cons IsBefore stub [] (λ k d below. absurd (omega arith)) pairs
   AllPairs-with_stub (first ∷ rest) far pairs =
       let later : AllPairs IsBefore rest = λ i j d lt below. pairs (suc i) (suc j) d (omega arith) (omega arith) in

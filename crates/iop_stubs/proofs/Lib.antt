@@ -1,3 +1,4 @@
 pub mod Reporting
 pub mod Storing
+pub mod Searching
 pub mod Binding

@@ -45,10 +45,17 @@ pub record IsBound (ram : List ℕ) (stub : Stub) : Type 0 where
   pub target_aligned : stub.target % 4 ≡ 0
   pub target_near : stub.target < 2 ^ 28
 
+-- the stubs stand in the order of their places, and no two overlap
+abbrev pub IsInOrder : List Stub → Type 0
+IsInOrder live = AllPairs (λ first second. first.at + 8 ≤ second.at) live
+
+-- the stub's bytes lie in these bounds
+abbrev pub IsWithin : ℕ → ℕ → Stub → Type 0
+IsWithin low high stub = (low ≤ stub.at) × (stub.at + 8 ≤ high)
+
 -- what holds of every memory
 pub record IsSound (memory : Memory) : Type 0 where
   pub sized : length memory.ram ≡ 0x200000
   pub few : length memory.live ≤ 65536
   pub bound : All (IsBound memory.ram) memory.live
-  -- they stand in order, and no two overlap
-  pub apart : AllPairs (λ first second. first.at + 8 ≤ second.at) memory.live
+  pub apart : IsInOrder memory.live

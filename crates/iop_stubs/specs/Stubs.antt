@@ -21,8 +21,11 @@ is_of name major stub = bytes_eq stub.name name && stub.major == major
 abbrev pub stands_at : ℕ → Stub → Bool
 stands_at place stub = stub.at == place
 
-abbrev pub stands_behind : ℕ → Stub → Bool
-stands_behind place stub = nat_lt place stub.at
+abbrev pub stands_before : ℕ → Stub → Bool
+stands_before place stub = nat_lt stub.at place
+
+abbrev pub stands_from : ℕ → Stub → Bool
+stands_from place stub = not (stands_before place stub)
 
 -- whether one of its 8 bytes lies in the range of `len` bytes from `place` on
 abbrev pub meets : ℕ → ℕ → Stub → Bool

@@ -1,19 +1,17 @@
-ghost use Rattle.std.specs.Prelude.{◌≡◌, ℕ, ◌+◌, ◌%◌, ◌≤◌, ◌<◌, IfOk, [], find, is_ok, is_some, length, OnErr, option_copied, position, replicate, slice_index, vec_capacity, vec_len};
+ghost use Rattle.std.specs.Prelude.{◌≡◌, ℕ, ◌+◌, ◌%◌, ◌≤◌, IfOk, [], find, is_ok, is_some, length, OnErr, replicate, slice_index};
 ghost use Rattle.std.specs.Option.{ok_or};
 ghost use Rattle.iop_base.specs.Numbers.{width_bytes, bytes_of, with_bytes};
 ghost use Rattle.iop_base.specs.Places.{range_at, access_at};
 ghost use Rattle.iop_base.specs.Seen.{Gives};
-ghost use Rattle.iop_stubs.specs.Stubs.{is_of, stands_at, stands_behind, kept, reported, after_store, store_lines};
-ghost use Rattle.iop_stubs.specs.Binding.{after_bind, with_stub, MayBind, IsSound};
+ghost use Rattle.iop_stubs.specs.Stubs.{is_of, stands_at, after_store, store_lines};
+ghost use Rattle.iop_stubs.specs.Binding.{after_bind, MayBind, IsSound};
 
 use crate::live_stub::Stub;
+use crate::live_stubs::{LiveStubs, ROOM};
 use iop_base::{Bad, Lines, Width};
 use iop_ram::{Ram, physical};
 use std::alloc::{AllocError, Global};
 use std::marker::Model;
-
-/// So many stubs can be live.
-const ROOM: u32 = 65_536;
 
 /// `j` to place 0.
 const JUMP: u32 = 0x0800_0000;
@@ -64,25 +62,6 @@ fn fill_range(ram: &mut Ram, place: u32, len: u32, byte: u8)
     }
 }
 
-/// Gives a line for each stub that the range meets.
-fn report<L: Lines>(live: &[Stub], place: u32, len: u32, t: u64, lines: &mut L)
-    ensures { Gives (L.seen lines.old) (L.seen lines.new) (reported t place len live.now) }
-{
-    for stub in live {
-        stub.report(place, len, t, lines);
-    }
-}
-
-/// Tells of each stub that the range meets, and takes it out.
-fn end_stubs<L: Lines>(live: &mut Vec<Stub>, place: u32, len: u32, t: u64, lines: &mut L)
-    ensures live { live.new.items ≡ kept place len live.old.items }
-    ensures room { vec_capacity live.new ≡ vec_capacity live.old }
-    ensures lines { Gives (L.seen lines.old) (L.seen lines.new) (reported t place len live.old.items) }
-{
-    report(live, place, len, t, lines);
-    live.retain(|stub| !stub.meets(place, len));
-}
-
 /// Stores a word.
 fn store_word(ram: &mut Ram, place: u32, word: u32)
     requires aligned { place % 4 ≡ 0 }
@@ -92,37 +71,6 @@ fn store_word(ram: &mut Ram, place: u32, word: u32)
     ram.store32(place, word).unwrap();
 }
 
-/// The index of the first stub that stands behind a place.
-fn index_behind(live: &[Stub], place: u32) -> Option<usize>
-    ensures { result ≡ position (stands_behind place) live.now }
-{
-    live.iter().position(|stub| place < stub.at)
-}
-
-/// Puts a stub before the first that stands behind it. There is room for it.
-fn put_in_order(live: &mut Vec<Stub>, stub: Stub)
-    requires { vec_len live.old < vec_capacity live.old }
-    ensures live { live.new.items ≡ with_stub stub live.old.items }
-    ensures room { vec_capacity live.old ≤ vec_capacity live.new }
-{
-    let index = index_behind(live, stub.at).unwrap_or(live.len());
-    let _ = live.insert(index, stub);
-}
-
-/// The stub at a place.
-fn find_at(live: &[Stub], place: u32) -> Option<&Stub>
-    ensures { option_copied result ≡ find (stands_at place) live.now }
-{
-    live.iter().find(|stub| stub.at == place)
-}
-
-/// The first stub of the library of this name and major version.
-fn find_of<'a>(live: &'a [Stub], name: &[u8; 8], major: u8) -> Option<&'a Stub>
-    ensures { option_copied result ≡ find (is_of name.now major) live.now }
-{
-    live.iter().find(|stub| stub.is_of(name, major))
-}
-
 /// RAM, and the live stubs in the order of their places, no two of which overlap. At each of them RAM
 /// holds the jump to its target, and behind it the word with its index.
 ///
@@ -130,20 +78,18 @@ fn find_of<'a>(live: &'a [Stub], name: &[u8; 8], major: u8) -> Option<&'a Stub>
 #[derive(Drop)]
 pub struct Guest {
     ram: Ram,
-    live: Vec<Stub>,
+    live: LiveStubs,
 }
 
 impl Model for Guest {
-    ghost use Rattle.std.specs.Prelude.{◌≤◌};
-    ghost use Rattle.std.specs.Vec.{vec_capacity};
     ghost use Rattle.iop_stubs.specs.Stubs.{Memory};
     ghost use Rattle.iop_stubs.specs.Binding.{IsSound};
 
     ghost Value = { Memory };
 
-    ghost view = { λ g. record { ram = g.ram; live = g.live.items } };
+    ghost view = { λ g. record { ram = g.ram; live = g.live } };
 
-    ghost invariant = { λ g. IsSound (record { ram = g.ram; live = g.live.items }) × (65536 ≤ vec_capacity g.live) };
+    ghost invariant = { λ g. IsSound (record { ram = g.ram; live = g.live }) };
 }
 
 impl Guest {
@@ -154,7 +100,7 @@ impl Guest {
         ensures sound { IfOk result IsSound }
     {
         let ram = Ram::new(alloc)?;
-        let live = Vec::with_capacity(alloc, ROOM as usize)?;
+        let live = LiveStubs::new(alloc)?;
         Ok(Guest { ram, live })
     }
 
@@ -186,7 +132,7 @@ impl Guest {
         ensures sound { IsSound self.new }
     {
         let place = store_number(&mut self.ram, at, width, value)?;
-        end_stubs(&mut self.live, place, width.bytes() as u32, t, lines);
+        self.live.end_in(place, width.bytes() as u32, t, lines);
         Ok(())
     }
 
@@ -210,7 +156,7 @@ impl Guest {
         ensures sound { IsSound self.new }
     {
         let place = put_bytes(&mut self.ram, at, bytes)?;
-        end_stubs(&mut self.live, place, bytes.len() as u32, t, lines);
+        self.live.end_in(place, bytes.len() as u32, t, lines);
         Ok(())
     }
 
@@ -236,7 +182,7 @@ impl Guest {
         ensures sound { IsSound self.new }
     {
         let place = range(&self.ram, at, len)?;
-        end_stubs(&mut self.live, place, len, t, lines);
+        self.live.end_in(place, len, t, lines);
         fill_range(&mut self.ram, place, len, byte);
         Ok(())
     }
@@ -260,7 +206,7 @@ impl Guest {
         ensures was_sound { IsSound self.old }
         ensures sound { IsSound self.new }
     {
-        put_in_order(&mut self.live, stub);
+        self.live.insert(stub);
         store_word(&mut self.ram, stub.at, JUMP + stub.target / 4);
     }
 
@@ -269,7 +215,7 @@ impl Guest {
         ensures stub { result ≡ find (stands_at addr) self.now.live }
         ensures sound { IsSound self.now }
     {
-        find_at(&self.live, addr).copied()
+        self.live.at(addr)
     }
 
     /// Whether a live stub is one of the library of this name and major version.
@@ -277,6 +223,6 @@ impl Guest {
         ensures stub { result ≡ is_some (find (is_of name major) self.now.live) }
         ensures sound { IsSound self.now }
     {
-        find_of(&self.live, &name, major).is_some()
+        self.live.has_of(&name, major)
     }
 }

@@ -4,6 +4,7 @@
 
 mod guest_memory;
 mod live_stub;
+mod live_stubs;
 #[cfg(test)]
 mod tests;
 

@@ -5,7 +5,7 @@ ghost use Rattle.iop_stubs.specs.Stubs.{is_of, meets, reported};
 use iop_base::{Line, Lines};
 
 /// How many bytes a stub has: two instructions.
-const SIZE: u32 = 8;
+pub(crate) const SIZE: u32 = 8;
 
 /// An import stub that is bound. Places are physical addresses.
 #[derive(Clone, Copy, Debug, PartialEq, Eq)]
