@@ -3,12 +3,12 @@
 //! Memory is read while it changes. What counts is what stood there before: behind the stub bound last
 //! the text is as it was, and the first word of a stub that was bound was `jr $ra`.
 
-ghost use Rattle.std.specs.Prelude.{◌≡◌, ℕ, ◌+◌, ◌*◌, ◌/◌, ◌%◌, ◌^◌, ◌<◌, ◌≤◌, true, false, [], ◌∷◌, All, length};
+ghost use Rattle.std.specs.Prelude.{◌≡◌, ℕ, ◌+◌, ◌*◌, ◌/◌, ◌%◌, ◌^◌, ◌<◌, ◌≤◌, true, false, [], ◌∷◌, All, IfSome, length};
 ghost use Rattle.std.specs.List.{slice_get};
 ghost use Rattle.irx_tables.specs.Words.{word_at};
 ghost use Rattle.irx_tables.specs.Imports.{ImportTable, is_stub, stub_at, tables_of};
 ghost use Rattle.irx_tables.specs.Results.{IsImportOf};
-ghost use Rattle.iop_registry.specs.Entries.{table_of, IsTable};
+ghost use Rattle.iop_registry.specs.Entries.{IsTable};
 ghost use Rattle.iop_stubs.specs.Stubs.{meets};
 ghost use Rattle.iop_stubs.specs.Binding.{IsSound};
 ghost use Rattle.iop_linker.specs.Linking.{target_of, bound_stubs, new_stubs, linked_memory};
@@ -51,26 +51,28 @@ pub fn bind_tables(guest: &mut Guest, reg: &Registry, from: u32, len: u32)
     let text = Text { from, len };
     let mut scan = from;
     while let Next::Table(import) = imports(guest.ram(), from, len, scan) {
-        bind_table(guest, reg, text, &import);
+        bind_table(guest, text, &import, library(reg, &import));
         scan = import.end;
     }
 }
 
-/// Binds the stubs of a table. No stub of the text is live from the table on.
-fn bind_table(guest: &mut Guest, reg: &Registry, text: Text, import: &Import)
+/// Binds the stubs of a table, whose library's export table stands at `library`. No stub of the text is
+/// live from the table on.
+fn bind_table(guest: &mut Guest, text: Text, import: &Import, library: Option<u32>)
     requires table { (found : ImportTable) × IsImportOf guest.old.ram import.now found }
+    requires library { IfSome library IsTable }
     requires inside { text.from + text.len ≤ 0x200000 }
     requires after { text.from ≤ import.now.at }
     requires before { import.now.end ≤ text.from + text.len }
+    requires aligned { import.now.at % 4 ≡ 0 }
     requires extent { import.now.end ≡ import.now.at + 20 + 8 * import.now.stubs + 8 }
     requires free { IsRestFree text.from text.len import.now.at guest.old }
-    requires room { length guest.old.live + length (bound_import (former_functions text.from text.len guest.old) guest.old.ram import.now (table_of reg.now import.now.name (import.now.version / 256))) ≤ 65536 }
-    ensures memory { guest.new ≡ linked_memory guest.old (bound_import (former_functions text.from text.len guest.old) guest.old.ram import.now (table_of reg.now import.now.name (import.now.version / 256))) }
+    requires room { length guest.old.live + length (bound_import (former_functions text.from text.len guest.old) guest.old.ram import.now library) ≤ 65536 }
+    ensures memory { guest.new ≡ linked_memory guest.old (bound_import (former_functions text.from text.len guest.old) guest.old.ram import.now library) }
     ensures readable { StaysReadable text.from text.len import.now.end guest.old guest.new }
     ensures free { IsRestFree text.from text.len import.now.end guest.new }
-    ensures sound { IsSound guest.new }
 {
-    let Some(table) = library(reg, import) else {
+    let Some(table) = library else {
         return;
     };
     let functions = functions_at(guest, text, table);
@@ -84,7 +86,7 @@ fn functions_at(guest: &Guest, text: Text, table: u32) -> Functions
     requires { IsTable table }
     ensures table { result.table ≡ table }
     ensures count { result.count ≡ length (former_functions text.from text.len guest.now table) }
-    ensures sound { IsSound guest.now }
+    ensures inside { 0 < result.count → table + 20 + 4 * result.count ≤ 0x200000 }
 {
     let count = exports_count(guest.ram(), table);
     Functions { table, count }
@@ -98,14 +100,14 @@ fn bind_stub(guest: &mut Guest, text: Text, import: &Import, functions: Function
     requires after { text.from ≤ at }
     requires before { at + 8 ≤ text.from + text.len }
     requires stub { is_stub guest.old.ram at ≡ true }
-    requires table { IsTable functions.table }
+    requires table { functions.table % 4 ≡ 0 }
+    requires functions { 0 < functions.count → functions.table + 20 + 4 * functions.count ≤ 0x200000 }
     requires count { functions.count ≡ length (former_functions text.from text.len guest.old functions.table) }
     requires free { IsRestFree text.from text.len at guest.old }
     requires room { length guest.old.live + length (bound_stubs import.now.name (import.now.version / 256) (former_functions text.from text.len guest.old functions.table) (stub_at guest.old.ram at ∷ [])) ≤ 65536 }
     ensures memory { guest.new ≡ linked_memory guest.old (bound_stubs import.now.name (import.now.version / 256) (former_functions text.from text.len guest.old functions.table) (stub_at guest.old.ram at ∷ [])) }
     ensures readable { StaysReadable text.from text.len (at + 8) guest.old guest.new }
     ensures free { IsRestFree text.from text.len (at + 8) guest.new }
-    ensures sound { IsSound guest.new }
 {
     let index = (word(guest, at + 4) % 0x1_0000) as u16;
     if let Some(function) = function(guest, text, functions, index) {
@@ -121,11 +123,10 @@ fn bind_stub(guest: &mut Guest, text: Text, import: &Import, functions: Function
 
 /// The word of a function, as it stood before. None where the library has no function of this index.
 fn function(guest: &Guest, text: Text, functions: Functions, index: u16) -> Option<u32>
-    requires inside { text.from + text.len ≤ 0x200000 }
-    requires table { IsTable functions.table }
+    requires table { functions.table % 4 ≡ 0 }
+    requires functions { 0 < functions.count → functions.table + 20 + 4 * functions.count ≤ 0x200000 }
     requires count { functions.count ≡ length (former_functions text.from text.len guest.now functions.table) }
-    ensures word { result ≡ slice_get (former_functions text.from text.len guest.now functions.table) index }
-    ensures sound { IsSound guest.now }
+    ensures { result ≡ slice_get (former_functions text.from text.len guest.now functions.table) index }
 {
     let index = u32::from(index);
     if index < functions.count {
@@ -155,7 +156,7 @@ fn word(guest: &Guest, place: u32) -> u32
     requires aligned { place % 4 ≡ 0 }
     requires inside { place + 4 ≤ 0x200000 }
     ensures word { result ≡ word_at guest.now.ram place }
-    ensures sound { IsSound guest.now }
+    ensures sized { length guest.now.ram ≡ 0x200000 }
 {
     guest.ram().load32(place).unwrap()
 }

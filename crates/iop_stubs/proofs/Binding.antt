@@ -40,7 +40,7 @@ module _ (stub : Stub) where
   length_by true first rest e = refl
   length_by false first rest e = ap suc e
 
-  length-with_stub : (stubs : List Stub) → length (with_stub stub stubs) ≡ suc (length stubs)
+  pub length-with_stub : (stubs : List Stub) → length (with_stub stub stubs) ≡ suc (length stubs)
   length-with_stub [] = refl
   length-with_stub (first ∷ rest) = length_by (nat_lt stub.at first.at) first rest (length-with_stub rest)
 
@@ -48,7 +48,7 @@ module _ (stub : Stub) where
   all_by P true first rest p all later = All-cons P stub (first ∷ rest) p all
   all_by P false first rest p all later = All-cons P first (with_stub stub rest) (All-head P first rest all) later
 
-  All-with_stub : (P : Stub → Type 0) (stubs : List Stub) → P stub → All P stubs → All P (with_stub stub stubs)
+  pub All-with_stub : (P : Stub → Type 0) (stubs : List Stub) → P stub → All P stubs → All P (with_stub stub stubs)
   All-with_stub P [] p all = All-cons P stub [] p all
   All-with_stub P (first ∷ rest) p all =
       all_by P (nat_lt stub.at first.at) first rest p all (All-with_stub P rest p (All-tail P first rest all))
