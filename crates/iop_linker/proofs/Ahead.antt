@@ -1,5 +1,5 @@
 -- Two memories that are the same from a place on have the same import tables from there on.
-use Rattle.std.proofs.Common.{◌≡◌, ℕ, zero, suc, ◌+◌, ◌-◌, ◌*◌, ◌/◌, ◌≤◌, Bool, cond, Option, Some, None, option_map, List, [], ◌∷◌, length, take, drop, map, get_or, refl, ap, sym, ◌∙◌, arith}
+use Rattle.std.proofs.Common.{◌≡◌, ℕ, zero, suc, ◌+◌, ◌-◌, ◌*◌, ◌/◌, ◌≤◌, cond, Option, Some, None, option_map, List, ◌∷◌, length, take, drop, map, get_or, refl, ap, sym, ◌∙◌, arith}
 use Rattle.std.specs.List.{find, prefix_len}
 use Rattle.std.proofs.lemmas.List.{get_or-drop, drop-drop}
 use Rattle.iop_base.specs.Numbers.{number_at}

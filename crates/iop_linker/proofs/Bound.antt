@@ -1,15 +1,15 @@
 -- One stub that is bound, and those of a table one after another.
-use Rattle.std.proofs.Common.{◌≡◌, ℕ, suc, ◌+◌, ◌-◌, ◌*◌, ◌/◌, ◌%◌, ◌^◌, ◌<◌, ◌≤◌, min, max, Bool, true, false, ◌&&◌, nat_eq, nat_le, nat_lt, Option, Some, None, option_map, List, [], ◌∷◌, ◌++◌, length, take, drop, map, get_or, refl, ap, sym, ◌∙◌, arith, subst}
-use Rattle.std.specs.List.{All, filter_map, cons_option, slice_get}
+use Rattle.std.proofs.Common.{◌≡◌, ℕ, suc, ◌+◌, ◌-◌, ◌*◌, ◌/◌, ◌%◌, ◌^◌, ◌<◌, ◌≤◌, min, max, true, false, ◌&&◌, nat_eq, nat_le, nat_lt, Option, Some, None, List, [], ◌∷◌, ◌++◌, length, take, map, get_or, refl, ap, sym, ◌∙◌, arith, subst}
+use Rattle.std.specs.List.{filter_map, cons_option, slice_get}
 use Rattle.std.proofs.lemmas.Bool.{ltb-true, ltb-false, leb-true, le-ltb, eqb-true, and_parts}
 use Rattle.std.proofs.lemmas.List.{length-append, length-take-le}
 use Rattle.std.proofs.lemmas.Slice.{drop-append-drop}
-use Rattle.iop_base.specs.Numbers.{number_at, bytes_of}
+use Rattle.iop_base.specs.Numbers.{bytes_of}
 use Rattle.irx_tables.specs.Words.{word_at, places}
 use Rattle.irx_tables.specs.Imports.{is_stub, stub_at}
 use Rattle.irx_tables.specs.declared.import_tables.Import.{Import}
 use Rattle.iop_stubs.specs.Stubs.{Memory, meets}
-use Rattle.iop_stubs.specs.Binding.{jump_word, with_stub, after_bind, MayBind}
+use Rattle.iop_stubs.specs.Binding.{jump_word, after_bind, MayBind}
 use Rattle.iop_stubs.specs.declared.live_stub.Stub.{Stub}
 use Rattle.iop_stubs.proofs.Binding.{length-with_stub, All-with_stub}
 use Rattle.iop_linker.specs.Linking.{target_of, bound_stub, bound_stubs, linked_memory}

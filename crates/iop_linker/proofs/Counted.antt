@@ -1,6 +1,5 @@
 -- How many stubs are bound, and what linking comes to.
-use Rattle.std.proofs.Common.{◌≡◌, ℕ, suc, ◌+◌, ◌*◌, ◌/◌, ◌<◌, ◌≤◌, Bool, true, false, cond, not, is_some, nat_lt, nat_le, IfSome, Option, Some, None, Result, Ok, Err, List, [], ◌∷◌, ◌++◌, length, refl, ap, sym, ◌∙◌, arith}
-use Rattle.std.specs.List.{slice_get}
+use Rattle.std.proofs.Common.{◌≡◌, ℕ, ◌+◌, ◌*◌, ◌/◌, ◌<◌, ◌≤◌, Bool, true, false, cond, not, is_some, nat_lt, nat_le, IfSome, Option, Some, None, Result, Ok, Err, List, ◌∷◌, length, refl, ap, sym, ◌∙◌, arith}
 use Rattle.std.proofs.lemmas.List.{length-append}
 use Rattle.std.proofs.lemmas.Bool.{ltb-true, ltb-false, le-leb, lt-leb}
 use Rattle.std.proofs.lemmas.Option.{slice_get-get_or, slice_get_past}
@@ -10,9 +9,10 @@ use Rattle.irx_tables.specs.Results.{IsImportOf}
 use Rattle.irx_tables.specs.declared.import_tables.Import.{Import}
 use Rattle.iop_registry.specs.Entries.{table_of}
 use Rattle.iop_registry.specs.declared.registry.Entry.{Entry}
+use Rattle.iop_stubs.specs.Stubs.{Memory}
 use Rattle.iop_stubs.specs.declared.live_stub.Stub.{Stub}
-use Rattle.iop_linker.specs.Linking.{bound_stubs, bound_by, library_of, new_stubs, missing, links, links_by}
-use Rattle.iop_linker.specs.Underway.{bound_import, import_stubs, counted, counted_by}
+use Rattle.iop_linker.specs.Linking.{bound_stubs, bound_by, library_of, new_stubs, missing, links, links_by, answer_of, after_linking}
+use Rattle.iop_linker.specs.Underway.{bound_import, counted, counted_by}
 use Rattle.iop_linker.specs.declared.link_fault.LinkFault.{LinkFault}
 use Rattle.iop_linker.specs.declared.link_fault.LinkFault.TheVariants.{Table, NoLibrary, Room}
 use Rattle.iop_linker.proofs.Bound.{later_stubs, later_next}
@@ -132,3 +132,9 @@ module _ (ram : List ℕ) (entries : List Entry) (live from len : ℕ) where
         let got = links_ok without live (length stubs) n stubs e in
         ap (λ bad. links_by bad without live stubs) (sym whole) ∙ got.0
         ∙ ap (λ b. cond b (Ok stubs) (Err Room)) (le-leb (live + length stubs) 65536 (omega (arith, got.1)))
+
+-- what follows where the memory that was read is that of the guest
+pub answered : (now ram : List ℕ) (entries : List Entry) (live from len : ℕ) (memory : Memory) (outcome : Result (List Stub) LinkFault) → now ≡ ram → links now entries live from len ≡ outcome → (answer_of outcome ≡ answer_of (links ram entries live from len)) × (after_linking memory outcome ≡ after_linking memory (links ram entries live from len))
+answered now ram entries live from len memory outcome same e =
+    let is : outcome ≡ links ram entries live from len = sym e ∙ ap (λ m. links m entries live from len) same in
+    (ap answer_of is, ap (after_linking memory) is)

@@ -1,5 +1,5 @@
 -- What stood at a place before stubs of a range were bound.
-use Rattle.std.proofs.Common.{◌≡◌, ℕ, zero, suc, ◌+◌, ◌-◌, ◌*◌, ◌/◌, ◌%◌, ◌<◌, ◌≤◌, ◌^◌, min, max, Bool, true, false, cond, not, ◌&&◌, ◌||◌, nat_eq, nat_le, nat_lt, Option, Some, None, is_some, List, [], ◌∷◌, length, take, map, get_or, refl, ap, sym, ◌∙◌, arith, subst}
+use Rattle.std.proofs.Common.{◌≡◌, ℕ, zero, suc, ◌+◌, ◌-◌, ◌*◌, ◌/◌, ◌%◌, ◌<◌, ◌≤◌, min, Bool, true, false, cond, not, ◌&&◌, ◌||◌, nat_eq, nat_le, nat_lt, Option, Some, None, is_some, List, [], ◌∷◌, length, map, refl, ap, sym, ◌∙◌, arith, subst}
 use Rattle.std.specs.List.{All, find, prefix_len, take_while, slice_get}
 use Rattle.std.proofs.lemmas.Bool.{ltb-true, ltb-false, leb-true, leb-false, eqb-true, eqb-false, ne_eqb, le-leb, lt-ltb}
 use Rattle.std.proofs.lemmas.List.{length-map, get_or-map, get_or-take}
@@ -7,7 +7,7 @@ use Rattle.std.proofs.lemmas.List.Elements.{All-head, All-tail}
 use Rattle.std.proofs.lemmas.List.Folds.{length-prefix_len}
 use Rattle.std.proofs.lemmas.List.Sums.{prefix_len-le-length}
 use Rattle.std.proofs.lemmas.Option.{slice_get-get_or}
-use Rattle.iop_base.specs.Numbers.{number_at, bytes_of, with_bytes}
+use Rattle.iop_base.specs.Numbers.{number_at, bytes_of}
 use Rattle.iop_base.proofs.Memory.{number_at_before, length-with_bytes}
 use Rattle.irx_tables.specs.Words.{word_at, places}
 use Rattle.irx_tables.specs.Exports.{functions}
@@ -16,7 +16,7 @@ use Rattle.iop_stubs.specs.Stubs.{Memory, meets, stands_at}
 use Rattle.iop_stubs.specs.Binding.{jump_word, with_stub, after_bind, IsBound, IsSound}
 use Rattle.iop_stubs.specs.declared.live_stub.Stub.{Stub}
 use Rattle.iop_stubs.proofs.Storing.{number_at_behind}
-use Rattle.iop_linker.specs.Underway.{is_linked, former_word, former_functions}
+use Rattle.iop_linker.specs.Underway.{former_word, former_functions}
 
 -- rows of words that are read in two ways
 module _ (first second : ℕ → ℕ) where
@@ -166,7 +166,7 @@ module _ (from len : ℕ) (memory : Memory) (stub : Stub) (low : from ≤ stub.a
   word_elsewhere p even e =
       let bytes = bytes_of 4 (jump_word stub.target) in
       elim (nat_le (p + 4) stub.at) as (λ b. nat_le (p + 4) stub.at ≡ b → word_at (after_bind memory stub).ram p ≡ word_at memory.ram p) [
-          true ↦ λ le. number_at_before memory.ram stub.at bytes inside p 4 (leb-true _ _ le)
+        | true ↦ λ le. number_at_before memory.ram stub.at bytes inside p 4 (leb-true _ _ le)
         | false ↦ λ gt. number_at_behind memory.ram stub.at bytes inside p 4 (omega (arith, leb-false _ _ gt, eqb-false _ _ e))
       ] refl
 

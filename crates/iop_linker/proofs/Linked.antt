@@ -1,9 +1,8 @@
 -- The tables of a range, linked one after another.
-use Rattle.std.proofs.Common.{◌≡◌, ℕ, ◌+◌, ◌-◌, ◌*◌, ◌/◌, ◌%◌, ◌<◌, ◌≤◌, Bool, true, false, cond, not, is_some, IfSome, Option, Some, None, Result, Ok, Err, List, [], ◌∷◌, ◌++◌, length, refl, ap, sym, ◌∙◌, arith, subst, nat_le}
-use Rattle.std.specs.List.{All, fold, flat_map, find}
+use Rattle.std.proofs.Common.{◌≡◌, ℕ, ◌+◌, ◌-◌, ◌/◌, ◌%◌, ◌≤◌, false, IfSome, Option, Some, None, List, ◌++◌, length, refl, ap, sym, ◌∙◌, arith, subst}
+use Rattle.std.specs.List.{All}
 use Rattle.std.proofs.lemmas.List.{length-append}
 use Rattle.std.proofs.lemmas.List.Sums.{fold-append}
-use Rattle.std.proofs.lemmas.Bool.{le-leb, lt-leb}
 use Rattle.irx_tables.specs.Imports.{ImportTable, Whole, next_table, tables_from, tables_of}
 use Rattle.irx_tables.specs.Exports.{functions}
 use Rattle.irx_tables.specs.Results.{IsImportOf, next_of}
@@ -15,11 +14,11 @@ use Rattle.iop_registry.specs.declared.registry.Entry.{Entry}
 use Rattle.iop_stubs.specs.Stubs.{Memory, meets}
 use Rattle.iop_stubs.specs.Binding.{after_bind}
 use Rattle.iop_stubs.specs.declared.live_stub.Stub.{Stub}
-use Rattle.iop_linker.specs.Linking.{bound_stubs, bound_by, library_of, new_stubs, missing, links, links_by, linked_memory, answer_of, after_linking}
-use Rattle.iop_linker.specs.Underway.{import_stubs, bound_import, counted, counted_by, former_functions, IsRestFree, StaysReadable}
+use Rattle.iop_linker.specs.Linking.{bound_by, library_of, new_stubs, linked_memory}
+use Rattle.iop_linker.specs.Underway.{bound_import, former_functions, IsRestFree, StaysReadable}
 use Rattle.iop_linker.proofs.Ahead.{next_ahead}
 use Rattle.iop_linker.proofs.Former.{former_functions_at_first}
-use Rattle.iop_linker.proofs.Bound.{rest_free_on, readable_then, readable_none}
+use Rattle.iop_linker.proofs.Bound.{readable_then, readable_none}
 use Rattle.iop_linker.proofs.Living.{all_live}
 use Rattle.iop_linker.proofs.Tables.{whole_next, nothing_more, stubs_are}
 

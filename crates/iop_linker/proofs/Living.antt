@@ -1,7 +1,7 @@
 -- The live stubs after others were bound.
-use Rattle.std.proofs.Common.{◌≡◌, ℕ, zero, suc, ◌+◌, ◌<◌, Bool, true, false, cond, List, [], ◌∷◌, length, get_or, nat_lt, refl, arith, subst, inl, inr, ◌⊎◌}
+use Rattle.std.proofs.Common.{◌≡◌, ℕ, zero, suc, ◌<◌, Bool, true, false, cond, List, [], ◌∷◌, length, get_or, nat_lt, refl, arith, subst, inl, inr, ◌⊎◌}
 use Rattle.std.specs.List.{All, Contains}
-use Rattle.std.proofs.lemmas.List.Elements.{All-cons, All-head, All-tail, All-weaker}
+use Rattle.std.proofs.lemmas.List.Elements.{All-cons, All-weaker}
 use Rattle.iop_stubs.specs.Stubs.{Memory}
 use Rattle.iop_stubs.specs.Binding.{with_stub, after_bind}
 use Rattle.iop_stubs.specs.declared.live_stub.Stub.{Stub}

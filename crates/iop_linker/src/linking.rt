@@ -29,10 +29,11 @@ pub fn link(guest: &mut Guest, reg: &Registry, from: u32, len: u32) -> Result<()
     ensures memory { guest.new ≡ after_linking guest.old (links guest.old.ram reg.now (length guest.old.live) from len) }
     ensures sound { IsSound guest.new }
 {
-    if let Some(at) = bad_table(guest.ram(), from, len) {
+    let ram = guest.ram();
+    if let Some(at) = bad_table(ram, from, len) {
         return Err(LinkFault::Table { at });
     }
-    let count = count_new(guest.ram(), reg, from, len)?;
+    let count = count_new(ram, reg, from, len)?;
     if guest.room() < count {
         return Err(LinkFault::Room);
     }

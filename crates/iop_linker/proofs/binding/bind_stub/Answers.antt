@@ -1,4 +1,4 @@
-use Rattle.std.proofs.Common.{ℕ, ◌+◌, ◌%◌, length, arith, ap, sym, ◌∙◌, subst}
+use Rattle.std.proofs.Common.{◌+◌, ◌%◌, length, arith, ap, sym, ◌∙◌, subst}
 use Rattle.iop_stubs.specs.Stubs.{Memory}
 use Rattle.iop_linker.specs.Linking.{linked_memory}
 use Rattle.iop_linker.specs.Underway.{former_functions, IsRestFree, StaysReadable}

@@ -1,8 +1,8 @@
-use Rattle.std.proofs.Common.{◌≡◌, ℕ, ◌+◌, ◌*◌, ◌/◌, ◌%◌, ◌≤◌, true, Option, Some, IfSome, List, [], ◌∷◌, length, arith, ap, sym, ◌∙◌, subst}
-use Rattle.irx_tables.specs.Imports.{is_stub, stub_at}
+use Rattle.std.proofs.Common.{◌≡◌, ℕ, ◌+◌, ◌*◌, ◌/◌, ◌%◌, ◌≤◌, Option, Some, IfSome, [], ◌∷◌, length, arith, ap, sym, ◌∙◌, subst}
+use Rattle.irx_tables.specs.Imports.{stub_at}
 use Rattle.iop_registry.specs.Entries.{IsTable}
 use Rattle.iop_linker.specs.Linking.{bound_stubs, linked_memory}
-use Rattle.iop_linker.specs.Underway.{former_functions, StaysReadable}
+use Rattle.iop_linker.specs.Underway.{former_functions}
 use Rattle.iop_linker.proofs.Ahead.{stub_ahead}
 use Rattle.iop_linker.proofs.Bound.{room_here, binding_next, readable_then, readable_none}
 use Rattle.iop_linker.proofs.Tables.{stands}

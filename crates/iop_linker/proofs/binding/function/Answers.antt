@@ -1,4 +1,4 @@
-use Rattle.std.proofs.Common.{ℕ, Some, None, ◌+◌, ◌*◌, arith, sym, ap, ◌∙◌}
+use Rattle.std.proofs.Common.{ℕ, Some, ◌+◌, ◌*◌, arith, sym, ap, ◌∙◌}
 use Rattle.std.proofs.lemmas.Option.{slice_get_past}
 use Rattle.iop_linker.specs.Underway.{former_word, former_functions}
 use Rattle.iop_linker.proofs.Former.{former_function}

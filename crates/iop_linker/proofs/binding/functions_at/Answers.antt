@@ -1,4 +1,4 @@
-use Rattle.std.proofs.Common.{◌≡◌, List, ℕ, length, subst}
+use Rattle.std.proofs.Common.{length}
 use Rattle.irx_tables.specs.Exports.{functions}
 use Rattle.iop_linker.proofs.Former.{count_stays}
 use Rattle.std.proofs.Common.{◌∙◌, ap}

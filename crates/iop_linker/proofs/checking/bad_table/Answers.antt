@@ -1,5 +1,5 @@
-use Rattle.std.proofs.Common.{◌≡◌, ◌+◌, ◌∙◌, ap, sym, refl, arith}
-use Rattle.irx_tables.specs.Imports.{ImportTables, next_table, tables_from}
+use Rattle.std.proofs.Common.{◌+◌, ◌∙◌, ap, sym, refl, arith}
+use Rattle.irx_tables.specs.Imports.{next_table, tables_from}
 use Rattle.irx_tables.specs.declared.import_tables.Import.{Import}
 use Rattle.iop_linker.proofs.Tables.{bad_next, none_next, broken_next}
 use Rattle.iop_linker.proofs.checking.bad_table.Goals as goal
