@@ -3,7 +3,7 @@
 //! Memory is read while it changes. What counts is what stood there before: behind the stub bound last
 //! the text is as it was, and the first word of a stub that was bound was `jr $ra`.
 
-ghost use Rattle.std.specs.Prelude.{◌≡◌, ℕ, ◌+◌, ◌*◌, ◌/◌, ◌%◌, ◌^◌, ◌<◌, ◌≤◌, true, false, [], ◌∷◌, All, IfSome, length};
+ghost use Rattle.std.specs.Prelude.{◌≡◌, ◌+◌, ◌*◌, ◌/◌, ◌%◌, ◌^◌, ◌<◌, ◌≤◌, true, false, [], ◌∷◌, All, IfSome, length};
 ghost use Rattle.std.specs.List.{slice_get};
 ghost use Rattle.irx_tables.specs.Words.{word_at};
 ghost use Rattle.irx_tables.specs.Imports.{ImportTable, is_stub, stub_at, tables_of};
@@ -12,7 +12,7 @@ ghost use Rattle.iop_registry.specs.Entries.{IsTable};
 ghost use Rattle.iop_stubs.specs.Stubs.{meets};
 ghost use Rattle.iop_stubs.specs.Binding.{IsSound};
 ghost use Rattle.iop_linker.specs.Linking.{target_of, bound_stubs, new_stubs, linked_memory};
-ghost use Rattle.iop_linker.specs.Underway.{import_stubs, bound_import, former_word, former_functions, IsRestFree, StaysReadable};
+ghost use Rattle.iop_linker.specs.Underway.{bound_import, former_word, former_functions, IsRestFree, StaysReadable};
 
 use crate::library::{HEADER, library, major};
 use iop_registry::Registry;

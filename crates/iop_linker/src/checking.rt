@@ -6,7 +6,7 @@ ghost use Rattle.irx_tables.specs.Results.{IsImportOf};
 ghost use Rattle.irx_tables.specs.Exports.{functions};
 ghost use Rattle.iop_registry.specs.Entries.{table_of};
 ghost use Rattle.iop_linker.specs.Linking.{missing, new_stubs};
-ghost use Rattle.iop_linker.specs.Underway.{import_stubs, bound_import, counted, counted_by};
+ghost use Rattle.iop_linker.specs.Underway.{bound_import, counted, counted_by};
 
 use crate::library::{library, major};
 use crate::link_fault::LinkFault;

@@ -1,6 +1,6 @@
 //! Texts and libraries put together by hand in memory.
 
-ghost use Rattle.std.specs.Prelude.{◌≡◌, ◌+◌, ◌*◌, ◌%◌, ◌≤◌, length};
+ghost use Rattle.std.specs.Prelude.{◌+◌, ◌*◌, ◌≤◌, length};
 
 use crate::{LinkFault, link};
 use iop_base::{Code, Line, Lines, Width};
