@@ -34,7 +34,7 @@ module _ (stub : Stub) where
   length_by true first rest e = refl
   length_by false first rest e = ap suc e
 
-  length-with_stub : (stubs : List Stub) → length (with_stub stub stubs) ≡ suc (length stubs)
+  pub length-with_stub : (stubs : List Stub) → length (with_stub stub stubs) ≡ suc (length stubs)
   length-with_stub [] = refl
   length-with_stub (first ∷ rest) = length_by (nat_lt stub.at first.at) first rest (length-with_stub rest)
 

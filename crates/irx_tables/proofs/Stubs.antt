@@ -64,7 +64,7 @@ module _ (memory : List ℕ) (stop p : ℕ) where
         sym (not_ended_after k (stubs_are k (omega arith) passes (λ lt. absurd (omega arith))) (and_left _ _ outside))
 
 module _ (memory : List ℕ) (stop p i : ℕ) (lt : i < length (stubs_from memory stop p)) where
-  passes_at : is_stub memory (p + 8 * i) ≡ true
+  pub passes_at : is_stub memory (p + 8 * i) ≡ true
   passes_at =
       let below : i < prefix_len (is_stub memory) (places 8 p (pairs memory stop p)) = omega (arith, length-stubs memory stop p) in
       let inside : i < pairs memory stop p = omega (arith, prefix_len-le-length (is_stub memory) (places 8 p (pairs memory stop p)), length-places 8 p (pairs memory stop p)) in

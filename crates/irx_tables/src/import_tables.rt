@@ -65,6 +65,7 @@ pub fn imports(ram: &Ram, from: u32, len: u32, scan: u32) -> Next
     ensures next { result ≡ next_of (next_table ram.now (from + len) scan) }
     ensures table { IfTable result (λ import. (table : ImportTable) × (next_table ram.now (from + len) scan ≡ Whole table) × IsImportOf ram.now import table) }
     ensures goes_on { IfTable result (λ import. (scan < import.end) × (import.end ≤ from + len) × (import.end % 4 ≡ 0)) }
+    ensures extent { IfTable result (λ import. (scan ≤ import.at) × (import.at % 4 ≡ 0) × (import.end ≡ import.at + 20 + 8 * import.stubs + 8)) }
 {
     let stop = from + len;
     let Some(at) = find_start(ram, stop, scan) else {
@@ -119,6 +120,7 @@ fn read_import(ram: &Ram, stop: u32, at: u32) -> Option<Import>
     requires inside { stop ≤ 0x200000 }
     ensures table { result ≡ option_map import_of (table_at ram.now stop at) }
     ensures end { IfSome result (λ import. (at < import.end) × (import.end ≤ stop) × (import.end % 4 ≡ 0)) }
+    ensures extent { IfSome result (λ import. (import.at ≡ at) × (import.end ≡ at + 20 + 8 * import.stubs + 8)) }
 {
     let first = at + HEADER;
     let stubs = count_stubs(ram, stop, first)?;

@@ -1,0 +1,9 @@
+//! Facts about the definitions that no call computes. Each is the contract of a function that does
+//! nothing.
+
+ghost use Rattle.iop_linker.specs.Laws.{LinkedStubsAreLive};
+
+/// After linking each new stub is live, and so is each one that was live before. There is no other.
+pub fn linked_stubs_are_live()
+    ensures { LinkedStubsAreLive }
+{}
