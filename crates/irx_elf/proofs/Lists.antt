@@ -7,8 +7,8 @@ use Rattle.std.proofs.lemmas.List.{length-take, length-drop, length-map}
 use Rattle.std.proofs.lemmas.List.Elements.{All-map}
 use Rattle.iop_base.specs.declared.outcomes.Illegal.{Illegal}
 use Rattle.irx_elf.specs.Headers.{file_header, segments, is_of_kind, relocation_sections}
-use Rattle.irx_elf.specs.Rules.{first_unmet, segment_rules, section_rules, has_sections, has_sizes, has_entries, entries_rule, part_at, information_at, image_length, info_segment, image_segment, module_information}
-use Rattle.irx_elf.specs.Parts.{Parts, parts_of, bytes_at, is_applied, list_of, lists_of, HasLists, IsSound}
+use Rattle.irx_elf.specs.Rules.{first_unmet, segment_rules, section_rules, has_sections, has_sizes, has_entries, entries_rule, bytes_at, part_at, information_at, image_length, info_segment, image_segment, module_information}
+use Rattle.irx_elf.specs.Parts.{Parts, parts_of, is_applied, list_of, lists_of, HasLists, IsSound}
 use Rattle.irx_elf.specs.declared.file_header.FileHeader.{FileHeader}
 use Rattle.irx_elf.specs.declared.segment.Segment.{Segment}
 use Rattle.irx_elf.specs.declared.section.Section.{Section}

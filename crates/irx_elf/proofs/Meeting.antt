@@ -49,12 +49,7 @@ module _ (file : List ℕ) where
   unmet-section header segment =
       first_unmet-append_met (section_rules file) (header_rules file ++ segment_rules file) (first_unmet-append_met (segment_rules file) (header_rules file) header ∙ segment)
 
-  -- where the section headers are
-  pub sections-out : has_sections file (file_header file) ≡ false → first_unmet (section_rules file) ≡ Some (record { rule = 11; at = 46 })
-  unfolding section_rules
-  sections-out h =
-      ap (λ b. cond b (first_unmet (map (entries_rule file) (relocation_sections file))) (Some (record { rule = 11; at = 46 }))) h
-
+  -- where the section headers are good
   pub sections-in : has_sections file (file_header file) ≡ true → first_unmet (section_rules file) ≡ first_unmet (map (entries_rule file) (relocation_sections file))
   unfolding section_rules
   sections-in h =

@@ -24,10 +24,14 @@ first_unmet [] = None
 first_unmet (rule ∷ rules) =
     if rule.is_met then first_unmet rules else Some (record { rule = rule.number; at = rule.at })
 
--- the bytes of a range, where it lies in the file
+-- the bytes of a range
+abbrev pub bytes_at : List ℕ → ℕ → ℕ → List ℕ
+bytes_at file offset size = take size (drop offset file)
+
+-- the bytes of a range that lies in the file
 abbrev pub part_at : List ℕ → ℕ → ℕ → Option (List ℕ)
 part_at file offset size =
-    if nat_le (offset + size) (length file) then Some (take size (drop offset file)) else None
+    if nat_le (offset + size) (length file) then Some (bytes_at file offset size) else None
 
 -- the program headers have 32 bytes and lie in the file
 abbrev pub has_segments : List ℕ → FileHeader → Bool

@@ -8,20 +8,20 @@ use iop_base::Illegal;
 /// The bytes of a file header.
 const SIZE: usize = 52;
 
-/// How the file of a little-endian ELF file of 32 bits begins.
+/// How a little-endian ELF file of 32 bits begins.
 const MAGIC: [u8; 6] = [0x7f, b'E', b'L', b'F', 1, 1];
 
-/// The type of an IRX file (ps2sdk).
+/// The type of an IRX file (ps2sdk), in `e_type`.
 const IRX: u16 = 0xff80;
 
-/// The number of MIPS.
+/// The number of MIPS, in `e_machine`.
 const MIPS: u16 = 8;
 
 /// The bytes of a program header.
-const SEGMENT_SIZE: u16 = 32;
+pub const SEGMENT_SIZE: u32 = 32;
 
 /// The bytes of a section header.
-const SECTION_SIZE: u16 = 40;
+pub const SECTION_SIZE: u32 = 40;
 
 /// The fields of the file header that the rules name (ELF TIS 1.2).
 #[derive(Clone, Copy)]
@@ -45,7 +45,7 @@ pub struct FileHeader {
 }
 
 impl FileHeader {
-    /// Reads the header of a file.
+    /// Reads the file header.
     pub fn read(file: &[u8]) -> Self
         requires { 52 ≤ length file.now }
         ensures { result ≡ file_header file.now }
@@ -62,7 +62,7 @@ impl FileHeader {
         }
     }
 
-    /// Reads the header of a file that has an IRX header, and its program headers.
+    /// Reads the file header of a file that meets rules 1 to 5.
     #[tactic(auto, unfolding(crate::specs::Rules::header_rules))]
     pub fn parse(file: &[u8]) -> Result<Self, Illegal>
         ensures met { OnOk result (first_unmet (header_rules file.now) ≡ None) }
@@ -85,7 +85,7 @@ impl FileHeader {
         ensures { result ≡ has_segments file.now self.now }
     {
         let size = u64::from(SEGMENT_SIZE) * u64::from(self.segment_count);
-        self.segment_size == SEGMENT_SIZE
+        u32::from(self.segment_size) == SEGMENT_SIZE
             && u64::from(self.segments) + size <= file.len() as u64
     }
 
@@ -95,7 +95,7 @@ impl FileHeader {
     {
         let size = u64::from(SECTION_SIZE) * u64::from(self.section_count);
         self.section_count == 0
-            || self.section_size == SECTION_SIZE
+            || u32::from(self.section_size) == SECTION_SIZE
                 && u64::from(self.sections) + size <= file.len() as u64
     }
 }

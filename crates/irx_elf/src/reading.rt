@@ -38,5 +38,9 @@ pub fn part_at(file: &[u8], offset: u32, size: u32) -> Option<&[u8]>
 pub fn demand(met: bool, rule: u8, at: u32) -> Result<(), Illegal>
     ensures { result ≡ (if met then Ok tt else Err (record { rule = rule; at = at })) }
 {
-    if met { Ok(()) } else { Err(Illegal { rule, at }) }
+    if met {
+        Ok(())
+    } else {
+        Err(Illegal { rule, at })
+    }
 }

@@ -8,8 +8,8 @@ use crate::file_header::FileHeader;
 use crate::section::Section;
 use std::marker::Model;
 
-/// The relocation entries of an IRX file: a list for each section header of type 9, in order, lent from
-/// the file's bytes. An entry has 8 bytes: the word of its site, and a word of its type.
+/// The relocation entries of an IRX file, lent from its bytes: a list for each section header of type 9
+/// (`SHT_REL`), in order. An entry has 8 bytes, the words `r_offset` and `r_info` (ELF TIS 1.2).
 #[derive(Drop)]
 pub struct Rels<'a> {
     file: &'a [u8],
@@ -37,8 +37,8 @@ impl<'a> Rels<'a> {
         Rels { file }
     }
 
-    /// The same lists.
-    pub(crate) fn lent(&self) -> Rels<'a>
+    /// The same lists, lent once more.
+    pub(crate) fn again(&self) -> Rels<'a>
         ensures { result ≡ self.now }
     {
         Rels { file: self.file }
@@ -58,8 +58,8 @@ impl<'a> Rels<'a> {
         count
     }
 
-    /// The entries of list `k`, 8 bytes each. It is empty where they are not applied, as those of a
-    /// section without the flag `SHF_ALLOC` that `sh_info` names, and past the lists.
+    /// The entries of list `k`, 8 bytes each. None are given past the lists, and where they are not
+    /// applied: where `sh_info` is not 0 and names a section without the flag `SHF_ALLOC`.
     pub fn list(&self, k: u32) -> &'a [u8]
         ensures entries { result.now ≡ slice_index_or self.now k [] }
         ensures whole { length result.now % 8 ≡ 0 }
@@ -72,7 +72,7 @@ impl<'a> Rels<'a> {
     }
 }
 
-/// Section `k` of relocation entries.
+/// The header of section `k` of relocation entries, counted among those alone.
 fn find(file: &[u8], header: &FileHeader, k: u32) -> Option<Section>
     requires short { length file.now < 2 ^ 32 }
     requires header { header.now ≡ file_header file.now }

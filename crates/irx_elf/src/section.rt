@@ -3,7 +3,7 @@ ghost use Rattle.irx_elf.specs.Headers.{file_header, section_at, section_number,
 ghost use Rattle.irx_elf.specs.Rules.{has_entries, has_sections};
 ghost use Rattle.irx_elf.specs.Parts.{takes_memory, is_applied, list_of};
 
-use crate::file_header::FileHeader;
+use crate::file_header::{FileHeader, SECTION_SIZE};
 use crate::reading::{part_at, word_at};
 
 /// The type of a section of relocation entries without addends, `SHT_REL`.
@@ -57,7 +57,7 @@ impl Section {
         requires below { number < header.now.section_count }
         ensures { result ≡ section_number file.now number }
     {
-        Section::read(file, header.sections + 40 * number)
+        Section::read(file, header.sections + SECTION_SIZE * number)
     }
 
     /// Whether it holds relocation entries.
@@ -78,7 +78,7 @@ impl Section {
         self.target == 0 || Section::numbered(file, header, self.target).takes_memory()
     }
 
-    /// Its relocation entries, none where they are not applied.
+    /// The bytes of its relocation entries, none where they are not applied.
     pub fn list<'a>(&self, file: &'a [u8], header: &FileHeader) -> &'a [u8]
         requires short { length file.now < 2 ^ 32 }
         requires header { header.now ≡ file_header file.now }

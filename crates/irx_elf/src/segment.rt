@@ -3,7 +3,7 @@ ghost use Rattle.irx_info.specs.Information.{fields_of};
 ghost use Rattle.irx_elf.specs.Headers.{file_header, segment_at, segment_number, segments, is_of_kind};
 ghost use Rattle.irx_elf.specs.Rules.{has_segments, image_length, has_sizes};
 
-use crate::file_header::FileHeader;
+use crate::file_header::{FileHeader, SEGMENT_SIZE};
 use crate::reading::word_at;
 use irx_info::Info;
 
@@ -46,7 +46,7 @@ impl Segment {
         requires below { number < header.now.segment_count }
         ensures { result ≡ segment_number file.now number }
     {
-        Segment::read(file, header.segments + 32 * number)
+        Segment::read(file, header.segments + SEGMENT_SIZE * number)
     }
 
     /// The first program header of a type.

@@ -19,12 +19,12 @@ returns-in_err-demand-2-clause-unmet c =
     let i = c.loop-number.number in
     let s = c.numbered-section.result in
     let headers : has_sections file (file_header file) ≡ true =
-        sym (ap (has_sections file) c.requires.header) ∙ sym c.has_sections.ensures ∙ demand-ok c.has_sections.result (record { rule = 11; at = 46 }) (sym c.in_ok-demand.was ∙ c.demand.ensures) in
+    sym (ap (has_sections file) c.requires.header) ∙ sym c.has_sections.ensures ∙ demand-ok c.has_sections.result (record { rule = 11; at = 46 }) (sym c.in_ok-demand.was ∙ c.demand.ensures) in
     let same = sym (ap is_relocations c.numbered-section.ensures) ∙ sym c.is_relocations.ensures ∙ c.if-is_relocations.true in
     let bad : has_entries file (section_number file i) ≡ false =
-        sym (ap (has_entries file) c.numbered-section.ensures) ∙ sym c.has_entries.ensures ∙ (demand-err c.has_entries.result (record { rule = 12; at = s.at }) c.in_err-demand-2.field-0.0 (sym c.in_err-demand-2.was ∙ c.demand-then-is_relocations.ensures)).0 in
+    sym (ap (has_entries file) c.numbered-section.ensures) ∙ sym c.has_entries.ensures ∙ (demand-err c.has_entries.result (record { rule = 12; at = s.at }) c.in_err-demand-2.field-0.0 (sym c.in_err-demand-2.was ∙ c.demand-then-is_relocations.ensures)).0 in
     let unmet : first_unmet (section_rules file) ≡ Some (record { rule = 12; at = (section_number file i).at }) =
-        sections-in file headers ∙ sym c.loop-number.invariant ∙ entries-bad file i c.from-number-end.result c.loop-number-test.true same bad in
+    sections-in file headers ∙ sym c.loop-number.invariant ∙ entries-bad file i c.from-number-end.result c.loop-number-test.true same bad in
     rw unmet (search rules)
 
 pub loop-number-preserved : goal.loop-number-preserved
@@ -33,20 +33,20 @@ loop-number-preserved c =
     let i = c.loop-number.number in
     let n = c.from-number-end.result in
     elim c.if-is_relocations.branch [
-      then-is_relocations+in_ok-demand-2 w ↦
-        let s = c.numbered-section.result in
-        let same = sym (ap is_relocations c.numbered-section.ensures) ∙ sym c.is_relocations.ensures ∙ w.if-is_relocations.true in
-        let good : has_entries file (section_number file i) ≡ true =
-            sym (ap (has_entries file) c.numbered-section.ensures) ∙ sym w.has_entries.ensures ∙ demand-ok w.has_entries.result (record { rule = 12; at = s.at }) (sym w.in_ok-demand-2.was ∙ w.demand-then-is_relocations.ensures) in
-        sym (entries-good file i n c.loop-number-test.true same good) ∙ c.loop-number.invariant
-    | else-is_relocations w ↦
-        let other = sym (ap is_relocations c.numbered-section.ensures) ∙ sym c.is_relocations.ensures ∙ w.if-is_relocations.false in
-        sym (entries-other file i n c.loop-number-test.true other) ∙ c.loop-number.invariant
+      | then-is_relocations+in_ok-demand-2 w ↦
+          let s = c.numbered-section.result in
+          let same = sym (ap is_relocations c.numbered-section.ensures) ∙ sym c.is_relocations.ensures ∙ w.if-is_relocations.true in
+          let good : has_entries file (section_number file i) ≡ true =
+          sym (ap (has_entries file) c.numbered-section.ensures) ∙ sym w.has_entries.ensures ∙ demand-ok w.has_entries.result (record { rule = 12; at = s.at }) (sym w.in_ok-demand-2.was ∙ w.demand-then-is_relocations.ensures) in
+          sym (entries-good file i n c.loop-number-test.true same good) ∙ c.loop-number.invariant
+      | else-is_relocations w ↦
+          let other = sym (ap is_relocations c.numbered-section.ensures) ∙ sym c.is_relocations.ensures ∙ w.if-is_relocations.false in
+          sym (entries-other file i n c.loop-number-test.true other) ∙ c.loop-number.invariant
     ]
 
 pub returns-clause-met : goal.returns-clause-met
 returns-clause-met c =
     let file = c.args.file.now in
     let headers : has_sections file (file_header file) ≡ true =
-        sym (ap (has_sections file) c.requires.header) ∙ sym c.has_sections.ensures ∙ demand-ok c.has_sections.result (record { rule = 11; at = 46 }) (sym c.in_ok-demand.was ∙ c.demand.ensures) in
+    sym (ap (has_sections file) c.requires.header) ∙ sym c.has_sections.ensures ∙ demand-ok c.has_sections.result (record { rule = 11; at = 46 }) (sym c.in_ok-demand.was ∙ c.demand.ensures) in
     sections-in file headers ∙ sym c.loop-number.invariant ∙ entries-end file c.loop-number.number c.from-number-end.result c.loop-number-test.false

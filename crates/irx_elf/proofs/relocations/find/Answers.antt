@@ -29,17 +29,17 @@ loop-number-preserved c =
     let n = c.from-number-end.result in
     let rest = filter is_relocations (row f (i + 1) n) in
     elim c.if-is_relocations.branch [
-      then-is_relocations+else-left-eq0 w ↦
-        let same = sym (ap is_relocations c.numbered-section.ensures) ∙ sym c.is_relocations.ensures ∙ w.if-is_relocations.true in
-        ap (slice_get rest) w.left-is
-        ∙ sym (slice_get-behind (f i) rest c.loop-number.left w.if-left-eq0.false)
-        ∙ sym (ap (λ (xs : List Section). slice_get xs c.loop-number.left) (filter-here is_relocations f i n c.loop-number-test.true same))
-        ∙ c.loop-number.invariant
-    | else-is_relocations w ↦
-        let other = sym (ap is_relocations c.numbered-section.ensures) ∙ sym c.is_relocations.ensures ∙ w.if-is_relocations.false in
-        ap (slice_get rest) w.left-is
-        ∙ sym (ap (λ (xs : List Section). slice_get xs c.loop-number.left) (filter-later is_relocations f i n c.loop-number-test.true other))
-        ∙ c.loop-number.invariant
+      | then-is_relocations+else-left-eq0 w ↦
+          let same = sym (ap is_relocations c.numbered-section.ensures) ∙ sym c.is_relocations.ensures ∙ w.if-is_relocations.true in
+          ap (slice_get rest) w.left-is
+          ∙ sym (slice_get-behind (f i) rest c.loop-number.left w.if-left-eq0.false)
+          ∙ sym (ap (λ (xs : List Section). slice_get xs c.loop-number.left) (filter-here is_relocations f i n c.loop-number-test.true same))
+          ∙ c.loop-number.invariant
+      | else-is_relocations w ↦
+          let other = sym (ap is_relocations c.numbered-section.ensures) ∙ sym c.is_relocations.ensures ∙ w.if-is_relocations.false in
+          ap (slice_get rest) w.left-is
+          ∙ sym (ap (λ (xs : List Section). slice_get xs c.loop-number.left) (filter-later is_relocations f i n c.loop-number-test.true other))
+          ∙ c.loop-number.invariant
     ]
 
 pub returns : goal.returns

@@ -15,7 +15,7 @@ pub overflow_cast-result : goal.overflow_cast-result
 overflow_cast-result c =
     let file = c.args.file.now in
     let size : c.image_length.result ≡ image_length (module_information file) (image_segment file) =
-        c.image_length.ensures ∙ ap (λ (info : Information). image_length info c.args.image.now) c.requires.info ∙ ap (image_length (module_information file)) c.requires.image in
+    c.image_length.ensures ∙ ap (λ (info : Information). image_length info c.args.image.now) c.requires.info ∙ ap (image_length (module_information file)) c.requires.image in
     omega (arith, size, length-short file c.requires.segments)
 
 pub invariant_of-result : goal.invariant_of-result

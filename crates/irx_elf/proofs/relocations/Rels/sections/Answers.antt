@@ -23,14 +23,14 @@ loop-number-preserved c =
     let i = c.loop-number.number in
     let n = c.from-number-end.result in
     elim c.if-is_relocations.branch [
-      then-is_relocations w ↦
-        let same = sym (ap is_relocations c.numbered.ensures) ∙ sym c.is_relocations.ensures ∙ w.if-is_relocations.true in
-        let one = ap (λ (xs : List Section). length xs) (filter-here is_relocations f i n c.loop-number-test.true same) in
-        record { count = omega (arith, one); few = omega arith }
-    | else-is_relocations w ↦
-        let other = sym (ap is_relocations c.numbered.ensures) ∙ sym c.is_relocations.ensures ∙ w.if-is_relocations.false in
-        let none = ap (λ (xs : List Section). length xs) (filter-later is_relocations f i n c.loop-number-test.true other) in
-        record { count = omega (arith, none); few = omega arith }
+      | then-is_relocations w ↦
+          let same = sym (ap is_relocations c.numbered.ensures) ∙ sym c.is_relocations.ensures ∙ w.if-is_relocations.true in
+          let one = ap (λ (xs : List Section). length xs) (filter-here is_relocations f i n c.loop-number-test.true same) in
+          record { count = omega (arith, one); few = omega arith }
+      | else-is_relocations w ↦
+          let other = sym (ap is_relocations c.numbered.ensures) ∙ sym c.is_relocations.ensures ∙ w.if-is_relocations.false in
+          let none = ap (λ (xs : List Section). length xs) (filter-later is_relocations f i n c.loop-number-test.true other) in
+          record { count = omega (arith, none); few = omega arith }
     ]
 
 pub returns : goal.returns
