@@ -1,0 +1,4 @@
+pub mod Headers
+pub mod Rules
+pub mod Parts
+pub mod Lent
