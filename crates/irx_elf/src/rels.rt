@@ -38,7 +38,7 @@ impl<'a> Rels<'a> {
 
     /// The list of a section, empty past them.
     pub fn list(&self, k: u32) -> &'a [u8]
-        ensures list { result.now ≡ slice_index_or self.now k [] }
+        ensures entries { result.now ≡ slice_index_or self.now k [] }
         ensures whole { length result.now % 8 ≡ 0 }
     {
         if (k as usize) < self.lists.len() {

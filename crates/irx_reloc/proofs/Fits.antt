@@ -9,7 +9,7 @@ use Rattle.irx_reloc.specs.declared.entry.Entry.{Entry}
 use Rattle.irx_reloc.specs.declared.kind.Kind.{Kind}
 use Rattle.irx_reloc.specs.Entries.{entries_of, all_entries, is_low}
 use Rattle.irx_reloc.specs.Fitting.{is_site, is_type, broken_rule, section_misfit, misfit}
-use Rattle.irx_reloc.specs.Walking.{type_of, pair_of, Fits, is_low_at, IsNextLow}
+use Rattle.irx_reloc.specs.Walking.{type_of, pair_of, EntryFits, is_low_at, IsNextLow}
 use Rattle.irx_reloc.proofs.Halves.{has_next}
 
 -- what an entry and those behind it say
@@ -67,7 +67,7 @@ module _ (size : ℕ) where
   site_inside entry has_low e other = site_or entry.0 (is_site size entry.0) _ refl (rw other at e)
 
   -- that of one whose kind is known
-  pub kind_inside : (entry : Entry) (kind : Kind) → Fits size entry → entry.kind ≡ kind → nat_eq (type_of kind) 0 ≡ false → entry.site + 4 ≤ size
+  pub kind_inside : (entry : Entry) (kind : Kind) → EntryFits size entry → entry.kind ≡ kind → nat_eq (type_of kind) 0 ≡ false → entry.site + 4 ≤ size
   kind_inside entry kind fits e other = site_inside (pair_of entry) fits.0 fits.1 (ap (λ (k : Kind). nat_eq (type_of k) 0) e ∙ other)
 
   -- that of a LO16 in a section that fits
@@ -78,7 +78,7 @@ module _ (size : ℕ) where
       site_inside (get_or entries low (0, 0)) fits.0 fits.1 (ap (λ (n : ℕ). nat_eq n 0) number)
 
   -- an entry of a section that fits, for an image that has the length still
-  pub entry_at_fits : (entries : List (ℕ × ℕ)) (now k : ℕ) (entry : Entry) → section_misfit size entries ≡ None → now ≡ size → k < length entries → pair_of entry ≡ get_or entries k (0, 0) → Fits now entry
+  pub entry_at_fits : (entries : List (ℕ × ℕ)) (now k : ℕ) (entry : Entry) → section_misfit size entries ≡ None → now ≡ size → k < length entries → pair_of entry ≡ get_or entries k (0, 0) → EntryFits now entry
   entry_at_fits entries now k entry e same lt read =
       let fits = entry_fits entries e k lt in (
         fits.0,

@@ -30,9 +30,9 @@ high_half address = word_of (address +ℤ pos 0x8000) / 65536
 unfoldable pub moved_word : (number word low base : ℕ) → Option ℕ
 moved_word number word low base =
     if number == mips_32 then Some (wrapped (word + base))
-    else if number == mips_26 then Some (with_low_bits 26 word (word + base / 4))
+    else if number == mips_26 then Some (with_low_bits 26 word (word % 2 ^ 26 + base / 4))
     else if number == mips_hi16 then Some (with_low_bits 16 word (high_half (moved_address (word % 2 ^ 16) low base)))
-    else if number == mips_lo16 then Some (with_low_bits 16 word (word + base))
+    else if number == mips_lo16 then Some (with_low_bits 16 word (word % 2 ^ 16 + base))
     else None
 
 -- the low half of the word at the site of an entry, if there is one

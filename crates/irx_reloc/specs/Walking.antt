@@ -29,8 +29,8 @@ abbrev pub pair_of : Entry → ℕ × ℕ
 pair_of entry = (entry.site, type_of entry.kind)
 
 -- no rule is broken by an entry, wherever it stands
-abbrev pub Fits : ℕ → Entry → Type 0
-Fits size entry = (has_low : Bool) × (broken_rule size (pair_of entry) has_low ≡ None)
+abbrev pub EntryFits : ℕ → Entry → Type 0
+EntryFits size entry = (has_low : Bool) × (broken_rule size (pair_of entry) has_low ≡ None)
 
 abbrev pub is_low_at : List (ℕ × ℕ) → ℕ → Bool
 is_low_at entries k = is_low (slice_index_or entries k (0, 0))

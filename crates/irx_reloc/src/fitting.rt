@@ -1,8 +1,7 @@
-ghost use Rattle.std.specs.Prelude.{◌≡◌, ◌+◌, ◌%◌, Some, None, IfOk, MatchResult, length};
+ghost use Rattle.std.specs.Prelude.{◌≡◌, Some, None, IfOk, MatchResult};
 ghost use Rattle.irx_reloc.specs.Entries.{entries_of, all_entries};
-ghost use Rattle.irx_reloc.specs.Fitting.{is_site, broken_rule, section_misfit, misfit};
+ghost use Rattle.irx_reloc.specs.Fitting.{is_site, is_type, broken_rule, section_misfit, misfit};
 ghost use Rattle.irx_reloc.specs.Walking.{pair_of, is_named};
-ghost use Rattle.irx_reloc.specs.Fitting.{is_type};
 
 use crate::entry::Entry;
 use crate::kind::Kind;
@@ -40,6 +39,13 @@ impl<'a> Model for Checked<'a> {
 }
 
 impl<'a> Checked<'a> {
+    /// How many bytes an image that they fit has.
+    pub fn image_length(&self) -> u32
+        ensures { result ≡ self.now.image_length }
+    {
+        self.image_len
+    }
+
     /// The sections of entries.
     pub(crate) fn rels(&self) -> &Rels<'a>
         ensures sections { all_entries result.now ≡ self.now.sections }

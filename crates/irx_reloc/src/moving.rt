@@ -40,7 +40,7 @@ pub(crate) fn word_moved(word: u32, base: u32) -> u32
 
 /// A jump whose target is moved by the base.
 pub(crate) fn jump_moved(word: u32, base: u32) -> u32
-    ensures { result ≡ with_low_bits 26 word (word + base / 4) }
+    ensures { result ≡ with_low_bits 26 word (word % 2 ^ 26 + base / 4) }
 {
     with_low_bits(TARGET_BITS, word, word.wrapping_add(base / 4))
 }
@@ -59,7 +59,7 @@ pub(crate) fn high_moved(word: u32, low: u32, base: u32) -> u32
 
 /// An instruction with the low half of an address, moved by the base.
 pub(crate) fn low_moved(word: u32, base: u32) -> u32
-    ensures { result ≡ with_low_bits 16 word (word + base) }
+    ensures { result ≡ with_low_bits 16 word (word % 2 ^ 16 + base) }
 {
     with_low_bits(HALF_BITS, word, word.wrapping_add(base))
 }

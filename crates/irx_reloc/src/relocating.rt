@@ -4,7 +4,7 @@ ghost use Rattle.irx_reloc.specs.Words.{word_at};
 ghost use Rattle.irx_reloc.specs.Entries.{entries_of, all_entries};
 ghost use Rattle.irx_reloc.specs.Fitting.{is_type, section_misfit, misfit};
 ghost use Rattle.irx_reloc.specs.Relocating.{moved_word, half_of, after_entry, after_section, relocated};
-ghost use Rattle.irx_reloc.specs.Walking.{type_of, is_named, pair_of, is_low_at, Fits};
+ghost use Rattle.irx_reloc.specs.Walking.{type_of, is_named, pair_of, is_low_at, EntryFits};
 
 use crate::entry::Entry;
 use crate::fitting::Checked;
@@ -18,7 +18,7 @@ use irx_elf::Rels;
 /// HI16 takes.
 #[tactic(auto, unfolding(crate::specs::Relocating::moved_word))]
 fn new_word(image: &[u8], entry: Entry, low: u32, base: u32) -> Option<u32>
-    requires fits { Fits (length image.now) entry }
+    requires fits { EntryFits (length image.now) entry }
     requires named { is_named entry.kind ≡ is_type (pair_of entry).1 }
     requires half { low < 2 ^ 16 }
     ensures { result ≡ moved_word (type_of entry.kind) (word_at image.now entry.site) low base }
@@ -36,7 +36,7 @@ fn new_word(image: &[u8], entry: Entry, low: u32, base: u32) -> Option<u32>
 /// Applies an entry to the image. `low` is the low half that a HI16 takes.
 #[tactic(auto, unfolding(crate::specs::Relocating::after_entry))]
 fn apply(image: &mut [u8], entry: Entry, low: u32, base: u32)
-    requires fits { Fits (length image.old) entry }
+    requires fits { EntryFits (length image.old) entry }
     requires named { is_named entry.kind ≡ is_type (pair_of entry).1 }
     requires half { low < 2 ^ 16 }
     ensures { image.new ≡ after_entry image.old (pair_of entry) low base }
