@@ -1,6 +1,14 @@
-//! The relocation lists of a module.
+//! The parts of an IRX file, lent from its bytes.
 #![tactic(auto)]
 
-mod rels;
+mod file_header;
+mod irx;
+mod reading;
+mod relocations;
+mod section;
+mod segment;
+#[cfg(test)]
+mod tests;
 
-pub use rels::Rels;
+pub use irx::Irx;
+pub use relocations::Rels;

@@ -1,5 +1,5 @@
 -- Sections of which no entry breaks a rule.
-use Rattle.std.proofs.Common.{◌≡◌, ℕ, zero, suc, ◌+◌, ◌%◌, ◌<◌, ◌≤◌, Bool, true, false, List, [], ◌∷◌, length, drop, get_or, map, nat_lt, nat_le, nat_eq, not, ◌&&◌, cond, Option, Some, None, is_some, option_map, refl, ap, sym, ◌∙◌, arith}
+use Rattle.std.proofs.Common.{◌≡◌, ℕ, zero, suc, ◌+◌, ◌%◌, ◌<◌, ◌≤◌, Bool, true, false, List, [], ◌∷◌, length, drop, get_or, nat_lt, nat_le, nat_eq, not, cond, Option, Some, None, is_some, option_map, refl, ap, sym, ◌∙◌, arith}
 use Rattle.std.specs.List.{find}
 use Rattle.std.specs.Option.{option_or}
 use Rattle.std.proofs.lemmas.List.{at_drop_more, get_or-map, length-map}
@@ -8,7 +8,7 @@ use Rattle.iop_base.specs.declared.outcomes.Illegal.{Illegal}
 use Rattle.irx_reloc.specs.declared.entry.Entry.{Entry}
 use Rattle.irx_reloc.specs.declared.kind.Kind.{Kind}
 use Rattle.irx_reloc.specs.Entries.{entries_of, all_entries, is_low}
-use Rattle.irx_reloc.specs.Fitting.{is_site, is_type, broken_rule, section_misfit, misfit}
+use Rattle.irx_reloc.specs.Fitting.{is_site, broken_rule, section_misfit, misfit}
 use Rattle.irx_reloc.specs.Walking.{type_of, pair_of, EntryFits, is_low_at, IsNextLow}
 use Rattle.irx_reloc.proofs.Halves.{has_next}
 

@@ -28,7 +28,7 @@ is_named (Other number) = false
 abbrev pub pair_of : Entry → ℕ × ℕ
 pair_of entry = (entry.site, type_of entry.kind)
 
--- no rule is broken by an entry, wherever it stands
+-- an entry breaks no rule, where has_low says whether a LO16 stands behind it
 abbrev pub EntryFits : ℕ → Entry → Type 0
 EntryFits size entry = (has_low : Bool) × (broken_rule size (pair_of entry) has_low ≡ None)
 

@@ -22,7 +22,7 @@ const PAIR_RULE: u8 = 15;
 /// The relocation entries of a module, which fit an image of a length.
 #[derive(Drop)]
 pub struct Checked<'a> {
-    image_len: u32,
+    image_length: u32,
     rels: Rels<'a>,
 }
 
@@ -33,17 +33,17 @@ impl<'a> Model for Checked<'a> {
 
     ghost Value = { Fitting };
 
-    ghost view = { λ checked. record { image_length = checked.image_len; sections = all_entries checked.rels } };
+    ghost view = { λ checked. record { image_length = checked.image_length; sections = all_entries checked.rels } };
 
-    ghost invariant = { λ checked. misfit checked.image_len (all_entries checked.rels) ≡ None };
+    ghost invariant = { λ checked. misfit checked.image_length (all_entries checked.rels) ≡ None };
 }
 
 impl<'a> Checked<'a> {
-    /// How many bytes an image that they fit has.
+    /// The length of an image that they fit, in bytes.
     pub fn image_length(&self) -> u32
         ensures { result ≡ self.now.image_length }
     {
-        self.image_len
+        self.image_length
     }
 
     /// The sections of entries.
@@ -82,11 +82,11 @@ fn section_misfit(length: u32, section: &[u8]) -> Option<Illegal>
     ensures { result ≡ section_misfit length (entries_of section.now) }
 {
     let count = Entry::count(section);
-    let mut low = 0;
+    let mut next_low = 0;
     for index in 0..count {
         let entry = Entry::read(section, index);
-        low = low_behind(section, index, low);
-        if let Some(rule) = broken_rule(length, entry, low < count) {
+        next_low = low_behind(section, index, next_low);
+        if let Some(rule) = broken_rule(length, entry, next_low < count) {
             return Some(Illegal {
                 rule,
                 at: entry.site,
@@ -108,16 +108,17 @@ fn misfit(length: u32, rels: &Rels<'_>) -> Option<Illegal>
     None
 }
 
-/// Whether the relocation entries of a module fit an image of `length` bytes.
+/// Checks that the relocation entries of a module fit an image of `length` bytes.
 ///
-/// They are refused by the first entry, in order of section and of entry, that breaks a rule, and for one
-/// entry by the first rule in this order; `at` is its site, a place in the image.
+/// `Illegal` exactly where an entry breaks a rule, with the first rule that the first such entry breaks, in
+/// order of section and of entry, and with its site, a place in the image, as `at`:
 /// - 13: the site is a multiple of 4, and its four bytes lie in the image.
 /// - 14: the type is R_MIPS_NONE (0), R_MIPS_32 (2), R_MIPS_26 (4), R_MIPS_HI16 (5) or R_MIPS_LO16 (6).
 /// - 15: behind a HI16 stands a LO16 in its section.
 ///
 /// The site of an entry of type 0 is not looked at. The types are those of the System V ABI's MIPS
-/// supplement, the rules this project's profile.
+/// supplement, the rules this project's profile. It costs one look at each entry, and one more in search of
+/// the LO16 entries, however many HI16 there are.
 pub fn check<'a>(length: u32, rels: Rels<'a>) -> Result<Checked<'a>, Illegal>
     ensures checked { IfOk result (λ checked. checked ≡ record { image_length = length; sections = all_entries rels.entry }) }
     ensures misfit { MatchResult result (λ checked. misfit length (all_entries rels.entry) ≡ None) (λ illegal. misfit length (all_entries rels.entry) ≡ Some illegal) }
@@ -125,7 +126,7 @@ pub fn check<'a>(length: u32, rels: Rels<'a>) -> Result<Checked<'a>, Illegal>
     match misfit(length, &rels) {
         Some(illegal) => Err(illegal),
         None => Ok(Checked {
-            image_len: length,
+            image_length: length,
             rels,
         }),
     }

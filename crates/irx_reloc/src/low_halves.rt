@@ -23,8 +23,8 @@ fn first_low(section: &[u8], from: usize) -> usize
 
 /// The index of the first LO16 behind an entry, or the number of entries where none is one.
 ///
-/// `known` is 0, or the answer for the entry before. Only once the walk has come to it is the next one
-/// looked for, so a walk over a section looks at each entry twice at most.
+/// `known` is 0, or the answer for the entry before. The next one is looked for only once a walk has come
+/// to it, so over a whole walk the search looks at each entry once at most, however many HI16 there are.
 pub(crate) fn low_behind(section: &[u8], index: usize, known: usize) -> usize
     requires inside { index < length (entries_of section.now) }
     requires known { index < known → IsNextLow (entries_of section.now) index known }

@@ -46,15 +46,15 @@ fn apply(image: &mut [u8], entry: Entry, low: u32, base: u32)
     }
 }
 
-/// The low half of the word at the site of the first LO16 behind an entry; 0 where none is one.
-fn low_half(image: &[u8], section: &[u8], low: usize) -> u32
+/// The low half of the word at the site of the LO16 entry of an index; 0 past the entries.
+fn low_half(image: &[u8], section: &[u8], index: usize) -> u32
     requires fits { section_misfit (length image.now) (entries_of section.now) ≡ None }
-    requires low { low < length (entries_of section.now) → is_low_at (entries_of section.now) low ≡ true }
-    ensures low { result ≡ half_of image.now (slice_get (entries_of section.now) low) }
+    requires low { index < length (entries_of section.now) → is_low_at (entries_of section.now) index ≡ true }
+    ensures low { result ≡ half_of image.now (slice_get (entries_of section.now) index) }
     ensures half { result < 2 ^ 16 }
 {
-    if low < Entry::count(section) {
-        word_at(image, Entry::read(section, low).site as usize) % 0x1_0000
+    if index < Entry::count(section) {
+        word_at(image, Entry::read(section, index).site as usize) % 0x1_0000
     } else {
         0
     }
@@ -65,11 +65,11 @@ fn relocate_section(image: &mut [u8], section: &[u8], base: u32)
     requires { section_misfit (length image.old) (entries_of section.now) ≡ None }
     ensures { image.new ≡ after_section image.old (entries_of section.now) base }
 {
-    let mut low = 0;
+    let mut next_low = 0;
     for index in 0..Entry::count(section) {
-        low = low_behind(section, index, low);
-        let half = low_half(image, section, low);
-        apply(image, Entry::read(section, index), half, base);
+        next_low = low_behind(section, index, next_low);
+        let low = low_half(image, section, next_low);
+        apply(image, Entry::read(section, index), low, base);
     }
 }
 
@@ -86,15 +86,17 @@ fn relocate_sections(image: &mut [u8], rels: &Rels<'_>, base: u32)
 /// Relocates an image of the checked length in place, to the address `base`.
 ///
 /// The entries are applied in order of section and of entry, each to the image as it then stands, and each
-/// symbol counts as the base (this project's profile). By its type (System V ABI, MIPS supplement) an entry
-/// - adds the base to the word (R_MIPS_32),
-/// - adds a quarter of the base to its low 26 bits (R_MIPS_26),
-/// - adds the base to its low half (R_MIPS_LO16),
-/// - or adds the base to the address that its low half and the signed low half at the site of the first
-///   LO16 behind it make, and takes the high half of that, one more where the low half is negative then
-///   (R_MIPS_HI16).
+/// symbol counts as the base (this project's profile). What an entry does to the word at its site follows
+/// from its type (System V ABI, MIPS supplement):
+/// - R_MIPS_32: the base is added to the word.
+/// - R_MIPS_26: a quarter of the base is added to the low 26 bits.
+/// - R_MIPS_HI16: the low half is the high half of an address. The low half of that address, which is
+///   signed, is the low half of the word at the site of the first LO16 behind the entry in its section. The
+///   base is added to the address, and the low half becomes (address + 0x8000) / 65536.
+/// - R_MIPS_LO16: the base is added to the low half.
 ///
-/// Other bits of the word stay. Sums are taken modulo 2^32.
+/// Other bits of the word stay. Sums are taken modulo 2^32, 2^26 and 2^16. It costs three looks at each
+/// entry at most, however many HI16 there are.
 pub fn relocate(image: &mut [u8], checked: &Checked<'_>, base: u32)
     requires { length image.old ≡ checked.now.image_length }
     ensures { image.new ≡ relocated image.old checked.now.sections base }

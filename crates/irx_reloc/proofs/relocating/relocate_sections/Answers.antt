@@ -1,4 +1,4 @@
-use Rattle.std.proofs.Common.{◌<◌, ◌+◌, ◌≡◌, drop, length, ap, sym, ◌∙◌, arith}
+use Rattle.std.proofs.Common.{◌+◌, drop, length, ap, sym, ◌∙◌, arith}
 use Rattle.irx_reloc.specs.Entries.{all_entries}
 use Rattle.irx_reloc.specs.Relocating.{relocated}
 use Rattle.irx_reloc.proofs.Fits.{section_at_fits}

@@ -1,0 +1,41 @@
+use Rattle.std.proofs.Common.{◌≡◌, ℕ, ◌+◌, true, false, List, length, filter, ap, sym, ◌∙◌, arith}
+use Rattle.irx_elf.specs.Headers.{section_number, is_relocations, relocation_sections}
+use Rattle.irx_elf.specs.declared.file_header.FileHeader.{FileHeader}
+use Rattle.irx_elf.specs.declared.section.Section.{Section}
+use Rattle.irx_elf.proofs.Rows.{row, filter-here, filter-later, filter-end}
+use Rattle.irx_elf.proofs.Headers.{relocation_sections-are}
+use Rattle.irx_elf.proofs.Lists.{sections-met, length-lists}
+use Rattle.irx_elf.proofs.relocations.Rels.sections.Goals as goal
+use Rattle.irx_elf.proofs.relocations.Rels.sections.Goals.{then-is_relocations, else-is_relocations}
+
+pub loop-number-init : goal.loop-number-init
+loop-number-init c =
+    let all = ap (λ (xs : List Section). length xs) (relocation_sections-are c.self.inside.file.now c.from-number-end.result (c.from-number-end.ensures ∙ ap (λ (h : FileHeader). h.section_count) c.read-header.ensures)) in
+    record { count = omega (arith, all); few = omega arith }
+
+pub numbered-requires-clause-sections : goal.numbered-requires-clause-sections
+numbered-requires-clause-sections c =
+    sections-met c.self.inside.file.now c.self.invariant.met c.read-header.result c.read-header.ensures
+
+pub loop-number-preserved : goal.loop-number-preserved
+loop-number-preserved c =
+    let f = section_number c.self.inside.file.now in
+    let i = c.loop-number.number in
+    let n = c.from-number-end.result in
+    elim c.if-is_relocations.branch [
+      | then-is_relocations w ↦
+          let same = sym (ap is_relocations c.numbered.ensures) ∙ sym c.is_relocations.ensures ∙ w.if-is_relocations.true in
+          let one = ap (λ (xs : List Section). length xs) (filter-here is_relocations f i n c.loop-number-test.true same) in
+          record { count = omega (arith, one); few = omega arith }
+      | else-is_relocations w ↦
+          let other = sym (ap is_relocations c.numbered.ensures) ∙ sym c.is_relocations.ensures ∙ w.if-is_relocations.false in
+          let none = ap (λ (xs : List Section). length xs) (filter-later is_relocations f i n c.loop-number-test.true other) in
+          record { count = omega (arith, none); few = omega arith }
+    ]
+
+pub returns : goal.returns
+returns c =
+    let f = section_number c.self.inside.file.now in
+    let none = ap (λ (xs : List Section). length xs) (filter-end is_relocations f c.loop-number.number c.from-number-end.result c.loop-number-test.false) in
+    let all = ap (λ (xs : List (List ℕ)). length xs) c.self.view_is in
+    omega (arith, none, all, length-lists c.self.inside.file.now)

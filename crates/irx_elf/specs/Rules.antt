@@ -1,0 +1,124 @@
+-- The twelve rules of an IRX file (ELF TIS 1.2; the types of the file and of its parts are ps2sdk's). Their
+-- order, and the place that stands for each, are this project's own profile. Sums do not wrap.
+use Rattle.std.specs.Prelude.{ℕ, ◌+◌, ◌*◌, ◌%◌, ◌^◌, max, ◌==◌, nat_eq, nat_le, nat_lt, Bool, ◌&&◌, ◌||◌, if◌then◌else◌, is_some, unwrap_or, Option, Some, None, option_and_then, Result, Ok, Err, List, [], ◌∷◌, ◌++◌, length, map, take, drop, find}
+use Rattle.std.specs.List.{starts_with}
+use Rattle.iop_base.specs.declared.outcomes.Illegal.{Illegal}
+use Rattle.irx_info.specs.Information.{Information, information_of, information_with}
+use Rattle.irx_elf.specs.Headers.{file_header, segment_at, segments, is_of_kind, relocation_sections}
+use Rattle.irx_elf.specs.declared.file_header.FileHeader.{FileHeader}
+use Rattle.irx_elf.specs.declared.segment.Segment.{Segment}
+use Rattle.irx_elf.specs.declared.section.Section.{Section}
+
+-- a rule by its number, whether it is met, and the place in the file of the field that breaks it
+pub record Rule : Type 0 where
+  pub number : ℕ
+  pub is_met : Bool
+  pub at : ℕ
+
+abbrev pub rule : ℕ → Bool → ℕ → Rule
+rule number is_met at = record { number = number; is_met = is_met; at = at }
+
+-- the first that is not met
+abbrev pub first_unmet : List Rule → Option Illegal
+first_unmet [] = None
+first_unmet (rule ∷ rules) =
+    if rule.is_met then first_unmet rules else Some (record { rule = rule.number; at = rule.at })
+
+-- the bytes of a range
+abbrev pub bytes_at : List ℕ → ℕ → ℕ → List ℕ
+bytes_at file offset size = take size (drop offset file)
+
+-- the bytes of a range that lies in the file
+abbrev pub part_at : List ℕ → ℕ → ℕ → Option (List ℕ)
+part_at file offset size =
+    if nat_le (offset + size) (length file) then Some (bytes_at file offset size) else None
+
+-- the program headers have 32 bytes and lie in the file
+abbrev pub has_segments : List ℕ → FileHeader → Bool
+has_segments file header =
+    header.segment_size == 32 && nat_le (header.segments + 32 * header.segment_count) (length file)
+
+-- rules 1 to 5: the file header, and where the program headers are
+unfoldable pub header_rules : List ℕ → List Rule
+header_rules file =
+    let header = file_header file in
+    rule 1 (nat_le 52 (length file)) 0
+    ∷ rule 2 (starts_with nat_eq file (0x7F ∷ 0x45 ∷ 0x4C ∷ 0x46 ∷ 1 ∷ 1 ∷ [])) 0
+    ∷ rule 3 (header.kind == 0xFF80) 16
+    ∷ rule 4 (header.machine == 8) 18
+    ∷ rule 5 (has_segments file header) 42
+    ∷ []
+
+-- the first program header of a type, zeros where there is none
+abbrev pub first_segment : List ℕ → ℕ → Segment
+first_segment file kind = unwrap_or (find (is_of_kind kind) (segments file)) (segment_at [] 0)
+
+-- the header of the module information
+abbrev pub info_segment : List ℕ → Segment
+info_segment file = first_segment file 0x70000080
+
+-- the header of the image
+abbrev pub image_segment : List ℕ → Segment
+image_segment file = first_segment file 1
+
+-- the module information in the part of a header
+abbrev pub information_at : List ℕ → Segment → Option Information
+information_at file segment = option_and_then information_of (part_at file segment.offset segment.file_size)
+
+-- the module's information, zeros where there is none
+abbrev pub module_information : List ℕ → Information
+module_information file = unwrap_or (information_at file (info_segment file)) (information_with [] 0)
+
+-- how many bytes the image takes in memory
+abbrev pub image_length : Information → Segment → ℕ
+image_length info image = max image.memory_size (info.text + info.init + info.bss)
+
+-- the text is a word at least and lies in the file's image, which lies in the memory's
+abbrev pub has_sizes : Information → Segment → Bool
+has_sizes info image =
+    nat_le 4 info.text && nat_le info.text image.file_size && nat_le image.file_size (image_length info image)
+    && nat_lt (image_length info image) (2 ^ 31)
+
+-- rules 6 to 10: the module information and the image
+unfoldable pub segment_rules : List ℕ → List Rule
+segment_rules file =
+    let info = info_segment file in
+    let image = image_segment file in
+    rule 6 (is_some (find (is_of_kind 0x70000080) (segments file))) 44
+    ∷ rule 7 (is_some (find (is_of_kind 1) (segments file))) 44
+    ∷ rule 8 (is_some (information_at file info)) info.at
+    ∷ rule 9 (is_some (part_at file image.offset image.file_size)) image.at
+    ∷ rule 10 (has_sizes (module_information file) image) image.at
+    ∷ []
+
+-- there are no section headers, or they have 40 bytes and lie in the file
+abbrev pub has_sections : List ℕ → FileHeader → Bool
+has_sections file header =
+    header.section_count == 0
+    || (header.section_size == 40 && nat_le (header.sections + 40 * header.section_count) (length file))
+
+-- relocation entries lie in the file, have 8 bytes each, and name a section that is there
+abbrev pub has_entries : List ℕ → Section → Bool
+has_entries file section =
+    is_some (part_at file section.offset section.size) && section.size % 8 == 0
+    && nat_lt section.target (file_header file).section_count
+
+abbrev pub entries_rule : List ℕ → Section → Rule
+entries_rule file section = rule 12 (has_entries file section) section.at
+
+-- rule 11: where the section headers are; and rule 12 for each of relocation entries
+unfoldable pub section_rules : List ℕ → List Rule
+section_rules file =
+    rule 11 (has_sections file (file_header file)) 46 ∷ map (entries_rule file) (relocation_sections file)
+
+abbrev pub rules : List ℕ → List Rule
+rules file = header_rules file ++ segment_rules file ++ section_rules file
+
+-- the first rule that a file does not meet
+abbrev pub unmet : List ℕ → Option Illegal
+unmet file = first_unmet (rules file)
+
+-- what is given where no rule is unmet
+abbrev pub answered : {A : Type 0} → Option Illegal → A → Result A Illegal
+answered None x = Ok x
+answered (Some illegal) x = Err illegal

@@ -1,0 +1,8 @@
+//! The module information of an IRX file.
+#![tactic(auto)]
+
+mod info;
+#[cfg(test)]
+mod tests;
+
+pub use info::{Info, read_info};
