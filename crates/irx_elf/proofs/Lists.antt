@@ -1,5 +1,5 @@
 -- What the rules say of a file that meets them.
-use Rattle.std.proofs.Common.{◌≡◌, ℕ, zero, suc, ◌+◌, ◌*◌, ◌%◌, ◌^◌, ◌<◌, ◌≤◌, Bool, true, false, cond, ◌&&◌, nat_le, nat_lt, nat_eq, is_some, unwrap_or, option_map, Option, Some, None, List, [], ◌∷◌, length, map, take, drop, find, All, get_or, Bor, option_copied, ap, sym, ◌∙◌, refl, subst, arith}
+use Rattle.std.proofs.Common.{◌≡◌, ℕ, zero, suc, ◌+◌, ◌%◌, ◌^◌, ◌<◌, ◌≤◌, Bool, true, false, cond, nat_le, is_some, unwrap_or, option_map, Option, Some, None, List, [], ◌∷◌, length, map, take, drop, find, All, get_or, Bor, option_copied, ap, sym, ◌∙◌, refl, subst, arith}
 use Rattle.std.specs.List.{slice_get}
 use Rattle.std.proofs.lemmas.Bool.{and_parts, leb-true, ltb-true, eqb-true}
 use Rattle.std.proofs.lemmas.Option.{slice_get-get_or, slice_get-map, unwrap_or-slice_get}
@@ -8,9 +8,8 @@ use Rattle.std.proofs.lemmas.List.Elements.{All-map}
 use Rattle.iop_base.specs.declared.outcomes.Illegal.{Illegal}
 use Rattle.irx_elf.specs.Headers.{file_header, segments, is_of_kind, relocation_sections}
 use Rattle.irx_elf.specs.Rules.{first_unmet, segment_rules, section_rules, has_sections, has_sizes, has_entries, entries_rule, bytes_at, part_at, information_at, image_length, info_segment, image_segment, module_information}
-use Rattle.irx_elf.specs.Parts.{Parts, parts_of, is_applied, list_of, lists_of, HasLists, IsSound}
+use Rattle.irx_elf.specs.Parts.{Parts, parts_of, is_applied, list_of, lists_of, IsSound}
 use Rattle.irx_elf.specs.declared.file_header.FileHeader.{FileHeader}
-use Rattle.irx_elf.specs.declared.segment.Segment.{Segment}
 use Rattle.irx_elf.specs.declared.section.Section.{Section}
 
 none-parts : (met : Bool) (o : Option Illegal) (e : Illegal) → cond met o (Some e) ≡ None → (met ≡ true) × (o ≡ None)

@@ -1,10 +1,8 @@
 -- The first rule that is not met.
-use Rattle.std.proofs.Common.{◌≡◌, ℕ, ◌+◌, ◌<◌, ◌≤◌, ◌%◌, Bool, true, false, cond, not, Option, Some, None, Result, Ok, Err, List, [], ◌∷◌, ◌++◌, length, map, filter, ap, sym, ◌∙◌, refl, arith}
-use Rattle.std.specs.List.{slice_get}
+use Rattle.std.proofs.Common.{◌≡◌, ℕ, ◌+◌, ◌<◌, ◌≤◌, Bool, true, false, cond, Option, Some, None, Result, Ok, Err, List, [], ◌∷◌, ◌++◌, map, filter, ap, ◌∙◌, refl}
 use Rattle.iop_base.specs.declared.outcomes.Illegal.{Illegal}
 use Rattle.irx_elf.specs.Headers.{file_header, section_number, is_relocations, relocation_sections}
 use Rattle.irx_elf.specs.Rules.{Rule, first_unmet, header_rules, segment_rules, section_rules, has_sections, has_entries, entries_rule, unmet}
-use Rattle.irx_elf.specs.declared.section.Section.{Section}
 use Rattle.irx_elf.proofs.Rows.{row, filter-here, filter-later, filter-end}
 
 -- what a demand says

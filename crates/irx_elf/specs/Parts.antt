@@ -1,11 +1,10 @@
 -- What an IRX file consists of: each part is the file's bytes at the place that a header names. That
 -- relocation entries of a section which takes no memory are not applied is this project's own profile.
-use Rattle.std.specs.Prelude.{◌≡◌, ℕ, ◌+◌, ◌/◌, ◌%◌, ◌^◌, ◌<◌, ◌≤◌, ◌==◌, Bool, ◌||◌, if◌then◌else◌, None, Result, List, [], length, map, All}
+use Rattle.std.specs.Prelude.{◌≡◌, ℕ, ◌/◌, ◌%◌, ◌^◌, ◌<◌, ◌≤◌, ◌==◌, Bool, ◌||◌, if◌then◌else◌, None, Result, List, [], length, map, All}
 use Rattle.iop_base.specs.declared.outcomes.Illegal.{Illegal}
 use Rattle.irx_info.specs.Information.{Information}
 use Rattle.irx_elf.specs.Headers.{section_number, relocation_sections}
 use Rattle.irx_elf.specs.Rules.{bytes_at, image_segment, image_length, module_information, section_rules, first_unmet, unmet, answered}
-use Rattle.irx_elf.specs.declared.segment.Segment.{Segment}
 use Rattle.irx_elf.specs.declared.section.Section.{Section}
 
 pub record Parts : Type 0 where

@@ -9,7 +9,7 @@ use Rattle.irx_elf.specs.declared.file_header.FileHeader.{FileHeader}
 use Rattle.irx_elf.specs.declared.segment.Segment.{Segment}
 use Rattle.irx_elf.specs.declared.section.Section.{Section}
 
--- a rule by its number, whether it is met, and the place in the file of the field that breaks it
+-- a rule by its number, whether it is met, and the place in the file that stands for it
 pub record Rule : Type 0 where
   pub number : ℕ
   pub is_met : Bool
@@ -33,21 +33,44 @@ abbrev pub part_at : List ℕ → ℕ → ℕ → Option (List ℕ)
 part_at file offset size =
     if nat_le (offset + size) (length file) then Some (bytes_at file offset size) else None
 
--- the program headers have 32 bytes and lie in the file
+abbrev pub lies_in_file : List ℕ → ℕ → ℕ → Bool
+lies_in_file file offset size = is_some (part_at file offset size)
+
+-- rule 1: the file has at least 52 bytes
+abbrev pub is_long : List ℕ → Bool
+is_long file = nat_le 52 (length file)
+
+-- rule 2: its bytes 0 to 5 are 7F 45 4C 46 01 01, those of a little-endian ELF file of 32 bits
+abbrev pub is_elf : List ℕ → Bool
+is_elf file = starts_with nat_eq file (0x7F ∷ 0x45 ∷ 0x4C ∷ 0x46 ∷ 1 ∷ 1 ∷ [])
+
+-- rule 3: e_type is 0xFF80, an IRX file
+abbrev pub is_module : FileHeader → Bool
+is_module header = header.kind == 0xFF80
+
+-- rule 4: e_machine is 8, MIPS
+abbrev pub is_for_mips : FileHeader → Bool
+is_for_mips header = header.machine == 8
+
+-- rule 5: e_phentsize is 32, and e_phnum headers from e_phoff lie in the file
 abbrev pub has_segments : List ℕ → FileHeader → Bool
 has_segments file header =
     header.segment_size == 32 && nat_le (header.segments + 32 * header.segment_count) (length file)
 
--- rules 1 to 5: the file header, and where the program headers are
+-- rules 1 to 5, of the file header
 unfoldable pub header_rules : List ℕ → List Rule
 header_rules file =
     let header = file_header file in
-    rule 1 (nat_le 52 (length file)) 0
-    ∷ rule 2 (starts_with nat_eq file (0x7F ∷ 0x45 ∷ 0x4C ∷ 0x46 ∷ 1 ∷ 1 ∷ [])) 0
-    ∷ rule 3 (header.kind == 0xFF80) 16
-    ∷ rule 4 (header.machine == 8) 18
+    rule 1 (is_long file) 0
+    ∷ rule 2 (is_elf file) 0
+    ∷ rule 3 (is_module header) 16
+    ∷ rule 4 (is_for_mips header) 18
     ∷ rule 5 (has_segments file header) 42
     ∷ []
+
+-- rules 6 and 7: a program header of a type exists
+abbrev pub has_segment : List ℕ → ℕ → Bool
+has_segment file kind = is_some (find (is_of_kind kind) (segments file))
 
 -- the first program header of a type, zeros where there is none
 abbrev pub first_segment : List ℕ → ℕ → Segment
@@ -69,44 +92,55 @@ information_at file segment = option_and_then information_of (part_at file segme
 abbrev pub module_information : List ℕ → Information
 module_information file = unwrap_or (information_at file (info_segment file)) (information_with [] 0)
 
+-- rule 8: the part of the header of rule 6 lies in the file and is module information, of 27 bytes at least
+-- and with a zero byte from place 26 on
+abbrev pub has_information : List ℕ → Segment → Bool
+has_information file segment = is_some (information_at file segment)
+
+-- rule 9: the part of the header of rule 7 lies in the file
+abbrev pub has_image : List ℕ → Segment → Bool
+has_image file image = lies_in_file file image.offset image.file_size
+
 -- how many bytes the image takes in memory
 abbrev pub image_length : Information → Segment → ℕ
 image_length info image = max image.memory_size (info.text + info.init + info.bss)
 
--- the text is a word at least and lies in the file's image, which lies in the memory's
+-- rule 10: the text is at least 4 and at most the part of rule 9; the image's length is at least that part
+-- and below 2^31
 abbrev pub has_sizes : Information → Segment → Bool
 has_sizes info image =
     nat_le 4 info.text && nat_le info.text image.file_size && nat_le image.file_size (image_length info image)
     && nat_lt (image_length info image) (2 ^ 31)
 
--- rules 6 to 10: the module information and the image
+-- rules 6 to 10, of the module information and the image
 unfoldable pub segment_rules : List ℕ → List Rule
 segment_rules file =
     let info = info_segment file in
     let image = image_segment file in
-    rule 6 (is_some (find (is_of_kind 0x70000080) (segments file))) 44
-    ∷ rule 7 (is_some (find (is_of_kind 1) (segments file))) 44
-    ∷ rule 8 (is_some (information_at file info)) info.at
-    ∷ rule 9 (is_some (part_at file image.offset image.file_size)) image.at
+    rule 6 (has_segment file 0x70000080) 44
+    ∷ rule 7 (has_segment file 1) 44
+    ∷ rule 8 (has_information file info) info.at
+    ∷ rule 9 (has_image file image) image.at
     ∷ rule 10 (has_sizes (module_information file) image) image.at
     ∷ []
 
--- there are no section headers, or they have 40 bytes and lie in the file
+-- rule 11: where e_shnum is not 0, e_shentsize is 40 and the headers from e_shoff lie in the file
 abbrev pub has_sections : List ℕ → FileHeader → Bool
 has_sections file header =
     header.section_count == 0
     || (header.section_size == 40 && nat_le (header.sections + 40 * header.section_count) (length file))
 
--- relocation entries lie in the file, have 8 bytes each, and name a section that is there
+-- rule 12: a section of relocation entries lies in the file, its sh_size is a multiple of 8, and its sh_info
+-- is below e_shnum
 abbrev pub has_entries : List ℕ → Section → Bool
 has_entries file section =
-    is_some (part_at file section.offset section.size) && section.size % 8 == 0
+    lies_in_file file section.offset section.size && section.size % 8 == 0
     && nat_lt section.target (file_header file).section_count
 
 abbrev pub entries_rule : List ℕ → Section → Rule
 entries_rule file section = rule 12 (has_entries file section) section.at
 
--- rule 11: where the section headers are; and rule 12 for each of relocation entries
+-- rule 11, and rule 12 for each section of relocation entries in order
 unfoldable pub section_rules : List ℕ → List Rule
 section_rules file =
     rule 11 (has_sections file (file_header file)) 46 ∷ map (entries_rule file) (relocation_sections file)

@@ -52,8 +52,8 @@ fn refuses(rt: &impl Abort, file: &[u8], rule: u8, at: u32) {
     assert_eq!(rt; Irx::parse(file).err(), Some(Illegal { rule, at }));
 }
 
-/// Parses a file that is an IRX file, and compares its lists of relocation entries.
-fn lists(rt: &impl Abort, file: &[u8], lists: [&[u8]; 3]) -> Result<(), Fail> {
+/// Parses a file of the plain module, and compares its lists of relocation entries.
+fn lists(rt: &impl Abort, file: &[u8], sections: u32, lists: [&[u8]; 3]) -> Result<(), Fail> {
     assert!(rt; file.len() <= 1000);
     let irx = Irx::parse(file).ok().ok_or("refused")?;
     let info = Info {
@@ -70,6 +70,7 @@ fn lists(rt: &impl Abort, file: &[u8], lists: [&[u8]; 3]) -> Result<(), Fail> {
     assert_eq!(rt; irx.length(), 8);
     assert_eq!(rt; irx.info(), info);
     let rels = irx.rels();
+    assert_eq!(rt; rels.sections(), sections);
     for (k, list) in lists.iter().enumerate() {
         assert_eq!(rt; rels.list(k as u32), *list);
     }
@@ -112,9 +113,9 @@ fn rules_in_order(rt: HostRuntime) -> Result<(), Fail> {
 fn parts_lent(rt: HostRuntime) -> Result<(), Fail> {
     let alloc = rt.alloc();
     let text = TEXT.as_slice();
-    lists(&rt, &plain(alloc)?, [&[], &[], &[]])?;
+    lists(&rt, &plain(alloc)?, 0, [&[], &[], &[]])?;
     let mut file = with_sections(alloc)?;
-    lists(&rt, &file, [text, &[], &[]])?;
+    lists(&rt, &file, 2, [text, &[], &[]])?;
     change(&mut file, 200, 2);
-    lists(&rt, &file, [text, text, &[]])
+    lists(&rt, &file, 2, [text, text, &[]])
 }

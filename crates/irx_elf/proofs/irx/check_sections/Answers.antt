@@ -1,5 +1,4 @@
-use Rattle.std.proofs.Common.{◌≡◌, ℕ, ◌+◌, true, false, Some, List, map, ap, sym, ◌∙◌, rules}
-use Rattle.iop_base.specs.declared.outcomes.Illegal.{Illegal}
+use Rattle.std.proofs.Common.{◌≡◌, true, false, Some, List, map, ap, sym, ◌∙◌, rules}
 use Rattle.irx_elf.specs.Headers.{file_header, section_number, is_relocations}
 use Rattle.irx_elf.specs.Rules.{first_unmet, section_rules, has_sections, has_entries, entries_rule}
 use Rattle.irx_elf.specs.declared.file_header.FileHeader.{FileHeader}

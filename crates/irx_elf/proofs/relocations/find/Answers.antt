@@ -1,4 +1,4 @@
-use Rattle.std.proofs.Common.{◌≡◌, ℕ, ◌+◌, true, false, Some, List, filter, ap, sym, ◌∙◌}
+use Rattle.std.proofs.Common.{◌+◌, Some, List, filter, ap, sym, ◌∙◌}
 use Rattle.std.specs.List.{slice_get}
 use Rattle.irx_elf.specs.Headers.{section_number, is_relocations}
 use Rattle.irx_elf.specs.declared.file_header.FileHeader.{FileHeader}

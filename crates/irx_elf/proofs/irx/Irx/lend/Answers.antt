@@ -1,4 +1,4 @@
-use Rattle.std.proofs.Common.{◌≡◌, ℕ, ◌<◌, ◌^◌, true, is_some, ap, sym, ◌∙◌, arith, rules}
+use Rattle.std.proofs.Common.{◌≡◌, is_some, ap, ◌∙◌, arith, rules}
 use Rattle.irx_elf.specs.Rules.{part_at, image_length, module_information, image_segment}
 use Rattle.irx_info.specs.Information.{Information}
 use Rattle.irx_elf.specs.declared.segment.Segment.{Segment}

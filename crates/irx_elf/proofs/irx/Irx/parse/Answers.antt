@@ -1,5 +1,4 @@
-use Rattle.std.proofs.Common.{◌≡◌, ℕ, Some, None, ap, sym, ◌∙◌, rules}
-use Rattle.irx_elf.specs.Rules.{unmet}
+use Rattle.std.proofs.Common.{◌∙◌, rules}
 use Rattle.irx_elf.proofs.Meeting.{unmet-header, unmet-segment, unmet-section}
 use Rattle.irx_elf.proofs.irx.Irx.parse.Goals as goal
 

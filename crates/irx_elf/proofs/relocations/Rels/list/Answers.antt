@@ -1,4 +1,4 @@
-use Rattle.std.proofs.Common.{◌≡◌, ℕ, [], List, get_or, ap, sym, ◌∙◌}
+use Rattle.std.proofs.Common.{ℕ, [], List, get_or, ap, sym, ◌∙◌}
 use Rattle.irx_elf.proofs.Lists.{sections-met, entries-met, list-at, list-past}
 use Rattle.irx_elf.proofs.relocations.Rels.list.Goals as goal
 

@@ -1,8 +1,8 @@
-use Rattle.std.proofs.Common.{◌≡◌, ℕ, ◌+◌, true, false, List, length, filter, ap, sym, ◌∙◌, arith}
-use Rattle.irx_elf.specs.Headers.{section_number, is_relocations, relocation_sections}
+use Rattle.std.proofs.Common.{ℕ, List, length, ap, sym, ◌∙◌, arith}
+use Rattle.irx_elf.specs.Headers.{section_number, is_relocations}
 use Rattle.irx_elf.specs.declared.file_header.FileHeader.{FileHeader}
 use Rattle.irx_elf.specs.declared.section.Section.{Section}
-use Rattle.irx_elf.proofs.Rows.{row, filter-here, filter-later, filter-end}
+use Rattle.irx_elf.proofs.Rows.{filter-here, filter-later, filter-end}
 use Rattle.irx_elf.proofs.Headers.{relocation_sections-are}
 use Rattle.irx_elf.proofs.Lists.{sections-met, length-lists}
 use Rattle.irx_elf.proofs.relocations.Rels.sections.Goals as goal

@@ -1,4 +1,4 @@
-use Rattle.std.proofs.Common.{◌≡◌, ℕ, true, false, Some, find, eq-eqb, ap, sym, ◌∙◌}
+use Rattle.std.proofs.Common.{Some, find, eq-eqb, ap, sym, ◌∙◌}
 use Rattle.std.proofs.lemmas.Bool.{ne_eqb}
 use Rattle.irx_elf.specs.Headers.{segment_number, is_of_kind}
 use Rattle.irx_elf.specs.declared.file_header.FileHeader.{FileHeader}
