@@ -1,0 +1,5 @@
+pub mod Words
+pub mod Entries
+pub mod Fitting
+pub mod Relocating
+pub mod Walking

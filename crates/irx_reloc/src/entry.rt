@@ -1,0 +1,42 @@
+ghost use Rattle.std.specs.Prelude.{◌≡◌, ◌+◌, ◌*◌, ◌/◌, ◌<◌, ◌≤◌, length, slice_index_or};
+ghost use Rattle.irx_reloc.specs.Entries.{entries_of};
+ghost use Rattle.irx_reloc.specs.Fitting.{is_type};
+ghost use Rattle.irx_reloc.specs.Walking.{is_named, pair_of};
+
+use crate::kind::Kind;
+use crate::words::word_at;
+
+/// How many bytes an entry has in its section.
+const SIZE: usize = 8;
+
+/// A relocation entry.
+#[derive(Clone, Copy)]
+pub(crate) struct Entry {
+    /// The place in the image of the word that it changes, in bytes.
+    pub site: u32,
+    /// What it changes.
+    pub kind: Kind,
+}
+
+impl Entry {
+    /// How many entries a section has.
+    pub fn count(section: &[u8]) -> usize
+        ensures { result ≡ length (entries_of section.now) }
+    {
+        section.len() / SIZE
+    }
+
+    /// The entry of this index in a section.
+    pub fn read(section: &[u8], index: usize) -> Self
+        requires { index < length (entries_of section.now) }
+        ensures entry { pair_of result ≡ slice_index_or (entries_of section.now) index (0, 0) }
+        ensures named { is_named result.kind ≡ is_type (pair_of result).1 }
+    {
+        let place = SIZE * index;
+        let info = word_at(section, place + 4);
+        Entry {
+            site: word_at(section, place),
+            kind: Kind::of_type((info % 0x100) as u8),
+        }
+    }
+}

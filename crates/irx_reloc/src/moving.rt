@@ -1,0 +1,65 @@
+//! The words that entries leave at their sites.
+
+ghost use Rattle.std.specs.Prelude.{◌≡◌, ◌+◌, ◌/◌, ◌%◌, ◌^◌, ◌<◌};
+ghost use Rattle.iop_base.specs.Numbers.{signed, wrapped};
+ghost use Rattle.irx_reloc.specs.Relocating.{with_low_bits, word_of, moved_address, high_half};
+
+/// How many low bits of a jump are its target.
+const TARGET_BITS: u32 = 26;
+
+/// How many low bits of an instruction are its half of an address.
+const HALF_BITS: u32 = 16;
+
+/// A word with other low bits.
+fn with_low_bits(bits: u32, word: u32, value: u32) -> u32
+    requires { bits < 32 }
+    ensures { result ≡ with_low_bits bits word value }
+{
+    let low = 1 << bits;
+    word / low * low + value % low
+}
+
+/// A signed half as a word.
+fn sign_extended(half: u32) -> u32
+    requires { half < 2 ^ 16 }
+    ensures { result ≡ word_of (signed 16 half) }
+{
+    if half < 0x8000 {
+        half
+    } else {
+        half.wrapping_add(0xFFFF_0000)
+    }
+}
+
+/// A word that is an address, moved by the base.
+pub(crate) fn word_moved(word: u32, base: u32) -> u32
+    ensures { result ≡ wrapped (word + base) }
+{
+    word.wrapping_add(base)
+}
+
+/// A jump whose target is moved by the base.
+pub(crate) fn jump_moved(word: u32, base: u32) -> u32
+    ensures { result ≡ with_low_bits 26 word (word % 2 ^ 26 + base / 4) }
+{
+    with_low_bits(TARGET_BITS, word, word.wrapping_add(base / 4))
+}
+
+/// An instruction with the high half of an address, moved by the base. `low` is the low half of the
+/// address, which is signed.
+pub(crate) fn high_moved(word: u32, low: u32, base: u32) -> u32
+    requires { low < 2 ^ 16 }
+    ensures { result ≡ with_low_bits 16 word (high_half (moved_address (word % 2 ^ 16) low base)) }
+{
+    let address = (word % 0x1_0000 * 0x1_0000)
+        .wrapping_add(sign_extended(low))
+        .wrapping_add(base);
+    with_low_bits(HALF_BITS, word, address.wrapping_add(0x8000) / 0x1_0000)
+}
+
+/// An instruction with the low half of an address, moved by the base.
+pub(crate) fn low_moved(word: u32, base: u32) -> u32
+    ensures { result ≡ with_low_bits 16 word (word % 2 ^ 16 + base) }
+{
+    with_low_bits(HALF_BITS, word, word.wrapping_add(base))
+}
