@@ -5,4 +5,4 @@ mod registry;
 #[cfg(test)]
 mod tests;
 
-pub use registry::Registry;
+pub use registry::{KERNEL_NAMES, Registry};

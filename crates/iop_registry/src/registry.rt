@@ -9,6 +9,18 @@ use std::marker::Model;
 /// So many libraries can be registered.
 const ROOM: usize = 263;
 
+/// The names of the kernel's libraries by their numbers, filled up with zeros.
+pub const KERNEL_NAMES: [[u8; 8]; 8] = [
+    *b"loadcore",
+    *b"sysmem\0\0",
+    *b"intrman\0",
+    *b"thbase\0\0",
+    *b"thsemap\0",
+    *b"thevent\0",
+    *b"thmsgbx\0",
+    *b"stdio\0\0\0",
+];
+
 /// A registered library.
 #[derive(Clone, Copy, Drop)]
 struct Entry {
@@ -87,14 +99,14 @@ impl Registry {
     {
         let mut entries = Vec::with_capacity(alloc, ROOM)?;
         entries.extend_from_slice(&[
-            Entry::of_kernel(0, *b"loadcore"),
-            Entry::of_kernel(1, *b"sysmem\0\0"),
-            Entry::of_kernel(2, *b"intrman\0"),
-            Entry::of_kernel(3, *b"thbase\0\0"),
-            Entry::of_kernel(4, *b"thsemap\0"),
-            Entry::of_kernel(5, *b"thevent\0"),
-            Entry::of_kernel(6, *b"thmsgbx\0"),
-            Entry::of_kernel(7, *b"stdio\0\0\0"),
+            Entry::of_kernel(0, KERNEL_NAMES[0]),
+            Entry::of_kernel(1, KERNEL_NAMES[1]),
+            Entry::of_kernel(2, KERNEL_NAMES[2]),
+            Entry::of_kernel(3, KERNEL_NAMES[3]),
+            Entry::of_kernel(4, KERNEL_NAMES[4]),
+            Entry::of_kernel(5, KERNEL_NAMES[5]),
+            Entry::of_kernel(6, KERNEL_NAMES[6]),
+            Entry::of_kernel(7, KERNEL_NAMES[7]),
         ])?;
         Ok(Registry { entries })
     }

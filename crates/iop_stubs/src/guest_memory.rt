@@ -128,6 +128,7 @@ impl Guest {
         ensures accepted { is_ok result ≡ is_some (access_at (length self.old.ram) at (width_bytes width)) }
         ensures memory { self.new ≡ after_store self.old (access_at (length self.old.ram) at (width_bytes width)) (bytes_of (width_bytes width) value) }
         ensures lines { Gives (L.seen lines.old) (L.seen lines.new) (store_lines t self.old (access_at (length self.old.ram) at (width_bytes width)) (width_bytes width)) }
+        ensures untouched { OnErr result (lines.new ≡ lines.old) }
         ensures was_sound { IsSound self.old }
         ensures sound { IsSound self.new }
     {
