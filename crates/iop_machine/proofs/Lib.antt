@@ -1,0 +1,11 @@
+pub mod Area
+pub mod StringLemmas
+pub mod Performing
+pub mod Storing
+pub mod Serving
+pub mod Executing
+pub mod Stepping
+pub mod Reaching
+pub mod Lasting
+pub mod LoadingLemmas
+pub mod StubLemmas

@@ -1,0 +1,57 @@
+-- A live stub that is executed.
+use Rattle.std.proofs.Common.{◌≡◌, ℕ, ◌+◌, ◌*◌, ◌/◌, ◌%◌, ◌^◌, ◌<◌, Bool, true, false, cond, Option, Some, None, List, length, refl, ap, ◌∙◌, arith}
+use Rattle.std.specs.Prelude.{Contains}
+use Rattle.std.proofs.lemmas.Bool.{le-leb}
+use Rattle.std.proofs.lemmas.List.Elements.{All-contains}
+use Rattle.iop_base.specs.Numbers.{number_at, wrapped}
+use Rattle.iop_base.specs.Places.{phys, loaded}
+use Rattle.iop_base.specs.declared.outcomes.Width.TheVariants.{Word}
+use Rattle.iop_isa.specs.declared.instruction.Inst.TheVariants.{J}
+use Rattle.iop_isa.specs.Instructions.{inst_of, opcode_of, target_of}
+use Rattle.iop_exec.specs.declared.cpu.Cpu.{Cpu}
+use Rattle.iop_exec.specs.Row.{Goes, effect_of, jumped, jump_target, row}
+use Rattle.iop_exec.proofs.Rows.{executed_no_slot, row_some}
+use Rattle.iop_stubs.specs.Binding.{IsBound, IsSound}
+use Rattle.iop_stubs.specs.Stubs.{Memory}
+use Rattle.iop_stubs.specs.declared.live_stub.Stub.{Stub}
+use Rattle.iop_machine.specs.Laws.{StubsReachTheirFunctions, stub_target}
+
+chosen : (b : Bool) (x y : ℕ) → cond b (Some x) None ≡ Some y → x ≡ y
+chosen true x y e = cc e
+chosen false x y e = absurd (cc e)
+
+module _ (memory : Memory) (stub : Stub) (c : Cpu) (sound : IsSound memory) (has : Contains memory.live stub) (place : phys (length memory.ram) c.pc ≡ Some stub.at) (out : c.in_slot ≡ false) where
+  bound : IsBound memory.ram stub
+  bound = All-contains (IsBound memory.ram) memory.live stub sound.bound has
+
+  at_is : c.pc % 0x20000000 ≡ stub.at
+  at_is = chosen _ _ _ place
+
+  word_is : loaded memory.ram c.pc Word ≡ Some (number_at memory.ram stub.at 4)
+  word_is =
+      let aligned : c.pc % 4 ≡ 0 = omega (arith, at_is, bound.aligned) in
+      let fits = le-leb (stub.at + 4) (length memory.ram) (omega (arith, bound.inside, sound.sized)) in
+      rw (aligned, place, fits) refl
+
+  inst_is : inst_of (number_at memory.ram stub.at 4) ≡ Some (J (stub.target / 4))
+  unfolding inst_of
+  inst_is =
+      let word = number_at memory.ram stub.at 4 in
+      let in_opcode : opcode_of word ≡ 2 = omega (arith, bound.jump, bound.target_near) in
+      let in_target : target_of word ≡ stub.target / 4 = omega (arith, bound.jump, bound.target_near) in
+      rw (in_opcode, in_target) refl
+
+  target_is : jump_target c (stub.target / 4) ≡ stub_target c.pc stub
+  target_is =
+      let whole : stub.target / 4 * 4 ≡ stub.target = omega (arith, bound.target_aligned) in
+      ap (λ t. wrapped (c.pc + 4) / 2 ^ 28 * 2 ^ 28 + t) whole
+
+  pub reaches : row memory.ram c ≡ Goes (record c { pc = c.next; next = stub_target c.pc stub; in_slot = true }) None
+  unfolding effect_of
+  reaches =
+      row_some memory.ram c (number_at memory.ram stub.at 4) word_is
+      ∙ executed_no_slot (number_at memory.ram stub.at 4) memory.ram c (J (stub.target / 4)) inst_is out
+      ∙ ap (λ t. Goes (jumped c t) None) target_is
+
+pub stubs_reach_their_functions : StubsReachTheirFunctions
+stubs_reach_their_functions = λ memory stub c sound has place out. reaches memory stub c sound has place out

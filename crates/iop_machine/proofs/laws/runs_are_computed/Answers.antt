@@ -1,0 +1,5 @@
+use Rattle.iop_machine.proofs.Lasting.{runs_are_computed}
+use Rattle.iop_machine.proofs.laws.runs_are_computed.Goals as goal
+
+pub returns : goal.returns
+returns c = runs_are_computed

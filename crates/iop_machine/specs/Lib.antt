@@ -1,0 +1,11 @@
+pub mod KernelArea
+pub mod Images
+pub mod World
+pub mod Strings
+pub mod Storing
+pub mod Services
+pub mod Loading
+pub mod Stepping
+pub mod Running
+pub mod Advancing
+pub mod Laws

@@ -1,0 +1,100 @@
+//! The kernel's area of memory.
+
+ghost use Rattle.std.specs.Prelude.{◌≡◌, ◌<◌, ◌≤◌, []};
+ghost use Rattle.iop_base.specs.Numbers.{with_bytes};
+ghost use Rattle.iop_base.specs.Seen.{Gives};
+ghost use Rattle.iop_machine.specs.KernelArea.{syscall_word, name_word, table_word, service_word, kernel_word, kernel_area};
+
+use iop_base::{Lines, Width};
+use iop_registry::KERNEL_NAMES;
+use iop_stubs::Guest;
+
+/// The magic of an export table.
+const EXPORT_MAGIC: u32 = 0x41C0_0000;
+
+/// The version of the kernel's libraries, and mode 0.
+const VERSION: u32 = 0x0101;
+
+/// `jr $ra`.
+const JUMP_BACK: u32 = 0x03E0_0008;
+
+/// How many words the kernel's area has.
+const WORDS: u32 = 0x4000;
+
+/// `syscall` with a code.
+fn syscall(code: u32) -> u32
+    requires { code < 0x100000 }
+    ensures { result ≡ syscall_word code }
+{
+    (code << 6) + 0xC
+}
+
+/// Four bytes of the name of a kernel library.
+fn name_word(library: u32, at: usize) -> u32
+    requires library { library < 8 }
+    requires inside { at ≤ 4 }
+    ensures { result ≡ name_word library at }
+{
+    let name = KERNEL_NAMES[library as usize];
+    u32::from_le_bytes([name[at], name[at + 1], name[at + 2], name[at + 3]])
+}
+
+/// A word of the export table of a kernel library.
+fn table_word(library: u32, index: u32) -> u32
+    requires { library < 8 }
+    ensures { result ≡ table_word library index }
+{
+    match index {
+        0 => EXPORT_MAGIC,
+        2 => VERSION,
+        3 => name_word(library, 0),
+        4 => name_word(library, 4),
+        5..=68 => 0x4000 + library * 0x400 + (index - 5) * 0x10,
+        _ => 0,
+    }
+}
+
+/// A word of a service of a kernel library.
+fn service_word(library: u32, number: u32, index: u32) -> u32
+    requires library { library < 8 }
+    requires number { number < 64 }
+    ensures { result ≡ service_word library number index }
+{
+    match index {
+        0 => syscall(library * 256 + number),
+        1 => JUMP_BACK,
+        _ => 0,
+    }
+}
+
+/// The word at a place of the kernel's area.
+#[tactic(auto, unfolding(crate::specs::KernelArea::kernel_word))]
+fn kernel_word(place: u32) -> u32
+    requires { place < 0x10000 }
+    ensures { result ≡ kernel_word place }
+{
+    match place {
+        0x1000..=0x1FFF => table_word(place % 0x1000 / 0x200, place % 0x200 / 4),
+        0x3000 => syscall(0xF00),
+        0x3010 => syscall(0xF01),
+        0x3020 => syscall(0xF02),
+        0x4000..=0x5FFF => service_word(
+            place % 0x2000 / 0x400,
+            place % 0x400 / 0x10,
+            place % 0x10 / 4,
+        ),
+        _ => 0,
+    }
+}
+
+/// Writes the kernel's area, where no stub is live.
+pub(crate) fn write_kernel_area<L: Lines>(guest: &mut Guest, lines: &mut L)
+    requires { guest.old.live ≡ [] }
+    ensures memory { guest.new ≡ record guest.old { ram = with_bytes guest.old.ram 0 kernel_area } }
+    ensures lines { Gives (L.seen lines.old) (L.seen lines.new) [] }
+{
+    for index in 0..WORDS {
+        let place = 4 * index;
+        let _ = guest.store(place, Width::Word, kernel_word(place), 0, lines);
+    }
+}

@@ -1,0 +1,71 @@
+ghost use Rattle.std.specs.Prelude.{IfOk};
+ghost use Rattle.iop_machine.specs.Images.{Fits, module_of};
+
+use crate::{Image, Machine, laws};
+use iop_base::{Code, Stop};
+use iop_ports::MemSink;
+use std::alloc::Global;
+use std::test::Fail;
+
+/// A module that calls Kprintf with the address of its name, which is its first argument: the import table
+/// of `sysmem` 1.1 with a stub of index 14, and the words behind it.
+const PRINTS_ITS_NAME: [u8; 56] = [
+    0x00, 0x00, 0xE0, 0x41, 0x00, 0x00, 0x00, 0x00, 0x01, 0x01, 0x00, 0x00, b's', b'y', b's', b'm',
+    b'e', b'm', 0x00, 0x00, 0x08, 0x00, 0xE0, 0x03, 0x0E, 0x00, 0x00, 0x24, 0x00, 0x00, 0x00, 0x00,
+    0x00, 0x00, 0x00, 0x00, // addu $16,$31,$0
+    0x21, 0x80, 0xE0, 0x03, // jal 00010014
+    0x05, 0x40, 0x00, 0x0C, // lw $4,0($5)
+    0x00, 0x00, 0xA4, 0x8C, // jr $16
+    0x08, 0x00, 0x00, 0x02, // addu $2,$0,$0
+    0x21, 0x10, 0x00, 0x00,
+];
+
+/// That module, as it is handed to a machine.
+fn prints_its_name() -> Result<Image<'static>, Code>
+    ensures { IfOk (module_of result) Fits }
+{
+    Ok(Image {
+        name: b"m.irx",
+        bytes: &PRINTS_ITS_NAME,
+        text: 56,
+        entry_offset: 0x24,
+        gp_offset: 0,
+    })
+}
+
+#[test]
+fn runs_in_parts(rt: HostRuntime) -> Result<(), Fail> {
+    let alloc: Global = rt.alloc();
+    let mut machine = Machine::new(alloc, prints_its_name())?;
+    let mut console = MemSink::new(alloc, 100, Vec::new(alloc))?;
+    let mut trace = MemSink::new(alloc, 200, Vec::new(alloc))?;
+    for (budget, stop, now) in [
+        (0, Stop::Budget, 0),
+        (4, Stop::Budget, 4),
+        (100, Stop::Quiet, 11),
+        (100, Stop::Quiet, 11),
+    ] {
+        assert_eq!(rt; machine.run(budget, &mut console, &mut trace), Ok(stop));
+        assert_eq!(rt; machine.now(), now);
+    }
+    assert_eq!(rt; console.bytes(), b"m.irx".as_slice());
+    assert_eq!(rt;
+        trace.bytes(),
+        b"0 load 1 ok 00010000 00000038\n0 run 1\n10 result 1 0 resident\n".as_slice()
+    );
+    let arguments = b"\x08\x20\0\0\0\0\0\0m.irx\0".as_slice();
+    assert_eq!(rt; machine.window(0x2000, 14), Some(arguments));
+    assert_eq!(rt; machine.window(0x1F_FFF8, 9), None);
+    Ok(())
+}
+
+#[test]
+fn laws_hold() {
+    laws::steps_compose();
+    laws::runs_compose();
+    laws::runs_are_determined();
+    laws::over_stays();
+    laws::runs_end();
+    laws::runs_are_computed();
+    laws::stubs_reach_their_functions();
+}
