@@ -1,24 +1,23 @@
 -- What each answer of the command shows.
-use Rattle.std.proofs.Common.{◌≡◌, ◌≢◌, ◌⊎◌, ◌↔◌, ℕ, ◌+◌, ◌<◌, min, Bool, true, false, cond, Option, Some, None, IfSome, IsSome, is_some, option_and_then, ◌&&◌, ◌==◌, List, [], ◌∷◌, ◌++◌, length, take, refl, ap, sym, ◌∙◌, subst, arith, inl, inr}
-use Rattle.std.proofs.lemmas.Bool.{cases_lt, lt-leb}
+use Rattle.std.proofs.Common.{◌≡◌, ◌≢◌, ◌⊎◌, ◌↔◌, ℕ, ◌+◌, ◌<◌, ◌≤◌, min, nat_lt, Bool, true, false, cond, Option, Some, None, IfSome, IsSome, is_some, List, [], ◌∷◌, ◌++◌, length, take, refl, ap, sym, ◌∙◌, subst, arith, inl, inr}
+use Rattle.std.proofs.lemmas.Bool.{lt-ltb}
+use Rattle.std.proofs.lemmas.Bool.Decides.{nat_tests}
+use Rattle.std.proofs.lemmas.List.{length-take, take_all}
 use Rattle.iop_base.specs.Counts.{HasCause, last_count}
 use Rattle.iop_base.specs.Piece.{Piece, Traced, Told, console_of, IsPartOf}
 use Rattle.iop_base.specs.Seen.{Seen, StopsShort, FailsAt, extended}
+use Rattle.iop_base.specs.declared.outcomes.Stop.{Stop}
+use Rattle.iop_base.specs.declared.outcomes.Stop.TheVariants.{Quiet, Budget, Fault}
 use Rattle.iop_base.proofs.Giving.{extended-nil, console_of-append}
 use Rattle.iop_ports.specs.Files.{FilesTold, IsAskedName, Asked, Untold, NoName, Named, asked_next}
 use Rattle.iop_trace.specs.Outs.{Leaves}
 use Rattle.iop_front.specs.declared.status.Status.{Status}
 use Rattle.iop_front.specs.declared.status.Status.TheVariants.{BadWords}
 use Rattle.iop_front.specs.Answers.{Answers, Outside, FilesRead, IsFileOf, IsNameAsked, HasWanted, refused, unread, read}
-use Rattle.iop_front.specs.Outcome.{Meets, MeetsCode, OpensAndReads, Refuses, bad_words_line, cannot_read_line, not_built_line, outcome_by, outcome_of_file, outcome_named, refusal}
-use Rattle.std.proofs.lemmas.List.{length-take, take_all}
-use Rattle.iop_front.specs.declared.irx.Parts.{Parts}
-use Rattle.iop_front.specs.Irx.{half_at, irx_parts}
-use Rattle.iop_front.specs.Plain.{PlainModule, plain_module, plain_by_parts, is_text_alone, all_may_stand, text_words}
-use Rattle.iop_front.specs.PlainRun.{run_lines}
+use Rattle.iop_front.specs.Outcome.{Meets, MeetsCode, OpensAndReads, Refuses, bad_words_line, cannot_read_line, too_long_line, outcome_by, outcome_of_file, outcome_named, refusal}
 use Rattle.iop_front.specs.Reading.{file_named}
-use Rattle.iop_front.specs.Statuses.{status_code, IsExitCode, IsCutCode}
-use Rattle.iop_front.proofs.AnswerLemmas.{Ended, without_memory, as_not_built, quietly, cut, ended}
+use Rattle.iop_front.specs.Statuses.{status_code, status_of, IsRunCode, IsRefusalCode, IsExitCode, IsCutCode}
+use Rattle.iop_front.proofs.AnswerLemmas.{Ended, without_memory, as_too_long, ran, cut, ended}
 
 -- pieces for the trace alone
 abbrev AreTraced : List Piece → Type 0
@@ -78,41 +77,58 @@ console_by : (failed : Bool) (old new : Seen) (pieces : List Piece) → AreTrace
 console_by true old new pieces traced h = short_console old new pieces traced h
 console_by false old new pieces traced h = whole_console old new pieces traced h
 
-lines_traced : (m : PlainModule) → AreTraced (run_lines m)
-unfolding run_lines
-lines_traced m = tt
-
 refusal_console : (line : List ℕ) (old new : Seen) → Refuses line old new → ConsoleSame old new
 refusal_console line old new h = console_by h.0 old new (Traced line ∷ []) tt h.1
 
-ended_console : {m : Option PlainModule} {status : Status} {old new : Seen} → Ended m status old new → ConsoleSame old new
-ended_console {old = old} {new = new} (without_memory e h) = record { taken = ap (λ (s : Seen). s.console) h; faults = ap (λ (s : Seen). s.console_faults) h }
-ended_console {old = old} {new = new} (as_not_built e h) = refusal_console not_built_line old new h
-ended_console {old = old} {new = new} (quietly {m = m} e h) = whole_console old new (run_lines m) (lines_traced m) h
-ended_console {old = old} {new = new} (cut {m = m} e h) = short_console old new (run_lines m) (lines_traced m) h
-
 -- how a file that was read was answered
-came : (file : List ℕ) (status : Status) (old new : Seen) → Meets (outcome_of_file file) status old new → Ended (plain_module file) status old new
-came file status old new h = ended (plain_module file) status old new h
+came : {name : List ℕ} (file : List ℕ) (status : Status) (old new : Seen) → Meets (outcome_of_file name file) status old new → Ended name status old new
+came {name} file status old new h = ended name file status old new h
 
--- the console gets nothing
-pub console : {named : Option (List ℕ)} {status : Status} {old new : Outside} → Answers named status old new → ConsoleSame old.sinks new.sinks
-console {old = old} {new = new} (refused told faults line) = refusal_console bad_words_line old.sinks new.sinks line
-console {old = old} {new = new} (unread {name = name} files cause line) = refusal_console (cannot_read_line name) old.sinks new.sinks line
-console {status = status} {old = old} {new = new} (read file was h) = ended_console (came file status old.sinks new.sinks h)
+run_code : (stop : Stop) → IsRunCode (status_code (status_of stop))
+run_code Quiet = inl refl
+run_code Budget = inr (inl refl)
+run_code (Fault kind pc) = inr (inr refl)
+
+-- a run's status is another than any of 20 and more
+low_code : {n : ℕ} → IsRunCode n → n < 20
+low_code h = elim h [ inl e ↦ omega (arith, e) | inr f ↦ elim f [ inl e ↦ omega (arith, e) | inr e ↦ omega (arith, e) ] ]
+
+not_refusal : {n : ℕ} → IsRefusalCode n → (n < 20) ⊎ (23 < n) → ⊥
+not_refusal h other = elim h [
+  | inl e ↦ elim other [ inl low ↦ omega (arith, e, low) | inr high ↦ omega (arith, e, high) ]
+  | inr f ↦ elim f [
+    | inl e ↦ elim other [ inl low ↦ omega (arith, e, low) | inr high ↦ omega (arith, e, high) ]
+    | inr e ↦ elim other [ inl low ↦ omega (arith, e, low) | inr high ↦ omega (arith, e, high) ]
+  ]
+]
+
+ran_low : {status : Status} (stop : Stop) → status ≡ status_of stop → status_code status < 20
+ran_low stop e = subst (λ (s : Status). status_code s < 20) (sym e) (low_code (run_code stop))
+
+-- a refusal writes nothing to the console
+ended_console : {name : List ℕ} {status : Status} {old new : Seen} → Ended name status old new → IsRefusalCode (status_code status) → ConsoleSame old new
+ended_console (without_memory e h) r = record { taken = ap (λ (s : Seen). s.console) h; faults = ap (λ (s : Seen). s.console_faults) h }
+ended_console {name = name} {old = old} {new = new} (as_too_long e h) r = refusal_console (too_long_line name) old new h
+ended_console (ran stop e h) r = absurd (not_refusal r (inl (ran_low stop e)))
+ended_console (cut pieces e h) r = absurd (not_refusal r (inr (omega (arith, ap status_code e))))
+
+pub console : {named : Option (List ℕ)} {status : Status} {old new : Outside} → Answers named status old new → IsRefusalCode (status_code status) → ConsoleSame old.sinks new.sinks
+console {old = old} {new = new} (refused told faults line) r = refusal_console bad_words_line old.sinks new.sinks line
+console {old = old} {new = new} (unread {name = name} files cause line) r = refusal_console (cannot_read_line name) old.sinks new.sinks line
+console {status = status} {old = old} {new = new} (read file was h) r = ended_console (came file status old.sinks new.sinks h) r
 
 -- 20, and its line
-other_code : {m : Option PlainModule} {status : Status} {old new : Seen} (n : ℕ) → Ended m status old new → n ≢ 30 → n ≢ 40 → n ≢ 0 → n ≢ 24 → status_code status ≡ n → ⊥
-other_code n (without_memory e h) a b c d s = a (sym s ∙ ap status_code e)
-other_code n (as_not_built e h) a b c d s = b (sym s ∙ ap status_code e)
-other_code n (quietly e h) a b c d s = c (sym s ∙ ap status_code e)
-other_code n (cut e h) a b c d s = d (sym s ∙ ap status_code e)
+other_code : {name : List ℕ} {status : Status} {old new : Seen} (n : ℕ) → Ended name status old new → 20 ≤ n → n ≢ 30 → n ≢ 23 → n ≢ 24 → status_code status ≡ n → ⊥
+other_code n (without_memory e h) low a b c s = a (sym s ∙ ap status_code e)
+other_code n (as_too_long e h) low a b c s = b (sym s ∙ ap status_code e)
+other_code n (ran stop e h) low a b c s = omega (arith, low, s, ran_low stop e)
+other_code n (cut pieces e h) low a b c s = c (sym s ∙ ap status_code e)
 
-not_twenty : {m : Option PlainModule} {status : Status} {old new : Seen} → Ended m status old new → status_code status ≡ 20 → ⊥
-not_twenty e s = other_code 20 e (λ x. omega arith) (λ x. omega arith) (λ x. omega arith) (λ x. omega arith) s
+not_twenty : {name : List ℕ} {status : Status} {old new : Seen} → Ended name status old new → status_code status ≡ 20 → ⊥
+not_twenty e s = other_code 20 e (omega arith) (λ x. omega arith) (λ x. omega arith) (λ x. omega arith) s
 
-not_twenty_two : {m : Option PlainModule} {status : Status} {old new : Seen} → Ended m status old new → status_code status ≡ 22 → ⊥
-not_twenty_two e s = other_code 22 e (λ x. omega arith) (λ x. omega arith) (λ x. omega arith) (λ x. omega arith) s
+not_twenty_two : {name : List ℕ} {status : Status} {old new : Seen} → Ended name status old new → status_code status ≡ 22 → ⊥
+not_twenty_two e s = other_code 22 e (omega arith) (λ x. omega arith) (λ x. omega arith) (λ x. omega arith) s
 
 pub bad_words : {named : Option (List ℕ)} {status : Status} {old new : Outside} → Answers named status old new → (status_code status ≡ 20) ↔ (named ≡ None)
 bad_words (refused told faults line) = (λ e. refl, λ e. refl)
@@ -195,91 +211,101 @@ no_stray {old = old} {new = new} (unread {name = name} files cause line) before 
 no_stray {old = old} {new = new} (read {name = name} file was h) before after p q wanted =
     no_stray_by name old.faults old.told new.told was.files before after p q wanted
 
--- 40, and its line
-ended_not_built : {m : Option PlainModule} {status : Status} {old new : Seen} → Ended m status old new → status_code status ≡ 40 → Refuses not_built_line old new
-ended_not_built (without_memory e h) s = absurd (omega (arith, ap status_code e, s))
-ended_not_built (as_not_built e h) s = h
-ended_not_built (quietly e h) s = absurd (omega (arith, ap status_code e, s))
-ended_not_built (cut e h) s = absurd (omega (arith, ap status_code e, s))
+-- 23, and its line
+ended_too_long : {name : List ℕ} {status : Status} {old new : Seen} → Ended name status old new → status_code status ≡ 23 → Refuses (too_long_line name) old new
+ended_too_long (without_memory e h) s = absurd (omega (arith, ap status_code e, s))
+ended_too_long (as_too_long e h) s = h
+ended_too_long (ran stop e h) s = absurd (omega (arith, ran_low stop e, s))
+ended_too_long (cut pieces e h) s = absurd (omega (arith, ap status_code e, s))
 
-pub not_built_told : {named : Option (List ℕ)} {status : Status} {old new : Outside} → Answers named status old new → status_code status ≡ 40 → Refuses not_built_line old.sinks new.sinks
-not_built_told (refused told faults line) s = absurd (omega arith)
-not_built_told (unread files cause line) s = absurd (omega arith)
-not_built_told {status = status} {old = old} {new = new} (read file was h) s = ended_not_built (came file status old.sinks new.sinks h) s
+pub too_long_told : {named : Option (List ℕ)} {status : Status} {old new : Outside} → Answers named status old new → (name : List ℕ) → named ≡ Some name → status_code status ≡ 23 → Refuses (too_long_line name) old.sinks new.sinks
+too_long_told (refused told faults line) name e s = absurd (omega arith)
+too_long_told (unread files cause line) name e s = absurd (omega arith)
+too_long_told {status = status} {old = old} {new = new} (read {name = asked} file was h) name e s =
+    subst (λ (n : List ℕ). Refuses (too_long_line n) old.sinks new.sinks) (same_some asked name e) (ended_too_long (came file status old.sinks new.sinks h) s)
 
--- 24, and the trace's count
-cut_fault : (m : PlainModule) (old new : Seen) → Leaves true old new (run_lines m) → HasCause old.trace_faults new.trace_faults
-cut_fault m old new h = (fault old new (run_lines m) (lines_traced m) h).0
+-- 24, and the counts of the sinks
+failed_sink : (piece : Piece) (old new : Seen) → FailsAt piece old new → HasCause old.trace_faults new.trace_faults ⊎ HasCause old.console_faults new.console_faults
+failed_sink (Traced bytes) old new f = inl f.0
+failed_sink (Told bytes) old new f = inr f.0
 
-ended_cut : {m : Option PlainModule} {status : Status} {old new : Seen} → Ended m status old new → status_code status ≡ 24 → HasCause old.trace_faults new.trace_faults
+ended_cut : {name : List ℕ} {status : Status} {old new : Seen} → Ended name status old new → status_code status ≡ 24 → HasCause old.trace_faults new.trace_faults ⊎ HasCause old.console_faults new.console_faults
 ended_cut (without_memory e h) s = absurd (omega (arith, ap status_code e, s))
-ended_cut (as_not_built e h) s = absurd (omega (arith, ap status_code e, s))
-ended_cut (quietly e h) s = absurd (omega (arith, ap status_code e, s))
-ended_cut {old = old} {new = new} (cut {m = m} e h) s = cut_fault m old new h
+ended_cut (as_too_long e h) s = absurd (omega (arith, ap status_code e, s))
+ended_cut (ran stop e h) s = absurd (omega (arith, ran_low stop e, s))
+ended_cut {old = old} {new = new} (cut pieces e h) s = failed_sink h.piece old new h.fails
 
-pub cut_cause : {named : Option (List ℕ)} {status : Status} {old new : Outside} → Answers named status old new → status_code status ≡ 24 → HasCause old.sinks.trace_faults new.sinks.trace_faults
+pub cut_cause : {named : Option (List ℕ)} {status : Status} {old new : Outside} → Answers named status old new → status_code status ≡ 24 → HasCause old.sinks.trace_faults new.sinks.trace_faults ⊎ HasCause old.sinks.console_faults new.sinks.console_faults
 cut_cause (refused told faults line) s = absurd (omega arith)
 cut_cause (unread files cause line) s = absurd (omega arith)
 cut_cause {status = status} {old = old} {new = new} (read file was h) s = ended_cut (came file status old.sinks new.sinks h) s
 
-ended_shows : {m : Option PlainModule} {status : Status} {old new : Seen} → Ended m status old new → new.trace_faults ≢ old.trace_faults → (status_code status ≡ 24) ⊎ (status_code status ≡ 40)
+ended_shows : {name : List ℕ} {status : Status} {old new : Seen} → Ended name status old new → new.trace_faults ≢ old.trace_faults → IsCutCode (status_code status)
 ended_shows (without_memory e h) ne = absurd (ne (ap (λ (s : Seen). s.trace_faults) h))
-ended_shows (as_not_built e h) ne = inr (ap status_code e)
-ended_shows (quietly e h) ne = absurd (ne h.1.trace)
-ended_shows (cut e h) ne = inl (ap status_code e)
+ended_shows (as_too_long e h) ne = inr (inr (inr (ap status_code e)))
+ended_shows (ran stop e h) ne = absurd (ne h.trace)
+ended_shows (cut pieces e h) ne = inl (ap status_code e)
 
 pub cut_shows : {named : Option (List ℕ)} {status : Status} {old new : Outside} → Answers named status old new → new.sinks.trace_faults ≢ old.sinks.trace_faults → IsCutCode (status_code status)
 cut_shows (refused told faults line) ne = inr (inl refl)
 cut_shows (unread files cause line) ne = inr (inr (inl refl))
-cut_shows {status = status} {old = old} {new = new} (read file was h) ne =
-    elim (ended_shows (came file status old.sinks new.sinks h) ne) [ inl e ↦ inl e | inr e ↦ inr (inr (inr e)) ]
+cut_shows {status = status} {old = old} {new = new} (read file was h) ne = ended_shows (came file status old.sinks new.sinks h) ne
 
-ended_code : {m : Option PlainModule} {status : Status} {old new : Seen} → Ended m status old new → IsExitCode (status_code status)
-ended_code (without_memory e h) = inr (inr (inr (inr (inl (ap status_code e)))))
-ended_code (as_not_built e h) = inr (inr (inr (inr (inr (ap status_code e)))))
-ended_code (quietly e h) = inl (ap status_code e)
-ended_code (cut e h) = inr (inr (inr (inl (ap status_code e))))
+ended_console_shows : {name : List ℕ} {status : Status} {old new : Seen} → Ended name status old new → new.console_faults ≢ old.console_faults → status_code status ≡ 24
+ended_console_shows (without_memory e h) ne = absurd (ne (ap (λ (s : Seen). s.console_faults) h))
+ended_console_shows {name = name} {old = old} {new = new} (as_too_long e h) ne = absurd (ne (refusal_console (too_long_line name) old new h).faults)
+ended_console_shows (ran stop e h) ne = absurd (ne h.console)
+ended_console_shows (cut pieces e h) ne = ap status_code e
+
+pub console_cut_shows : {named : Option (List ℕ)} {status : Status} {old new : Outside} → Answers named status old new → new.sinks.console_faults ≢ old.sinks.console_faults → status_code status ≡ 24
+console_cut_shows {old = old} {new = new} (refused told faults line) ne = absurd (ne (refusal_console bad_words_line old.sinks new.sinks line).faults)
+console_cut_shows {old = old} {new = new} (unread {name = name} files cause line) ne = absurd (ne (refusal_console (cannot_read_line name) old.sinks new.sinks line).faults)
+console_cut_shows {status = status} {old = old} {new = new} (read file was h) ne = ended_console_shows (came file status old.sinks new.sinks h) ne
+
+-- there is no other status
+ended_code : {name : List ℕ} {status : Status} {old new : Seen} → Ended name status old new → IsExitCode (status_code status)
+ended_code (without_memory e h) = inr (inr (inr (ap status_code e)))
+ended_code (as_too_long e h) = inr (inl (inr (inr (ap status_code e))))
+ended_code (ran stop e h) = inl (subst (λ (s : Status). IsRunCode (status_code s)) (sym e) (run_code stop))
+ended_code (cut pieces e h) = inr (inr (inl (ap status_code e)))
 
 pub exit_codes : {named : Option (List ℕ)} {status : Status} {old new : Outside} → Answers named status old new → IsExitCode (status_code status)
-exit_codes (refused told faults line) = inr (inl refl)
-exit_codes (unread files cause line) = inr (inr (inl refl))
+exit_codes (refused told faults line) = inr (inl (inl refl))
+exit_codes (unread files cause line) = inr (inl (inr (inl refl)))
 exit_codes {status = status} {old = old} {new = new} (read file was h) = ended_code (came file status old.sinks new.sinks h)
 
 -- 30: no memory, and nothing written
-ended_memory : {m : Option PlainModule} {status : Status} {old new : Seen} → Ended m status old new → status_code status ≡ 30 → new ≡ old
+ended_memory : {name : List ℕ} {status : Status} {old new : Seen} → Ended name status old new → status_code status ≡ 30 → new ≡ old
 ended_memory (without_memory e h) s = h
-ended_memory (as_not_built e h) s = absurd (omega (arith, ap status_code e, s))
-ended_memory (quietly e h) s = absurd (omega (arith, ap status_code e, s))
-ended_memory (cut e h) s = absurd (omega (arith, ap status_code e, s))
+ended_memory (as_too_long e h) s = absurd (omega (arith, ap status_code e, s))
+ended_memory (ran stop e h) s = absurd (omega (arith, ran_low stop e, s))
+ended_memory (cut pieces e h) s = absurd (omega (arith, ap status_code e, s))
 
 pub memory : {named : Option (List ℕ)} {status : Status} {old new : Outside} → Answers named status old new → status_code status ≡ 30 → new.sinks ≡ old.sinks
 memory (refused told faults line) s = absurd (omega arith)
 memory (unread files cause line) s = absurd (omega arith)
 memory {status = status} {old = old} {new = new} (read file was h) s = ended_memory (came file status old.sinks new.sinks h) s
 
--- what stands past the longest plain file does not matter
-not_plain : (file : List ℕ) (parts : Option Parts) → 4096 < length file → option_and_then (plain_by_parts file) parts ≡ None
-not_plain file None long = refl
-not_plain file (Some parts) long =
-    ap (λ b. cond (b && half_at file 48 == 0 && is_text_alone parts && all_may_stand (text_words file parts)) (Some (record { words = text_words file parts; gp = parts.info.gp })) None)
-    (lt-leb (length file) 4096 long)
-
-plain_front : (file : List ℕ) → plain_module (take 4097 file) ≡ plain_module file
-plain_front file =
-    elim (cases_lt 4096 (length file)) [
-      | inl long ↦ not_plain (take 4097 file) (irx_parts (take 4097 file)) (omega (arith, length-take 4097 file)) ∙ sym (not_plain file (irx_parts file) long)
-      | inr short ↦ ap plain_module (take_all 4097 file (omega arith))
-    ]
+-- what stands past the longest file does not matter
+front_by : (b : Bool) (name file : List ℕ) → nat_lt 4194304 (length file) ≡ b → outcome_of_file name (take 4194305 file) ≡ outcome_of_file name file
+front_by true name file e =
+    let long : 4194304 < length file = grind (arith, nat_tests, e) in
+    let front = lt-ltb 4194304 (length (take 4194305 file)) (omega (arith, length-take 4194305 file, long)) in
+    ap (λ b. outcome_by b name (take 4194305 file)) front ∙ sym (ap (λ b. outcome_by b name file) e)
+front_by false name file e =
+    let short : length file ≤ 4194305 = grind (arith, nat_tests, e) in
+    ap (outcome_of_file name) (take_all 4194305 file short)
 
 refusal_meets : (refused_status : Status) (line : List ℕ) (failed : Bool) (old new : Seen) → Leaves failed old new (Traced line ∷ []) → Meets (refusal refused_status line) refused_status old new
 refusal_meets refused_status line true old new h = inr (true, refl, h)
 refusal_meets refused_status line false old new h = inr (false, refl, h)
 
-read_outcome : (name file : List ℕ) (status : Status) (told : FilesTold) (old new : Seen) → file ≡ take 4097 (file_named told name) → Meets (outcome_of_file file) status old new → Meets (outcome_named told (Some name)) status old new
+read_outcome : (name file : List ℕ) (status : Status) (told : FilesTold) (old new : Seen) → file ≡ take 4194305 (file_named told name) → Meets (outcome_of_file name file) status old new → Meets (outcome_named told (Some name)) status old new
 read_outcome name file status told old new e h =
-    subst (λ m. Meets (outcome_by m) status old new) (ap plain_module e ∙ plain_front (file_named told name)) h
+    let whole = file_named told name in
+    subst (λ o. Meets o status old new) (ap (outcome_of_file name) e ∙ front_by (nat_lt 4194304 (length whole)) name whole refl) h
 
-file_is : (name file : List ℕ) (told : FilesTold) (o : Option FilesTold) → o ≡ Some told → IsFileOf name file o → file ≡ take 4097 (file_named told name)
+file_is : (name file : List ℕ) (told : FilesTold) (o : Option FilesTold) → o ≡ Some told → IsFileOf name file o → file ≡ take 4194305 (file_named told name)
 file_is name file told o e h = subst (λ (x : Option FilesTold). IsFileOf name file x) e h
 
 -- the outcome of the command

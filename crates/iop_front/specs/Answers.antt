@@ -55,4 +55,4 @@ pub record HasReadFile (name file : List ℕ) (old new : Outside) : Type 0 where
 pub data Answers : Option (List ℕ) → Status → Outside → Outside → Type 0 where
   refused : {old new : Outside} → new.told ≡ old.told → new.faults ≡ old.faults → Refuses bad_words_line old.sinks new.sinks → Answers None BadWords old new
   unread : {name : List ℕ} {old new : Outside} → FilesRead name old.faults old.told new.told → HasCause old.faults new.faults → Refuses (cannot_read_line name) old.sinks new.sinks → Answers (Some name) CannotRead old new
-  read : {name : List ℕ} {status : Status} {old new : Outside} (file : List ℕ) → HasReadFile name file old new → Meets (outcome_of_file file) status old.sinks new.sinks → Answers (Some name) status old new
+  read : {name : List ℕ} {status : Status} {old new : Outside} (file : List ℕ) → HasReadFile name file old new → Meets (outcome_of_file name file) status old.sinks new.sinks → Answers (Some name) status old new

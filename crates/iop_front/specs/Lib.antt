@@ -1,10 +1,6 @@
 pub mod Answers
 pub mod Command
-pub mod Irx
+pub mod Loading
 pub mod Outcome
-pub mod Plain
-pub mod PlainModules
-pub mod PlainRun
 pub mod Reading
-pub mod Running
 pub mod Statuses

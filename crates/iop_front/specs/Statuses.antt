@@ -3,7 +3,7 @@ use Rattle.std.specs.Prelude.{◌≡◌, ◌⊎◌, ℕ}
 use Rattle.iop_base.specs.declared.outcomes.Stop.{Stop}
 use Rattle.iop_base.specs.declared.outcomes.Stop.TheVariants as stops
 use Rattle.iop_front.specs.declared.status.Status.{Status}
-use Rattle.iop_front.specs.declared.status.Status.TheVariants.{Quiet, Budget, GuestFault, BadWords, CannotRead, SinkFault, NoMemory, NotBuilt}
+use Rattle.iop_front.specs.declared.status.Status.TheVariants.{Quiet, Budget, GuestFault, BadWords, CannotRead, TooLong, SinkFault, NoMemory}
 
 abbrev pub status_code : Status → ℕ
 status_code Quiet = 0
@@ -11,9 +11,9 @@ status_code Budget = 10
 status_code GuestFault = 11
 status_code BadWords = 20
 status_code CannotRead = 22
+status_code TooLong = 23
 status_code SinkFault = 24
 status_code NoMemory = 30
-status_code NotBuilt = 40
 
 -- of a run that ended so, where no write failed
 abbrev pub status_of : Stop → Status
@@ -21,10 +21,17 @@ status_of stops.Quiet = Quiet
 status_of stops.Budget = Budget
 status_of (stops.Fault fault pc) = GuestFault
 
--- the statuses that are built: there is no budget yet that a module could use up, and none that faults runs
+abbrev pub IsRunCode : ℕ → Type 0
+IsRunCode code = (code ≡ 0) ⊎ ((code ≡ 10) ⊎ (code ≡ 11))
+
+-- a refusal's
+abbrev pub IsRefusalCode : ℕ → Type 0
+IsRefusalCode code = (code ≡ 20) ⊎ ((code ≡ 22) ⊎ (code ≡ 23))
+
+-- all that a command answers
 abbrev pub IsExitCode : ℕ → Type 0
-IsExitCode code = (code ≡ 0) ⊎ ((code ≡ 20) ⊎ ((code ≡ 22) ⊎ ((code ≡ 24) ⊎ ((code ≡ 30) ⊎ (code ≡ 40)))))
+IsExitCode code = IsRunCode code ⊎ (IsRefusalCode code ⊎ ((code ≡ 24) ⊎ (code ≡ 30)))
 
 -- the statuses where a write may have failed: of a run that was cut, and of the refusals
 abbrev pub IsCutCode : ℕ → Type 0
-IsCutCode code = (code ≡ 24) ⊎ ((code ≡ 20) ⊎ ((code ≡ 22) ⊎ (code ≡ 40)))
+IsCutCode code = (code ≡ 24) ⊎ IsRefusalCode code

@@ -2,13 +2,14 @@
 #![tactic(auto)]
 
 mod answering;
+mod buffers;
 mod command;
-mod irx;
-mod plain;
-mod ram_bus;
+mod modules;
 mod reading;
 mod running;
 mod status;
+#[cfg(test)]
+mod test_files;
 #[cfg(test)]
 mod tests;
 mod top;

@@ -16,12 +16,12 @@ pub enum Status {
     BadWords,
     /// 22: a file cannot be read.
     CannotRead,
+    /// 23: a file has more than 4,194,304 bytes.
+    TooLong,
     /// 24: a write to the console or the trace failed.
     SinkFault,
     /// 30: no memory was left. Nothing was written.
     NoMemory,
-    /// 40: the file is none that the command runs yet.
-    NotBuilt,
 }
 
 impl Status {
@@ -35,9 +35,9 @@ impl Status {
             Status::GuestFault => 11,
             Status::BadWords => 20,
             Status::CannotRead => 22,
+            Status::TooLong => 23,
             Status::SinkFault => 24,
             Status::NoMemory => 30,
-            Status::NotBuilt => 40,
         }
     }
 }

@@ -1,20 +1,21 @@
-ghost use Rattle.std.specs.Prelude.{◌≡◌, ◌≢◌, ◌↔◌, ℕ, List, Some, None, IfSome, map, string_bytes};
+ghost use Rattle.std.specs.Prelude.{◌≡◌, ◌≢◌, ◌↔◌, ◌⊎◌, ℕ, List, Some, None, IfSome, map, string_bytes};
 ghost use Rattle.iop_base.specs.Counts.{HasCause};
 ghost use Rattle.iop_ports.specs.Files.{FilesTold};
 ghost use Rattle.iop_trace.specs.Outs.{sinks};
 ghost use Rattle.iop_front.specs.Answers.{FilesRead, IsNameAsked, HasWanted};
 ghost use Rattle.iop_front.specs.Command.{module_named};
-ghost use Rattle.iop_front.specs.Outcome.{Refuses, MeetsCode, bad_words_line, cannot_read_line, not_built_line, outcome_of};
-ghost use Rattle.iop_front.specs.Statuses.{IsExitCode, IsCutCode};
+ghost use Rattle.iop_front.specs.Outcome.{Refuses, MeetsCode, bad_words_line, cannot_read_line, too_long_line, outcome_of};
+ghost use Rattle.iop_front.specs.Statuses.{IsRefusalCode, IsExitCode, IsCutCode};
 
 use crate::answering::answer;
 use iop_ports::{Files, Sink};
 use std::alloc::Global;
 
-/// The command `iop`: opens, reads and runs the module that its words name, writes the lines of the run
-/// to the trace, and answers the exit status (`Status::code`).
+/// The command `iop`: opens and reads the file that its words name, loads its module, links it to the
+/// kernel's libraries and runs it. It writes the lines of the run to the trace and the module's texts to the
+/// console, and answers the exit status (`Status::code`).
 ///
-/// The words are without the program's name. At most 4,097 bytes of the file are read.
+/// The words are without the program's name. At most 4,194,305 bytes of the file are read.
 pub fn iop_main<F: Files, C: Sink, T: Sink>(
     alloc: Global,
     words: &[String],
@@ -43,29 +44,30 @@ pub fn iop_main<F: Files, C: Sink, T: Sink>(
         (sinks C.taken C.faults T.taken T.faults console.old trace.old)
         (sinks C.taken C.faults T.taken T.faults console.new trace.new) }
 
-    // The file that the words name is opened, no other, and at most 4,097 bytes of it are read.
+    // The file that the words name is opened, no other, and at most 4,194,305 bytes of it are read.
     ensures read { (name : List ℕ) → module_named (map string_bytes words.now) ≡ Some name
         → FilesRead name (F.faults files.old) (F.told files.old) (F.told files.new) }
     ensures asked { result ≡ 22 → IfSome (F.told files.new) (IsNameAsked (module_named (map string_bytes words.now)) (F.faults files.old)) }
     ensures no_stray { (before after : FilesTold) → F.told files.old ≡ Some before → F.told files.new ≡ Some after
         → HasWanted (module_named (map string_bytes words.now)) before → after.strays ≡ before.strays }
 
-    // 40: only after the file was read without a fault.
-    ensures not_built_line { result ≡ 40 → Refuses not_built_line
+    // 23: its line.
+    ensures too_long_line { (name : List ℕ) → module_named (map string_bytes words.now) ≡ Some name → result ≡ 23
+        → Refuses (too_long_line name)
         (sinks C.taken C.faults T.taken T.faults console.old trace.old)
         (sinks C.taken C.faults T.taken T.faults console.new trace.new) }
 
-    // 24: only where a write to the trace failed; where one failed, the status is 24 or a refusal's.
-    ensures cut { result ≡ 24 → HasCause (T.faults trace.old) (T.faults trace.new) }
+    // 24: only where a write failed; where one to the console failed, always, and where one to the trace
+    // failed, 24 or a refusal's.
+    ensures cut { result ≡ 24 → HasCause (T.faults trace.old) (T.faults trace.new) ⊎ HasCause (C.faults console.old) (C.faults console.new) }
     ensures cut_shows { T.faults trace.new ≢ T.faults trace.old → IsCutCode result }
+    ensures console_cut_shows { C.faults console.new ≢ C.faults console.old → result ≡ 24 }
 
-    // The console gets nothing.
-    ensures console { C.taken console.new ≡ C.taken console.old }
-    ensures console_faults { C.faults console.new ≡ C.faults console.old }
+    // A refusal writes nothing to the console.
+    ensures console { IsRefusalCode result → C.taken console.new ≡ C.taken console.old }
 
-    // 30: no memory. The trace gets nothing then.
-    ensures memory { result ≡ 30 → T.taken trace.new ≡ T.taken trace.old }
-    ensures memory_faults { result ≡ 30 → T.faults trace.new ≡ T.faults trace.old }
+    // 30: no memory. Nothing is written then.
+    ensures memory { result ≡ 30 → sinks C.taken C.faults T.taken T.faults console.new trace.new ≡ sinks C.taken C.faults T.taken T.faults console.old trace.old }
 
     // There is no other answer.
     ensures statuses { IsExitCode result }

@@ -1,6 +1,5 @@
 use Rattle.std.proofs.Common.{sym, ◌∙◌, ap, subst}
-use Rattle.iop_base.specs.Seen.{Seen}
-use Rattle.iop_front.specs.Statuses.{IsExitCode, IsCutCode}
+use Rattle.iop_front.specs.Statuses.{IsRefusalCode, IsExitCode, IsCutCode}
 use Rattle.iop_front.proofs.CauseLemmas as causes
 use Rattle.iop_front.proofs.top.iop_main.Goals as goal
 
@@ -33,8 +32,8 @@ returns-clause-asked g c = λ e. causes.asked c.answer.ensures.answers (sym c.co
 pub returns-clause-no_stray : goal.returns-clause-no_stray
 returns-clause-no_stray g c = causes.no_stray c.answer.ensures.answers
 
-pub returns-clause-not_built_line : goal.returns-clause-not_built_line
-returns-clause-not_built_line g c = λ e. causes.not_built_told c.answer.ensures.answers (sym c.code.ensures ∙ e)
+pub returns-clause-too_long_line : goal.returns-clause-too_long_line
+returns-clause-too_long_line g c = λ name named e. causes.too_long_told c.answer.ensures.answers name named (sym c.code.ensures ∙ e)
 
 pub returns-clause-cut : goal.returns-clause-cut
 returns-clause-cut g c = λ e. causes.cut_cause c.answer.ensures.answers (sym c.code.ensures ∙ e)
@@ -42,17 +41,14 @@ returns-clause-cut g c = λ e. causes.cut_cause c.answer.ensures.answers (sym c.
 pub returns-clause-cut_shows : goal.returns-clause-cut_shows
 returns-clause-cut_shows g c = λ ne. subst IsCutCode (sym c.code.ensures) (causes.cut_shows c.answer.ensures.answers ne)
 
-pub returns-clause-console : goal.returns-clause-console
-returns-clause-console g c = (causes.console c.answer.ensures.answers).taken
+pub returns-clause-console_cut_shows : goal.returns-clause-console_cut_shows
+returns-clause-console_cut_shows g c = λ ne. c.code.ensures ∙ causes.console_cut_shows c.answer.ensures.answers ne
 
-pub returns-clause-console_faults : goal.returns-clause-console_faults
-returns-clause-console_faults g c = (causes.console c.answer.ensures.answers).faults
+pub returns-clause-console : goal.returns-clause-console
+returns-clause-console g c = λ r. (causes.console c.answer.ensures.answers (subst IsRefusalCode c.code.ensures r)).taken
 
 pub returns-clause-memory : goal.returns-clause-memory
-returns-clause-memory g c = λ e. ap (λ (s : Seen). s.trace) (causes.memory c.answer.ensures.answers (sym c.code.ensures ∙ e))
-
-pub returns-clause-memory_faults : goal.returns-clause-memory_faults
-returns-clause-memory_faults g c = λ e. ap (λ (s : Seen). s.trace_faults) (causes.memory c.answer.ensures.answers (sym c.code.ensures ∙ e))
+returns-clause-memory g c = λ e. causes.memory c.answer.ensures.answers (sym c.code.ensures ∙ e)
 
 pub returns-clause-statuses : goal.returns-clause-statuses
 returns-clause-statuses g c = subst IsExitCode (sym c.code.ensures) (causes.exit_codes c.answer.ensures.answers)
