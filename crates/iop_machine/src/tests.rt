@@ -40,11 +40,13 @@ fn runs_in_parts(rt: HostRuntime) -> Result<(), Fail> {
     let mut console = MemSink::new(alloc, 100, Vec::new(alloc))?;
     let mut trace = MemSink::new(alloc, 200, Vec::new(alloc))?;
     for (budget, stop, now) in [
-        (0, Stop::Budget, 0),
+        (0_u8, Stop::Budget, 0),
         (4, Stop::Budget, 4),
         (100, Stop::Quiet, 11),
         (100, Stop::Quiet, 11),
     ] {
+        assert!(rt; machine.now() <= 100);
+        let budget = u64::from(budget);
         assert_eq!(rt; machine.run(budget, &mut console, &mut trace), Ok(stop));
         assert_eq!(rt; machine.now(), now);
     }
