@@ -28,7 +28,7 @@ const PLAIN: [u32; 2] = [RETURN, 0x0000_1021];
 
 /// The words of a module that prints `hi` by function `index` of `sysmem`, version `version`, and returns what
 /// its last word leaves in `$v0`.
-fn hello(version: u32, index: u32, last: u32) -> [u32; 15] {
+fn hello(version: u32, index: u16, last: u32) -> [u32; 15] {
     [
         0x41E0_0000,
         0,
@@ -36,7 +36,7 @@ fn hello(version: u32, index: u32, last: u32) -> [u32; 15] {
         0x6D73_7973,
         0x0000_6D65,
         RETURN,
-        0x2400_0000 + index,
+        0x2400_0000 + u32::from(index),
         0,
         0,
         0x03E0_8021,
@@ -218,7 +218,9 @@ fn refuses_files(rt: HostRuntime) -> Result<(), Fail> {
     let mut cut = irx_file(&rt, alloc, &of_words(&PLAIN))?;
     cut.truncate(151);
     let mut for_another = irx_file(&rt, alloc, &of_words(&PLAIN))?;
-    for_another[18] = 9;
+    if let Some(machine) = for_another.get_mut(18) {
+        *machine = 9;
+    }
     let mut unpaired = of_words(&PLAIN);
     unpaired.entries = &[[0, 5], [4, 5]];
     for file in [

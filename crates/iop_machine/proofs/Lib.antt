@@ -9,3 +9,4 @@ pub mod Reaching
 pub mod Lasting
 pub mod LoadingLemmas
 pub mod StubLemmas
+pub mod Keeping

@@ -49,3 +49,11 @@ abbrev pub StubsReachTheirFunctions : Type 0
 StubsReachTheirFunctions =
     (memory : Memory) (stub : Stub) (c : Cpu) → IsSound memory → Contains memory.live stub → phys (length memory.ram) c.pc ≡ Some stub.at → c.in_slot ≡ false
     → row memory.ram c ≡ Goes (record c { pc = c.next; next = stub_target c.pc stub; in_slot = true }) None
+
+-- once no module waits, no stub becomes live: those that are live were live before, and memory stays sound
+pub record KeepsStubs (w : World) (k : ℕ) : Type 0 where
+  pub live : All (Contains w.memory.live) (steps k w).world.memory.live
+  pub sound : IsSound w.memory → IsSound (steps k w).world.memory
+
+abbrev pub RunsKeepStubs : Type 0
+RunsKeepStubs = (w : World) (k : ℕ) → w.waiting ≡ None → KeepsStubs w k

@@ -1,7 +1,7 @@
 //! Facts about the definitions that no call computes. Each is the contract of a function that does
 //! nothing.
 
-ghost use Rattle.iop_machine.specs.Laws.{StepsCompose, RunsCompose, RunsAreDetermined, OverStays, RunsEnd, RunsAreComputed, StubsReachTheirFunctions};
+ghost use Rattle.iop_machine.specs.Laws.{StepsCompose, RunsCompose, RunsAreDetermined, OverStays, RunsEnd, RunsAreComputed, StubsReachTheirFunctions, RunsKeepStubs};
 
 /// The steps of a run are those of its first part, and then those of the rest.
 pub fn steps_compose()
@@ -36,4 +36,9 @@ pub fn runs_are_computed()
 /// A live stub that is executed goes to its function, after the instruction in its delay slot.
 pub fn stubs_reach_their_functions()
     ensures { StubsReachTheirFunctions }
+{}
+
+/// Once the module that waits was loaded, no stub becomes live, and memory stays sound.
+pub fn runs_keep_stubs()
+    ensures { RunsKeepStubs }
 {}

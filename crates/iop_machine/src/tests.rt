@@ -70,4 +70,5 @@ fn laws_hold() {
     laws::runs_end();
     laws::runs_are_computed();
     laws::stubs_reach_their_functions();
+    laws::runs_keep_stubs();
 }

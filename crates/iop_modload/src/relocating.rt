@@ -1,7 +1,4 @@
-ghost use Rattle.std.specs.Prelude.{◌≡◌, ◌-◌, ◌^◌, ◌<◌, ◌≤◌, ◌++◌, IfOk, MatchResult, None, length, replicate};
-ghost use Rattle.irx_elf.specs.Parts.{IsSound};
-ghost use Rattle.irx_reloc.specs.Entries.{all_entries};
-ghost use Rattle.irx_reloc.specs.Fitting.{misfit};
+ghost use Rattle.std.specs.Prelude.{◌≡◌, ◌-◌, ◌^◌, ◌<◌, ◌≤◌, ◌++◌, IfOk, length, replicate};
 ghost use Rattle.iop_modload.specs.Loading.{loadable_of, relocated_file};
 
 use crate::loadable::Loadable;
@@ -28,6 +25,8 @@ fn fill(image: &mut [u8], bytes: &[u8])
 /// - `ILLEGAL_OBJECT` exactly where the file breaks a rule of IRX files, or a relocation entry a rule of
 ///   its own.
 /// - `NO_MEMORY` exactly where the image has more bytes than `room`.
+///
+/// What `room` holds once the loan has ended is not promised.
 pub fn relocate_file<'a>(file: &[u8], base: u32, room: &'a mut [u8]) -> Result<Loadable<'a>, Code>
     requires { length file.now < 2 ^ 32 }
     ensures image { loadable_of result ≡ relocated_file file.now base (length room.old) }
