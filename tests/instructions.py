@@ -104,10 +104,14 @@ def dumped(lines):
 
 
 def compare(ours, theirs):
-    """Compares two listings, and tells where they differ."""
+    """Compares two listings of the words, and tells where they differ."""
+    names = [name for name in FORMS for _ in range(EACH)]
+    if not len(names) == len(ours) == len(theirs):
+        print(f"of {len(names)} words {len(ours)} are listed here and {len(theirs)} by objdump")
+        print(f"0 passed, {len(FORMS)} failed")
+        return False
     failed = set()
-    lines = zip([name for name in FORMS for _ in range(EACH)], ours, theirs, strict=True)
-    for name, our, their in lines:
+    for name, our, their in zip(names, ours, theirs):
         if our != their:
             failed.add(name)
             print(f"here:    {our}\nobjdump: {their}")
