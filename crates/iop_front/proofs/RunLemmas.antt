@@ -1,5 +1,5 @@
 -- The run of the machine and the line that ends it, as the outcome of the run.
-use Rattle.std.proofs.Common.{◌≡◌, ℕ, suc, ◌<◌, Bool, true, false, not, cond, Option, List, [], ◌∷◌, ◌++◌, refl, ap, sym, ◌∙◌, subst, append-nil}
+use Rattle.std.proofs.Common.{◌≡◌, ℕ, suc, Bool, true, false, not, cond, Option, List, [], ◌∷◌, refl, ap, sym, ◌∙◌, subst, append-nil}
 use Rattle.iop_base.specs.Piece.{Piece, Traced}
 use Rattle.iop_base.specs.Seen.{Seen, Adds, HasNoFault, StopsShort, extended}
 use Rattle.iop_base.specs.Text.{line_bytes}

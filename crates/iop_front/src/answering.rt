@@ -10,12 +10,12 @@ ghost use Rattle.iop_front.specs.Outcome.{Meets, outcome_of_module, outcome_of_f
 
 use crate::buffers::{buffer, buffer_or_none};
 use crate::command::module_word;
-use crate::modules::{MOST_BYTES, module_of_file};
+use crate::modules::module_of_file;
 use crate::reading::read_file;
 use crate::running::run_to_end;
 use crate::status::Status;
 use arrayvec::ArrayVec;
-use iop_machine::Machine;
+use iop_machine::{MOST_BYTES, Machine};
 use iop_ports::{Files, Sink};
 use iop_trace::send;
 use std::alloc::Global;

@@ -5,14 +5,8 @@ ghost use Rattle.iop_machine.specs.Images.{Fits, module_of};
 ghost use Rattle.iop_front.specs.Loading.{module_of_file};
 
 use iop_base::Code;
-use iop_machine::Image;
+use iop_machine::{FIRST_BASE, Image};
 use iop_modload::relocate_file;
-
-/// Where the module is loaded.
-const BASE: u32 = 0x1_0000;
-
-/// The most bytes that an image may have: all memory behind the kernel's area.
-pub(crate) const MOST_BYTES: usize = 0x1F_0000;
 
 /// The module that a file is, by its word of the command line, or the code with which it is refused. Its
 /// image is relocated in `room`.
@@ -28,7 +22,7 @@ pub(crate) fn module_of_file<'a>(
     ensures module { module_of result ≡ module_of_file name.now file.now }
     ensures fits { IfOk (module_of result) Fits }
 {
-    let loadable = relocate_file(file, BASE, room)?;
+    let loadable = relocate_file(file, FIRST_BASE, room)?;
     Ok(Image {
         name: name.as_bytes(),
         bytes: loadable.image,

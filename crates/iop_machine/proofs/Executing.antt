@@ -1,19 +1,19 @@
 -- What the execution of an instruction leads to that calls a service.
-use Rattle.std.proofs.Common.{◌≡◌, ℕ, Option, Some, None, List, [], ◌++◌, refl, ap, sym, ◌∙◌, subst}
+use Rattle.std.proofs.Common.{◌≡◌, ℕ, Option, Some, None, ap, sym, ◌∙◌, subst}
 use Rattle.iop_base.specs.Seen.{Seen, Gives}
 use Rattle.iop_base.proofs.Giving.{gives_then}
 use Rattle.iop_base.specs.declared.outcomes.GuestFault.TheVariants as faults
 use Rattle.iop_exec.specs.declared.cpu.Cpu.{Cpu}
 use Rattle.iop_exec.specs.declared.cpu.Event.{Event}
 use Rattle.iop_exec.specs.declared.cpu.Event.TheVariants as events
-use Rattle.iop_exec.specs.Row.{Row, Goes, Serves, Faults, row, moved}
+use Rattle.iop_exec.specs.Row.{Row, Goes, Serves, Faults, row}
 use Rattle.iop_stubs.specs.Stubs.{Memory}
 use Rattle.iop_machine.specs.declared.loader.Loaded.{Loaded}
 use Rattle.iop_machine.specs.declared.service.Service.{Service}
 use Rattle.iop_machine.specs.Services.{service_of, calls, serves, faults_with}
 use Rattle.iop_machine.specs.Stepping.{performs}
 use Rattle.iop_machine.specs.Storing.{Performs}
-use Rattle.iop_machine.specs.World.{World, Stepped}
+use Rattle.iop_machine.specs.World.{World}
 use Rattle.iop_machine.proofs.Serving.{row_serves}
 
 module _ (w : World) (m : Loaded) (event : Event) (code : ℕ) (cpu' : Cpu) (memory' : Memory) (a b : Seen) where

@@ -2,15 +2,13 @@
 use Rattle.std.proofs.Common.{◌≡◌, ℕ, zero, suc, ◌+◌, ◌≤◌, nat_le, Bool, true, false, cond, Option, Some, None, List, length, refl, ap, sym, ◌∙◌, subst, arith, not}
 use Rattle.std.specs.Prelude.{All, Contains}
 use Rattle.std.proofs.lemmas.Bool.Decides.{nat_tests}
-use Rattle.std.proofs.lemmas.List.{length-replicate}
 use Rattle.std.proofs.lemmas.List.Elements.{All-filter, All-contains_itself}
 use Rattle.iop_base.specs.Keeping.{kept_of}
 use Rattle.iop_base.specs.Numbers.{width_bytes, bytes_of}
-use Rattle.iop_base.specs.Places.{phys, range_at, access_at}
+use Rattle.iop_base.specs.Places.{phys, range_at}
 use Rattle.iop_base.specs.declared.outcomes.Kept as fates
 use Rattle.iop_base.specs.declared.outcomes.Kept.TheVariants.{Resident, Removed, Removable}
 use Rattle.iop_base.specs.declared.outcomes.Stop.{Stop}
-use Rattle.iop_base.specs.declared.outcomes.Width.{Width}
 use Rattle.iop_exec.specs.declared.cpu.Cpu.{Cpu}
 use Rattle.iop_exec.specs.Row.{Row, Goes, Serves, Faults, Storing, reg, row}
 use Rattle.iop_stubs.specs.Binding.{IsSound}

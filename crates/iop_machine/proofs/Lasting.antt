@@ -1,11 +1,10 @@
 -- What lasts over whole runs.
-use Rattle.std.proofs.Common.{◌≡◌, ℕ, zero, suc, ◌+◌, ◌-◌, ◌<◌, ◌≤◌, Bool, true, false, cond, Option, Some, None, Result, List, [], ◌∷◌, ◌++◌, refl, ap, sym, ◌∙◌, arith, subst, append-nil, append_assoc, zero-add, add-zero, add-suc, inl, inr, nat_lt}
+use Rattle.std.proofs.Common.{◌≡◌, ℕ, zero, suc, ◌+◌, ◌-◌, ◌<◌, ◌≤◌, Bool, true, false, cond, Option, Some, None, Result, List, [], ◌++◌, refl, ap, sym, ◌∙◌, arith, subst, append-nil, append_assoc, add-zero, add-suc, inl, inr, nat_lt}
 use Rattle.std.specs.Prelude.{◌⊎◌}
 use Rattle.std.proofs.lemmas.Bool.Decides.{nat_tests}
 use Rattle.iop_base.specs.Piece.{Piece}
 use Rattle.iop_base.specs.declared.codes.Code.{Code}
 use Rattle.iop_base.specs.declared.outcomes.Stop.{Stop}
-use Rattle.iop_base.specs.declared.outcomes.Stop.TheVariants.{Budget}
 use Rattle.iop_machine.specs.declared.loader.Loader.{Loader}
 use Rattle.iop_machine.specs.declared.loader.Loader.TheVariants.{Dormant, Ready, Running}
 use Rattle.iop_machine.specs.Images.{Image}

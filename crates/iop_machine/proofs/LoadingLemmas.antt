@@ -1,5 +1,5 @@
 -- How a module comes into memory.
-use Rattle.std.proofs.Common.{◌≡◌, ℕ, Option, Some, None, Result, Ok, Err, List, [], ◌∷◌, ◌++◌, length, get_or, replicate, suc, refl, ap, sym, ◌∙◌, subst}
+use Rattle.std.proofs.Common.{◌≡◌, ℕ, Option, Some, None, Result, Ok, Err, List, [], ◌∷◌, length, get_or, replicate, suc, refl, ap, ◌∙◌, subst}
 use Rattle.iop_base.specs.Seen.{Seen, Gives}
 use Rattle.iop_base.proofs.Giving.{gives_then}
 use Rattle.iop_base.specs.Keeping.{kept_of}
@@ -20,7 +20,7 @@ use Rattle.iop_machine.specs.declared.loader.Loaded.{Loaded}
 use Rattle.iop_machine.specs.declared.loader.Loader.TheVariants.{Dormant}
 use Rattle.iop_machine.specs.Images.{Image, cpu_at, first_base}
 use Rattle.iop_machine.specs.Services.{keeps, returns}
-use Rattle.iop_machine.specs.Loading.{with_kernel, copies, enters, enters_it, links_text, loads, boots, refuses}
+use Rattle.iop_machine.specs.Loading.{with_kernel, copies, enters, enters_it, loads, boots}
 use Rattle.iop_machine.specs.World.{World, beginning, zeros}
 
 -- no stub is live after a store where none was

@@ -1,16 +1,14 @@
 -- The execution of an instruction over the board, as over memory and what takes the lines.
-use Rattle.std.proofs.Common.{◌≡◌, ℕ, Option, Some, None, List, [], length, replicate, refl, ap, sym, ◌∙◌, subst}
+use Rattle.std.proofs.Common.{◌≡◌, Some, None, [], ap, sym, subst}
 use Rattle.iop_base.specs.Seen.{Seen, Gives}
-use Rattle.iop_base.proofs.Giving.{gives_none, gives_then}
-use Rattle.iop_base.specs.Piece.{Piece}
-use Rattle.iop_base.specs.Places.{range_at}
+use Rattle.iop_base.proofs.Giving.{gives_none}
 use Rattle.iop_exec.specs.declared.cpu.Cpu.{Cpu}
 use Rattle.iop_exec.specs.declared.cpu.Event.{Event}
-use Rattle.iop_exec.specs.Row.{Row, Goes, Serves, Faults, Storing}
+use Rattle.iop_exec.specs.Row.{Row, Goes, Serves, Faults}
 use Rattle.iop_exec.specs.Stepping.{Does}
-use Rattle.iop_stubs.specs.Stubs.{Memory, store_lines}
+use Rattle.iop_stubs.specs.Stubs.{Memory}
 use Rattle.iop_machine.specs.declared.board.Board.{Board}
-use Rattle.iop_machine.specs.Storing.{Stores, Performs, memory_after, lines_after}
+use Rattle.iop_machine.specs.Storing.{Stores, Performs}
 
 module _ {L : Type 0} (seen : L → Seen) where
   -- the borrows of the board stay

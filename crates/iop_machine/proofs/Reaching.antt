@@ -1,15 +1,15 @@
 -- How a run goes on from step to step, and how it ends.
-use Rattle.std.proofs.Common.{◌≡◌, ℕ, zero, suc, ◌+◌, ◌-◌, ◌<◌, ◌≤◌, Bool, true, false, cond, Option, Some, None, List, [], ◌∷◌, ◌++◌, refl, ap, sym, ◌∙◌, arith, subst, append-nil}
+use Rattle.std.proofs.Common.{◌≡◌, ℕ, zero, suc, ◌+◌, ◌-◌, ◌<◌, ◌≤◌, Bool, true, false, Option, Some, None, List, ◌++◌, refl, ap, sym, ◌∙◌, arith, subst, append-nil}
 use borrow.Author.Count.{below_more}
 use Rattle.iop_base.specs.Piece.{Piece, console_of, trace_of}
-use Rattle.iop_base.specs.Seen.{Seen, Adds, Gives, HasNoFault, StopsShort, FailsAt, extended}
+use Rattle.iop_base.specs.Seen.{Seen, Adds, Gives, StopsShort, FailsAt, extended}
 use Rattle.iop_base.proofs.Giving.{gives_none, gives_then, gives_whole, gives_short, nothing_fails, gives_names}
 use Rattle.iop_base.specs.Piece.{Traced, Told}
 use Rattle.iop_base.specs.declared.outcomes.Stop.{Stop}
 use Rattle.iop_machine.specs.declared.machine.Progress.{Progress}
 use Rattle.iop_machine.specs.declared.machine.Progress.TheVariants.{Stopped, Prepared, Executed}
 use Rattle.iop_machine.specs.Advancing.{Advances, Went}
-use Rattle.iop_machine.specs.Running.{GoesOn, Ends, Finishes, Faults}
+use Rattle.iop_machine.specs.Running.{GoesOn, Finishes, Faults}
 use Rattle.iop_machine.specs.Stepping.{step, steps, executes, executed, one_if, stop_at, stops_by}
 use Rattle.iop_machine.specs.World.{World, Stepped, silent, and_then}
 use Rattle.iop_machine.proofs.Stepping.{rest, rest_step, clock_step}

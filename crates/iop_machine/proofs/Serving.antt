@@ -1,5 +1,5 @@
 -- A service is called by a syscall alone, which moves on and changes nothing else.
-use Rattle.std.proofs.Common.{◌≡◌, ℕ, Bool, true, false, cond, ◌&&◌, Option, Some, None, List, refl, sym, ap, ◌∙◌}
+use Rattle.std.proofs.Common.{◌≡◌, ℕ, Bool, true, false, cond, ◌&&◌, Option, Some, None, List}
 use Rattle.iop_base.specs.Places.{loaded, stored}
 use Rattle.iop_base.specs.declared.outcomes.GuestFault.TheVariants.{BranchInSlot}
 use Rattle.iop_base.specs.declared.outcomes.Width.{Width}
@@ -9,7 +9,7 @@ use Rattle.iop_isa.specs.declared.instruction.Inst.TheVariants.{Sll, Srl, Sra, S
 use Rattle.iop_isa.specs.Instructions.{inst_of, is_jump}
 use Rattle.iop_exec.specs.declared.cpu.Cpu.{Cpu}
 use Rattle.iop_exec.specs.Arithmetic.{stored_left, stored_right}
-use Rattle.iop_exec.specs.Row.{Row, Goes, Serves, Faults, Storing, moved, sums, loads, stores, stores_as, stores_made, stores_over, aligned, place, reg, word_round, effect_of, executed, executed_as, row, row_of}
+use Rattle.iop_exec.specs.Row.{Serves, Faults, Storing, moved, sums, loads, stores, stores_as, stores_made, stores_over, aligned, place, reg, word_round, effect_of, executed, executed_as, row, row_of}
 
 sums_never : (c : Cpu) (n : ℕ) (o : Option ℕ) (code : ℕ) (after : Cpu) → sums c n o ≡ Serves code after → ⊥
 sums_never c n None code after e = cc e

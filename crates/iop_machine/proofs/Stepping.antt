@@ -1,13 +1,12 @@
 -- What a step is, by the machine's state.
-use Rattle.std.proofs.Common.{◌≡◌, ℕ, zero, suc, ◌+◌, ◌-◌, ◌<◌, ◌≤◌, Bool, true, false, cond, Option, Some, None, Result, Ok, Err, List, [], ◌∷◌, ◌++◌, length, refl, ap, sym, ◌∙◌, arith, subst}
+use Rattle.std.proofs.Common.{◌≡◌, ℕ, zero, suc, ◌+◌, ◌<◌, ◌≤◌, Bool, true, false, cond, Option, Some, None, Result, Ok, Err, List, [], length, refl, ap, sym, ◌∙◌, arith, subst}
 use Rattle.iop_base.specs.Piece.{Piece}
 use Rattle.iop_base.specs.declared.codes.Code.{Code}
 use Rattle.iop_base.specs.declared.outcomes.Kept.{Kept}
 use Rattle.iop_base.specs.declared.outcomes.Kept.TheVariants.{Resident, Removed, Removable}
 use Rattle.iop_base.specs.Keeping.{kept_of}
 use Rattle.iop_base.specs.declared.outcomes.Stop.{Stop}
-use Rattle.iop_base.specs.declared.outcomes.Stop.TheVariants.{Quiet, Budget}
-use Rattle.iop_base.specs.declared.tell.Line.TheVariants.{Run}
+use Rattle.iop_base.specs.declared.outcomes.Stop.TheVariants.{Budget}
 use Rattle.iop_exec.specs.declared.cpu.Cpu.{Cpu}
 use Rattle.iop_exec.specs.Row.{Row, Goes, Serves, Faults, Storing, reg, row}
 use Rattle.iop_linker.specs.Linking.{links}
@@ -16,16 +15,15 @@ use Rattle.iop_stubs.specs.declared.live_stub.Stub.{Stub}
 use Rattle.iop_machine.specs.declared.loader.Loaded.{Loaded}
 use Rattle.iop_machine.specs.declared.loader.Loader.{Loader}
 use Rattle.iop_machine.specs.declared.loader.Loader.TheVariants.{Dormant, Ready, Running}
-use Rattle.iop_machine.specs.declared.machine.Progress.{Progress}
 use Rattle.iop_machine.specs.declared.machine.Progress.TheVariants.{Stopped, Prepared, Executed}
 use Rattle.iop_machine.specs.declared.service.Service.{Service}
 use Rattle.iop_machine.specs.declared.service.Service.TheVariants.{Kprintf, ThreadReturn, ModuleReturn}
 use Rattle.iop_machine.specs.Advancing.{Advances, Went}
 use Rattle.iop_machine.specs.Loading.{boots, loads, loaded_of, enters, copies, with_kernel}
 use Rattle.iop_machine.specs.Images.{Image, first_base}
-use Rattle.iop_machine.specs.Services.{service_of, calls, serves, returns, keeps}
+use Rattle.iop_machine.specs.Services.{service_of, calls, returns, keeps}
 use Rattle.iop_machine.specs.Stepping.{performs, stores_it, step, steps_unless, steps_from, steps_by, executes, executes_by, stops_by, stop_at}
-use Rattle.iop_machine.specs.World.{World, Stepped, silent, tells, ticked}
+use Rattle.iop_machine.specs.World.{World, Stepped, silent, ticked}
 
 pub step_over : (w : World) (stop : Stop) → w.over ≡ Some stop → step w ≡ silent w
 unfolding step

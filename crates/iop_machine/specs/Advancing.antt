@@ -1,7 +1,6 @@
--- What one call of the machine's step did, by what it answers.
-use Rattle.std.specs.Prelude.{◌≡◌, ℕ, Bool, true, false, Option, Some, None, List, []}
+-- What one call of the machine's step did.
+use Rattle.std.specs.Prelude.{◌≡◌, ℕ, true, false, Some, None, List, []}
 use Rattle.iop_base.specs.Piece.{Piece}
-use Rattle.iop_base.specs.declared.outcomes.Stop.{Stop}
 use Rattle.iop_machine.specs.declared.machine.Progress.{Progress}
 use Rattle.iop_machine.specs.declared.machine.Progress.TheVariants.{Stopped, Prepared, Executed}
 use Rattle.iop_machine.specs.Stepping.{step, executes, stop_at}
@@ -13,10 +12,7 @@ pub record Went (left : ℕ) (old new : World) (gives : List Piece → Type 0) :
   pub world : new ≡ (step old).world
   pub pieces : gives (step old).pieces
 
--- how many steps of a machine, at most, execute no instruction until it is over
-abbrev pub preparations : World → ℕ
-preparations w = 0
-
+-- by what it answers
 abbrev pub Advances : Progress → ℕ → World → World → (List Piece → Type 0) → Type 0
 Advances (Stopped stop) left old new gives = (stop_at old left ≡ Some stop) × (new ≡ old) × gives []
 Advances Prepared left old new gives = Went left old new gives × (executes old ≡ false)

@@ -1,5 +1,5 @@
 -- A module that can be loaded, and what the kernel hands it.
-use Rattle.std.specs.Prelude.{ℕ, ◌+◌, ◌-◌, ◌*◌, false, ◌≡◌, ◌≤◌, Result, Ok, Err, List, [], ◌∷◌, ◌++◌, length, replicate}
+use Rattle.std.specs.Prelude.{ℕ, ◌+◌, ◌*◌, false, ◌≤◌, Result, Ok, Err, List, [], ◌∷◌, ◌++◌, length, replicate}
 use Rattle.iop_base.specs.Numbers.{wrapped, bytes_of}
 use Rattle.iop_base.specs.declared.codes.Code.{Code}
 use Rattle.iop_exec.specs.declared.cpu.Cpu.{Cpu}

@@ -1,5 +1,5 @@
 -- What the laws on runs and on live stubs say.
-use Rattle.std.specs.Prelude.{◌≡◌, ℕ, ◌+◌, ◌/◌, ◌*◌, ◌^◌, ◌≤◌, true, false, Some, None, List, [], ◌++◌, length, Contains, All}
+use Rattle.std.specs.Prelude.{◌≡◌, ℕ, ◌+◌, ◌/◌, ◌*◌, ◌^◌, ◌≤◌, true, false, Some, None, ◌++◌, length, Contains, All}
 use Rattle.iop_base.specs.Numbers.{wrapped}
 use Rattle.iop_base.specs.Places.{phys}
 use Rattle.iop_base.specs.declared.outcomes.Stop.{Stop}
@@ -10,7 +10,7 @@ use Rattle.iop_stubs.specs.Stubs.{Memory}
 use Rattle.iop_stubs.specs.declared.live_stub.Stub.{Stub}
 use Rattle.iop_machine.specs.Running.{Ends}
 use Rattle.iop_machine.specs.Stepping.{steps, run_of}
-use Rattle.iop_machine.specs.World.{World, Stepped, silent}
+use Rattle.iop_machine.specs.World.{World, silent}
 
 -- the steps of a run are those of its first part and then those of the rest
 abbrev pub StepsCompose : Type 0

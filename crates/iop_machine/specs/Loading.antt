@@ -1,6 +1,6 @@
 -- How a module is loaded. That the first module stands behind the kernel's area, and how it is begun, is this
 -- project's own profile; the codes are those of ps2sdk's kerr.h.
-use Rattle.std.specs.Prelude.{ℕ, ◌+◌, ◌-◌, Option, Some, None, Result, Ok, Err, List, [], ◌∷◌, length, ℤ, pos}
+use Rattle.std.specs.Prelude.{None, Result, Ok, Err, List, [], ◌∷◌, length, pos}
 use Rattle.iop_base.specs.Numbers.{with_bytes}
 use Rattle.iop_base.specs.declared.codes.Code.{Code}
 use Rattle.iop_base.specs.declared.codes.TheConstants.Code.{ILLEGAL_OBJECT, LINK_ERROR, NO_MEMORY}

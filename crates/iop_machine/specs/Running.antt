@@ -1,13 +1,12 @@
 -- What holds of every machine, and what the runs of one give: this project's profile.
-use Rattle.std.specs.Prelude.{◌≡◌, ℕ, suc, ◌+◌, ◌-◌, ◌<◌, ◌≤◌, Bool, true, false, Option, Some, None, IfSome, IfOk, List, [], ◌∷◌, ◌++◌}
-use Rattle.iop_base.specs.Piece.{Piece}
-use Rattle.iop_base.specs.Seen.{Seen, Adds, Gives, HasNoFault, StopsShort}
+use Rattle.std.specs.Prelude.{◌≡◌, ℕ, suc, ◌-◌, ◌<◌, ◌≤◌, Some, None, IfSome, IfOk, []}
+use Rattle.iop_base.specs.Seen.{Seen, Adds, HasNoFault, StopsShort}
 use Rattle.iop_base.specs.declared.outcomes.Stop.{Stop}
 use Rattle.iop_machine.specs.declared.loader.Loaded.{Loaded}
 use Rattle.iop_machine.specs.declared.loader.Loader.{Loader}
 use Rattle.iop_machine.specs.declared.loader.Loader.TheVariants.{Dormant, Ready, Running}
-use Rattle.iop_machine.specs.Images.{Image, Fits, first_base}
-use Rattle.iop_machine.specs.Stepping.{step, steps, executed, stop_at}
+use Rattle.iop_machine.specs.Images.{Fits, first_base}
+use Rattle.iop_machine.specs.Stepping.{steps, executed, stop_at}
 use Rattle.iop_machine.specs.World.{World}
 
 -- a loaded module stands in memory behind the kernel's area

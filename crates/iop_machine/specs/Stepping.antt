@@ -1,5 +1,5 @@
 -- The steps of the machine, and its whole runs: this project's profile.
-use Rattle.std.specs.Prelude.{ℕ, zero, suc, ◌+◌, ◌-◌, Bool, true, false, Option, Some, None, Result, List, [], ◌∷◌, ◌++◌}
+use Rattle.std.specs.Prelude.{ℕ, zero, suc, ◌+◌, ◌-◌, Bool, true, false, Option, Some, None, Result, List, [], ◌++◌}
 use Rattle.iop_base.specs.Piece.{Piece}
 use Rattle.iop_base.specs.declared.codes.Code.{Code}
 use Rattle.iop_base.specs.declared.outcomes.Stop.{Stop}

@@ -1,6 +1,5 @@
 //! Memory as the processor reaches it, and the execution of one instruction.
 
-ghost use Rattle.std.specs.Prelude.{◌≡◌};
 ghost use Rattle.iop_exec.specs.Row.{row};
 ghost use Rattle.iop_machine.specs.Storing.{Performs};
 

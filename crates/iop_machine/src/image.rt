@@ -1,6 +1,12 @@
+/// The physical place where the first module's image is loaded: behind the kernel's area.
+pub const FIRST_BASE: u32 = 0x1_0000;
+
+/// How many bytes an image may have at most: all memory behind the kernel's area.
+pub const MOST_BYTES: usize = 0x1F_0000;
+
 /// A module that can be loaded: its relocated image, and what its file says of it.
 ///
-/// It fits into memory where its name has at most 255 bytes, and its image at most 0x1F0000. Its text is no
+/// It fits into memory where its name has at most 255 bytes, and its image at most `MOST_BYTES`. Its text is no
 /// longer than its image.
 #[derive(Clone, Copy, Debug)]
 pub struct Image<'a> {

@@ -13,5 +13,5 @@ mod strings;
 #[cfg(test)]
 mod tests;
 
-pub use image::Image;
+pub use image::{FIRST_BASE, Image, MOST_BYTES};
 pub use machine::{Machine, WriteFault};

@@ -14,7 +14,7 @@ ghost use Rattle.iop_machine.specs.Advancing.{Advances};
 
 use crate::arguments::{ARGUMENTS, ARGUMENTS_LEN, argument_block, module_start};
 use crate::board::perform;
-use crate::image::Image;
+use crate::image::{FIRST_BASE, Image};
 use crate::kernel_area::write_kernel_area;
 use crate::loader::{Loaded, Loader};
 use crate::service::Service;
@@ -28,9 +28,6 @@ use iop_stubs::Guest;
 use iop_trace::Out;
 use std::alloc::{AllocError, Global};
 use std::marker::Model;
-
-/// Where the first module's image is loaded.
-const FIRST_BASE: u32 = 0x1_0000;
 
 /// The sizes of blocks are multiples of it.
 const UNIT: u32 = 256;

@@ -1,4 +1,4 @@
-use Rattle.std.proofs.Common.{sym, ◌∙◌, ap, subst}
+use Rattle.std.proofs.Common.{sym, ◌∙◌, subst}
 use Rattle.iop_front.specs.Statuses.{IsRefusalCode, IsExitCode, IsCutCode}
 use Rattle.iop_front.proofs.CauseLemmas as causes
 use Rattle.iop_front.proofs.top.iop_main.Goals as goal

@@ -1,8 +1,5 @@
-use Rattle.std.proofs.Common.{◌*◌, ◌≡◌, ◌∙◌, ap, sym, refl, arith, subst, Some}
-use Rattle.iop_base.specs.Numbers.{bytes_of}
-use Rattle.iop_base.specs.Seen.{Gives}
+use Rattle.std.proofs.Common.{◌*◌, ◌≡◌, ◌∙◌, ap, arith}
 use Rattle.iop_base.proofs.Giving.{gives_none, gives_then}
-use Rattle.iop_machine.specs.KernelArea.{kernel_word, kernel_area}
 use Rattle.iop_machine.proofs.Area.{with_words, area_begins, area_goes_on, area_lines, area_is}
 use Rattle.iop_machine.proofs.kernel_area.write_kernel_area.Goals as goal
 

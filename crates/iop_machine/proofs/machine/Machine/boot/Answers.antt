@@ -1,4 +1,4 @@
-use Rattle.std.proofs.Common.{◌≡◌, ap, sym, refl, subst, Result, Ok, Err, Some, None}
+use Rattle.std.proofs.Common.{◌≡◌, ap, sym, refl, subst, Result, Ok, Err, None}
 use Rattle.std.specs.Prelude.{option_map}
 use Rattle.iop_base.specs.Seen.{Gives}
 use Rattle.iop_base.specs.declared.codes.Code.{Code}

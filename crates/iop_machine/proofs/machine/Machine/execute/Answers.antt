@@ -1,4 +1,4 @@
-use Rattle.std.proofs.Common.{◌≡◌, ap, sym, ◌∙◌, refl, subst}
+use Rattle.std.proofs.Common.{◌≡◌, sym, ◌∙◌, refl, subst}
 use Rattle.iop_base.specs.Seen.{Gives}
 use Rattle.iop_exec.specs.Row.{row}
 use Rattle.iop_machine.specs.Stepping.{performs}

@@ -1,4 +1,4 @@
-use Rattle.std.proofs.Common.{◌≡◌, ℕ, ◌+◌, ◌<◌, sym, ◌∙◌, ap, arith, rules}
+use Rattle.std.proofs.Common.{◌≡◌, sym, ◌∙◌, ap, arith, rules}
 use Rattle.iop_base.proofs.Giving.{gives_names}
 use Rattle.iop_machine.proofs.Reaching.{reached_none, prepared_more, executed_more, some_left, rest_prepared, rest_executed, time_prepared, time_executed, finished, faulted, advance_names}
 use Rattle.iop_machine.proofs.machine.Machine.run.Goals as goal

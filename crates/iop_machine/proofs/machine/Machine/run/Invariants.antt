@@ -1,4 +1,4 @@
-use Rattle.std.proofs.Common.{ℕ, ◌+◌, ◌≤◌, ◌<◌, ◌^◌}
+use Rattle.std.proofs.Common.{ℕ, ◌+◌, ◌<◌, ◌^◌}
 use Rattle.iop_trace.specs.Outs.{out_seen}
 use Rattle.iop_machine.proofs.Reaching.{Reached}
 use Rattle.iop_machine.proofs.Stepping.{rest}
