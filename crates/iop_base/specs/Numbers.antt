@@ -21,6 +21,10 @@ wrapped n = n % 2 ^ 32
 abbrev pub signed : ℕ → ℕ → ℤ
 signed bits n = if nat_lt n (2 ^ (bits - 1)) then pos n else pos n -ℤ pos (2 ^ bits)
 
+-- a signed half as a word
+abbrev pub sign_extended : ℕ → ℕ
+sign_extended half = if nat_lt half 0x8000 then half else half + 0xFFFF0000
+
 abbrev pub width_bytes : Width → ℕ
 width_bytes Byte = 1
 width_bytes Half = 2
@@ -30,6 +34,12 @@ width_bytes Word = 4
 abbrev pub number_at : List ℕ → ℕ → ℕ → ℕ
 number_at memory p zero = 0
 number_at memory p (suc n) = slice_index memory p + 256 * number_at memory (p + 1) n
+
+unfoldable pub half_at : List ℕ → ℕ → ℕ
+half_at bytes p = number_at bytes p 2
+
+unfoldable pub word_at : List ℕ → ℕ → ℕ
+word_at bytes p = number_at bytes p 4
 
 -- the lowest n bytes of a number
 abbrev pub bytes_of : ℕ → ℕ → List ℕ

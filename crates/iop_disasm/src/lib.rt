@@ -2,7 +2,6 @@
 #![tactic(auto)]
 
 mod lines;
-mod spelling;
 #[cfg(test)]
 mod tests;
 mod text;

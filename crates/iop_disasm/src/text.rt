@@ -3,11 +3,10 @@
 ghost use Rattle.std.specs.Prelude.{◌≡◌, ◌+◌, ◌≤◌, ◌<◌, ◌++◌, codes, length};
 ghost use Rattle.arrayvec.specs.ArrayVec.{array_vec_len};
 ghost use Rattle.iop_base.specs.Text.{hex, hex_digit, hex_digits};
-ghost use Rattle.iop_disasm.specs.Spelling.{inst_bytes, spelled_out, operands_text, register, signed_half, bits_half, extended_half, branch_target, jump_target};
+ghost use Rattle.iop_disasm.specs.Spelling.{inst_bytes, operands_text, separator, operand_text, register, bits_half, extended_half, branch_target, jump_target};
 
-use crate::spelling::{Operands, Spelled, spell};
 use arrayvec::ArrayVec;
-use iop_isa::{Reg, Target26, decode};
+use iop_isa::{Fields, Operand, Reg, Spelling, Target26, spelling_of};
 use itoa::{Buffer, Integer};
 
 /// How many bytes there is room for in a text.
@@ -17,14 +16,14 @@ const TEXT_ROOM: usize = 64;
 pub(crate) type Text = ArrayVec<u8, TEXT_ROOM>;
 
 /// The text of a word as the instruction at the address `at`: its name, a space, and its operands with a
-/// comma between each two. It is no longer than 32 bytes.
+/// comma between each two. It is no longer than 40 bytes.
 ///
 /// A register is `$` and its number. Signed immediates, amounts to shift by and codes are decimal, the bits
 /// of an immediate are `0x` and 4 hexadecimal digits, and the target of a branch or a jump is its address in
 /// 8 hexadecimal digits. A word that is no instruction is `.word 0x` and its 8 digits.
 pub fn inst_text(word: u32, at: u32) -> ArrayVec<u8, 64>
     ensures bytes { result.items ≡ inst_bytes word at }
-    ensures short { array_vec_len result ≤ 32 }
+    ensures short { array_vec_len result ≤ 40 }
 {
     let mut text = ArrayVec::new();
     append_word(&mut text, word, at);
@@ -34,14 +33,15 @@ pub fn inst_text(word: u32, at: u32) -> ArrayVec<u8, 64>
 /// Appends the text of a word at an address.
 #[tactic(auto, unfolding(crate::specs::Spelling::inst_bytes))]
 pub(crate) fn append_word(text: &mut Text, word: u32, at: u32)
-    requires { array_vec_len text.old + 32 ≤ TEXT_ROOM }
+    requires { array_vec_len text.old + 40 ≤ TEXT_ROOM }
     ensures bytes { text.new.items ≡ text.old.items ++ inst_bytes word at }
-    ensures short { array_vec_len text.new ≤ array_vec_len text.old + 32 }
+    ensures short { array_vec_len text.new ≤ array_vec_len text.old + 40 }
 {
-    match decode(word) {
-        Some(inst) => {
-            let Spelled { name, operands } = spell(inst);
-            append_spelled(text, name, operands, at);
+    match spelling_of(word) {
+        Some(Spelling { name, operands }) => {
+            append(text, name);
+            append(text, b" ");
+            append_operands(text, operands, &Fields::of(word), at);
         }
         None => {
             append(text, b".word 0x");
@@ -50,77 +50,56 @@ pub(crate) fn append_word(text: &mut Text, word: u32, at: u32)
     }
 }
 
-/// Appends a name and its operands.
-fn append_spelled(text: &mut Text, name: &[u8], operands: Operands, at: u32)
+/// Appends the operands of the instruction at an address.
+fn append_operands(text: &mut Text, operands: &[Operand], fields: &Fields, at: u32)
     requires room { array_vec_len text.old + 32 ≤ TEXT_ROOM }
-    requires name { length name.now ≤ 7 }
-    ensures bytes { text.new.items ≡ text.old.items ++ name.now ++ codes " " ++ operands_text at operands }
+    requires few { length operands.now ≤ 3 }
+    ensures bytes { text.new.items ≡ text.old.items ++ operands_text at fields.now operands.now }
     ensures short { array_vec_len text.new ≤ array_vec_len text.old + 32 }
 {
-    append(text, name);
-    append(text, b" ");
-    append_operands(text, operands, at);
-}
-
-/// Appends the operands of the instruction at an address.
-fn append_operands(text: &mut Text, operands: Operands, at: u32)
-    requires { array_vec_len text.old + 24 ≤ TEXT_ROOM }
-    ensures bytes { text.new.items ≡ text.old.items ++ operands_text at operands }
-    ensures short { array_vec_len text.new ≤ array_vec_len text.old + 24 }
-{
-    match operands {
-        Operands::Three(a, b, c) => {
-            append_leading_two(text, a, b);
-            append_register(text, c);
+    if let Some((first, others)) = operands.split_first() {
+        append_operand(text, *first, fields, at);
+        for operand in others {
+            append_separator(text, *operand);
+            append_operand(text, *operand, fields, at);
         }
-        Operands::Two(a, b) => {
-            append_leading(text, a);
-            append_register(text, b);
-        }
-        Operands::One(a) => append_register(text, a),
-        Operands::Shift(rd, rt, sa) => {
-            append_leading_two(text, rd, rt);
-            append_number(text, sa.number());
-        }
-        Operands::Code(n) => append_number(text, n.number()),
-        Operands::Signed(rt, rs, imm) => {
-            append_leading_two(text, rt, rs);
-            append_signed(text, imm);
-        }
-        Operands::Bits(rt, rs, imm) => {
-            append_leading_two(text, rt, rs);
-            append_bits(text, imm);
-        }
-        Operands::Upper(rt, imm) => {
-            append_leading(text, rt);
-            append_bits(text, imm);
-        }
-        Operands::Place(rt, imm, rs) => {
-            append_leading(text, rt);
-            append_place(text, imm, rs);
-        }
-        Operands::BranchTwo(rs, rt, imm) => {
-            append_leading_two(text, rs, rt);
-            append_address(text, branch_target(at, imm));
-        }
-        Operands::BranchOne(rs, imm) => {
-            append_leading(text, rs);
-            append_address(text, branch_target(at, imm));
-        }
-        Operands::Jump(target) => append_address(text, jump_target(at, target)),
     }
 }
 
-/// Appends the place that a signed immediate and a register give.
-fn append_place(text: &mut Text, imm: u16, rs: Reg)
-    requires { array_vec_len text.old + 12 ≤ TEXT_ROOM }
-    ensures bytes { text.new.items ≡ text.old.items ++ signed_half imm ++ codes "(" ++ register rs ++ codes ")" }
-    ensures short { array_vec_len text.new ≤ array_vec_len text.old + 12 }
+/// Appends what stands before an operand that is not the first.
+fn append_separator(text: &mut Text, operand: Operand)
+    requires { array_vec_len text.old + 1 ≤ TEXT_ROOM }
+    ensures bytes { text.new.items ≡ text.old.items ++ separator operand }
+    ensures short { array_vec_len text.new ≤ array_vec_len text.old + 1 }
 {
-    append_signed(text, imm);
-    append(text, b"(");
-    append_register(text, rs);
-    append(text, b")");
+    match operand {
+        Operand::Base => {}
+        _ => append(text, b","),
+    }
+}
+
+/// Appends an operand of the instruction at an address.
+fn append_operand(text: &mut Text, operand: Operand, fields: &Fields, at: u32)
+    requires { array_vec_len text.old + 10 ≤ TEXT_ROOM }
+    ensures bytes { text.new.items ≡ text.old.items ++ operand_text at fields.now operand }
+    ensures short { array_vec_len text.new ≤ array_vec_len text.old + 10 }
+{
+    match operand {
+        Operand::Rd => append_register(text, fields.rd),
+        Operand::Rs => append_register(text, fields.rs),
+        Operand::Rt => append_register(text, fields.rt),
+        Operand::Sa => append_number(text, fields.sa.number()),
+        Operand::Code => append_number(text, fields.n.number()),
+        Operand::Signed => append_number(text, fields.imm.cast_signed()),
+        Operand::Bits => append_bits(text, fields.imm),
+        Operand::Label => append_address(text, branch_target(at, fields.imm)),
+        Operand::Target => append_address(text, jump_target(at, fields.target)),
+        Operand::Base => {
+            append(text, b"(");
+            append_register(text, fields.rs);
+            append(text, b")");
+        }
+    }
 }
 
 /// Where the branch at an address goes.
@@ -146,26 +125,6 @@ fn jump_target(at: u32, target: Target26) -> u32
     (at.wrapping_add(4) >> 28 << 28) + (target.number() << 2)
 }
 
-/// Appends two registers, with a comma behind each.
-fn append_leading_two(text: &mut Text, first: Reg, second: Reg)
-    requires { array_vec_len text.old + 10 ≤ TEXT_ROOM }
-    ensures bytes { text.new.items ≡ text.old.items ++ register first ++ codes "," ++ register second ++ codes "," }
-    ensures short { array_vec_len text.new ≤ array_vec_len text.old + 10 }
-{
-    append_leading(text, first);
-    append_leading(text, second);
-}
-
-/// Appends a register, with a comma behind it.
-fn append_leading(text: &mut Text, reg: Reg)
-    requires { array_vec_len text.old + 5 ≤ TEXT_ROOM }
-    ensures bytes { text.new.items ≡ text.old.items ++ register reg ++ codes "," }
-    ensures short { array_vec_len text.new ≤ array_vec_len text.old + 5 }
-{
-    append_register(text, reg);
-    append(text, b",");
-}
-
 /// Appends a register.
 fn append_register(text: &mut Text, reg: Reg)
     requires { array_vec_len text.old + 4 ≤ TEXT_ROOM }
@@ -174,15 +133,6 @@ fn append_register(text: &mut Text, reg: Reg)
 {
     append(text, b"$");
     append_number(text, reg.number());
-}
-
-/// Appends an immediate as a signed number.
-fn append_signed(text: &mut Text, imm: u16)
-    requires { array_vec_len text.old + 6 ≤ TEXT_ROOM }
-    ensures bytes { text.new.items ≡ text.old.items ++ signed_half imm }
-    ensures short { array_vec_len text.new ≤ array_vec_len text.old + 6 }
-{
-    append_number(text, imm.cast_signed());
 }
 
 /// Appends the bits of an immediate.

@@ -1,1 +1,1 @@
-mod Fields
+mod Formats

@@ -1,2 +1,4 @@
-pub mod Instructions
 pub mod Words
+pub mod Table
+pub mod Instructions
+pub mod Writing

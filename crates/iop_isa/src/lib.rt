@@ -3,12 +3,18 @@
 
 mod decoding;
 mod encoding;
+mod fields;
 mod instruction;
 mod operands;
+mod spelling;
+mod table;
 #[cfg(test)]
 mod tests;
 
 pub use decoding::decode;
 pub use encoding::encode;
+pub use fields::Fields;
 pub use instruction::Inst;
 pub use operands::{Code20, Reg, Target26};
+pub use spelling::{Spelling, spelling_of};
+pub use table::Operand;

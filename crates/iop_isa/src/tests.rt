@@ -1,6 +1,6 @@
 //! Words and their instructions.
 
-use crate::{Code20, Inst, Reg, Target26, decode, encode};
+use crate::{Code20, Inst, Operand, Reg, Target26, decode, encode, spelling_of};
 use std::test::Fail;
 
 /// Whether a word holds an instruction.
@@ -80,6 +80,18 @@ fn other_words_hold_none(rt: HostRuntime) -> Result<(), Fail> {
     for word in [0xFFFF_FFFF, 0x4000_0000, 0x0000_0001, 0x0402_0000] {
         assert_eq!(rt; decode(word), None);
     }
+    Ok(())
+}
+
+#[test]
+fn instructions_are_spelled(rt: HostRuntime) -> Result<(), Fail> {
+    let load = spelling_of(0x8FBF_003C).ok_or("none")?;
+    assert_eq!(rt; load.name, b"lw".as_slice());
+    assert_eq!(rt;
+        load.operands,
+        [Operand::Rt, Operand::Signed, Operand::Base].as_slice()
+    );
+    assert!(rt; spelling_of(0xFFFF_FFFF).is_none());
     Ok(())
 }
 

@@ -7,7 +7,9 @@ use Rattle.iop_base.specs.Numbers.{number_at, wrapped}
 use Rattle.iop_base.specs.Places.{phys, loaded}
 use Rattle.iop_base.specs.declared.outcomes.Width.TheVariants.{Word}
 use Rattle.iop_isa.specs.declared.instruction.Inst.TheVariants.{J}
-use Rattle.iop_isa.specs.Instructions.{inst_of, opcode_of, target_of}
+use Rattle.iop_isa.specs.Instructions.{inst_of}
+use Rattle.iop_isa.specs.Table.{row_of}
+use Rattle.iop_isa.specs.Words.{opcode_of, target_of}
 use Rattle.iop_exec.specs.declared.cpu.Cpu.{Cpu}
 use Rattle.iop_exec.specs.Row.{Goes, effect_of, jumped, jump_target, row}
 use Rattle.iop_exec.proofs.Rows.{executed_no_slot, row_some}
@@ -34,7 +36,7 @@ module _ (memory : Memory) (stub : Stub) (c : Cpu) (sound : IsSound memory) (has
       rw (aligned, place, fits) refl
 
   inst_is : inst_of (number_at memory.ram stub.at 4) ≡ Some (J (stub.target / 4))
-  unfolding inst_of
+  unfolding inst_of row_of
   inst_is =
       let word = number_at memory.ram stub.at 4 in
       let in_opcode : opcode_of word ≡ 2 = omega (arith, bound.jump, bound.target_near) in

@@ -1,0 +1,31 @@
+//! Numbers in bytes, and signed numbers.
+
+ghost use Rattle.std.specs.Prelude.{◌≡◌, ◌+◌, ◌≤◌, length};
+ghost use Rattle.iop_base.specs.Numbers.{half_at, word_at, sign_extended};
+
+use byteorder::{ByteOrder, LittleEndian};
+
+/// The half whose bytes stand at a place, the lowest first.
+#[tactic(auto, unfolding(crate::specs::Numbers::half_at))]
+pub fn half_at(bytes: &[u8], place: usize) -> u16
+    requires { place + 2 ≤ length bytes.now }
+    ensures { result ≡ half_at bytes.now place }
+{
+    LittleEndian::read_u16(&bytes[place..])
+}
+
+/// The word whose bytes stand at a place, the lowest first.
+#[tactic(auto, unfolding(crate::specs::Numbers::word_at))]
+pub fn word_at(bytes: &[u8], place: usize) -> u32
+    requires { place + 4 ≤ length bytes.now }
+    ensures { result ≡ word_at bytes.now place }
+{
+    LittleEndian::read_u32(&bytes[place..])
+}
+
+/// A signed half as a word.
+pub fn sign_extended(half: u16) -> u32
+    ensures { result ≡ sign_extended half }
+{
+    i32::from(half.cast_signed()).cast_unsigned()
+}

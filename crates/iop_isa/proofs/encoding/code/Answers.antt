@@ -1,6 +1,0 @@
-use Rattle.std.proofs.Common.{arith}
-use Rattle.iop_isa.proofs.Fields.{code_held}
-use Rattle.iop_isa.proofs.encoding.code.Goals as goal
-
-pub returns-clause-holds : goal.returns-clause-holds
-returns-clause-holds c = code_held _ c.args.function c.args.n (omega arith) (omega arith) (omega arith)

@@ -1,6 +1,0 @@
-use Rattle.std.proofs.Common.{arith}
-use Rattle.iop_isa.proofs.Fields.{jump_held}
-use Rattle.iop_isa.proofs.encoding.jump.Goals as goal
-
-pub returns-clause-holds : goal.returns-clause-holds
-returns-clause-holds c = jump_held _ c.args.opcode c.args.target (omega arith) (omega arith) (omega arith) (omega arith)
