@@ -21,9 +21,9 @@ wrapped n = n % 2 ^ 32
 abbrev pub signed : ℕ → ℕ → ℤ
 signed bits n = if nat_lt n (2 ^ (bits - 1)) then pos n else pos n -ℤ pos (2 ^ bits)
 
--- a signed half as a word
-abbrev pub sign_extended : ℕ → ℕ
-sign_extended half = if nat_lt half 0x8000 then half else half + 0xFFFF0000
+-- a signed number of so many bits as a word
+abbrev pub sign_extended : (bits n : ℕ) → ℕ
+sign_extended bits n = if nat_lt n (2 ^ (bits - 1)) then n else wrapped (n + (2 ^ 32 - 2 ^ bits))
 
 abbrev pub width_bytes : Width → ℕ
 width_bytes Byte = 1

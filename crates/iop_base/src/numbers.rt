@@ -1,6 +1,6 @@
 //! Numbers in bytes, and signed numbers.
 
-ghost use Rattle.std.specs.Prelude.{◌≡◌, ◌+◌, ◌≤◌, length};
+ghost use Rattle.std.specs.Prelude.{◌≡◌, ◌+◌, ◌<◌, ◌≤◌, length};
 ghost use Rattle.iop_base.specs.Numbers.{half_at, word_at, sign_extended};
 
 use byteorder::{ByteOrder, LittleEndian};
@@ -23,9 +23,15 @@ pub fn word_at(bytes: &[u8], place: usize) -> u32
     LittleEndian::read_u32(&bytes[place..])
 }
 
-/// A signed half as a word.
-pub fn sign_extended(half: u16) -> u32
-    ensures { result ≡ sign_extended half }
+/// A signed number of so many bits as a word.
+pub fn sign_extended(bits: u32, number: u32) -> u32
+    requires some { 0 < bits }
+    requires below { bits < 32 }
+    ensures { result ≡ sign_extended bits number }
 {
-    i32::from(half.cast_signed()).cast_unsigned()
+    if number < 1 << (bits - 1) {
+        number
+    } else {
+        number.wrapping_sub(1 << bits)
+    }
 }

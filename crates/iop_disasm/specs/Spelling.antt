@@ -1,14 +1,15 @@
 -- The text of an instruction (MIPS I: the mnemonics and the order of the operands). How operands are written is
 -- this project's profile: numbers in decimal, the bits of an immediate in hexadecimal, a place to go to as an
 -- address of eight lower-case hexadecimal digits, and no blank between operands.
-use Rattle.std.specs.Prelude.{ℕ, ◌+◌, ◌*◌, ◌/◌, ◌^◌, nat_lt, if◌then◌else◌, Option, Some, None, List, [], ◌∷◌, ◌++◌, codes, decimal}
+use Rattle.std.specs.Prelude.{ℕ, Option, Some, None, List, [], ◌∷◌, ◌++◌, codes, decimal}
 use Rattle.std.specs.Fmt.{signed_decimal}
 use Rattle.std.specs.List.{flat_map}
-use Rattle.iop_base.specs.Numbers.{signed, wrapped}
+use Rattle.iop_base.specs.Numbers.{signed}
 use Rattle.iop_base.specs.Text.{hex, hex_digits}
 use Rattle.iop_isa.specs.declared.fields.Fields.{Fields}
 use Rattle.iop_isa.specs.declared.table.Operand.{Operand}
 use Rattle.iop_isa.specs.declared.table.Operand.TheVariants.{Rd, Rs, Rt, Sa, Code, Signed, Bits, Label, Target, Base}
+use Rattle.iop_isa.specs.Targets.{branch_target, jump_target}
 use Rattle.iop_isa.specs.Words.{fields_of}
 use Rattle.iop_isa.specs.Writing.{Written, written}
 
@@ -22,18 +23,6 @@ signed_half imm = signed_decimal (signed 16 imm)
 -- an immediate as its bits
 abbrev pub bits_half : ℕ → List ℕ
 bits_half imm = codes "0x" ++ hex_digits 4 imm
-
--- a signed immediate as a word
-abbrev pub extended_half : ℕ → ℕ
-extended_half imm = if nat_lt imm 0x8000 then imm else imm + 0xFFFF0000
-
--- where the branch at an address goes: so many instructions from the one behind it
-abbrev pub branch_target : (at imm : ℕ) → ℕ
-branch_target at imm = wrapped (at + 4 + extended_half imm * 4)
-
--- where the jump at an address goes: it has the upper four bits of the address behind it
-abbrev pub jump_target : (at target : ℕ) → ℕ
-jump_target at target = wrapped (at + 4) / 2 ^ 28 * 2 ^ 28 + target * 4
 
 -- an operand of the instruction at an address, with the fields of its word
 abbrev pub operand_text : (at : ℕ) → Fields → Operand → List ℕ

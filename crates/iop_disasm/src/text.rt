@@ -3,10 +3,10 @@
 ghost use Rattle.std.specs.Prelude.{◌≡◌, ◌+◌, ◌≤◌, ◌<◌, ◌++◌, codes, length};
 ghost use Rattle.arrayvec.specs.ArrayVec.{array_vec_len};
 ghost use Rattle.iop_base.specs.Text.{hex, hex_digit, hex_digits};
-ghost use Rattle.iop_disasm.specs.Spelling.{inst_bytes, operands_text, separator, operand_text, register, bits_half, extended_half, branch_target, jump_target};
+ghost use Rattle.iop_disasm.specs.Spelling.{inst_bytes, operands_text, separator, operand_text, register, bits_half};
 
 use arrayvec::ArrayVec;
-use iop_isa::{Fields, Operand, Reg, Spelling, Target26, spelling_of};
+use iop_isa::{Fields, Operand, Reg, Spelling, branch_target, jump_target, spelling_of};
 use itoa::{Buffer, Integer};
 
 /// How many bytes there is room for in a text.
@@ -100,29 +100,6 @@ fn append_operand(text: &mut Text, operand: Operand, fields: &Fields, at: u32)
             append(text, b")");
         }
     }
-}
-
-/// Where the branch at an address goes.
-fn branch_target(at: u32, imm: u16) -> u32
-    ensures { result ≡ branch_target at imm }
-{
-    at.wrapping_add(4)
-        .wrapping_add(extended_half(u32::from(imm)) << 2)
-}
-
-/// A signed immediate as a word.
-fn extended_half(imm: u32) -> u32
-    requires { imm < 0x10000 }
-    ensures { result ≡ extended_half imm }
-{
-    if imm < 0x8000 { imm } else { imm + 0xFFFF_0000 }
-}
-
-/// Where the jump at an address goes.
-fn jump_target(at: u32, target: Target26) -> u32
-    ensures { result ≡ jump_target at target }
-{
-    (at.wrapping_add(4) >> 28 << 28) + (target.number() << 2)
 }
 
 /// Appends a register.

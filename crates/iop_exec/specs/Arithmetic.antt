@@ -16,14 +16,6 @@ abbrev pub fitting : ℤ → Option ℕ
 fitting (pos n) = if nat_lt n (2 ^ 31) then Some (as_word (pos n)) else None
 fitting (negsuc n) = if nat_lt n (2 ^ 31) then Some (as_word (negsuc n)) else None
 
--- a signed half, as an immediate or in memory, as a word
-abbrev pub sign_extended : ℕ → ℕ
-sign_extended half = if nat_lt half 0x8000 then half else wrapped (half + 0xFFFF0000)
-
--- a signed byte in memory as a word
-abbrev pub byte_extended : ℕ → ℕ
-byte_extended byte = if nat_lt byte 0x80 then byte else wrapped (byte + 0xFFFFFF00)
-
 abbrev pub shifted_left : (word by : ℕ) → ℕ
 shifted_left word by = wrapped (word * 2 ^ by)
 

@@ -2,7 +2,7 @@
 -- word that is no instruction and a jump in a delay slot fault, and that a syscall calls a service, is
 -- this project's profile. Operands are those from before the instruction.
 use Rattle.std.specs.Prelude.{ℕ, ◌+◌, ◌-◌, ◌*◌, ◌/◌, ◌%◌, ◌^◌, ◌==◌, nat_lt, Bool, true, false, not, ◌&&◌, ◌||◌, if◌then◌else◌, ◌+ℤ◌, ◌-ℤ◌, Option, Some, None, option_map, List, slice_index, slice_set, bit_and, bit_or, bit_xor}
-use Rattle.iop_base.specs.Numbers.{wrapped}
+use Rattle.iop_base.specs.Numbers.{sign_extended, wrapped}
 use Rattle.iop_base.specs.Places.{loaded, stored}
 use Rattle.iop_base.specs.declared.outcomes.GuestFault.{GuestFault}
 use Rattle.iop_base.specs.declared.outcomes.GuestFault.TheVariants.{Address, Overflow, Reserved, Break as Broken, BranchInSlot}
@@ -11,8 +11,9 @@ use Rattle.iop_base.specs.declared.outcomes.Width.TheVariants.{Byte, Half, Word}
 use Rattle.iop_isa.specs.declared.instruction.Inst.{Inst}
 use Rattle.iop_isa.specs.declared.instruction.Inst.TheVariants.{Sll, Srl, Sra, Sllv, Srlv, Srav, Jr, Jalr, Syscall, Break, Mfhi, Mthi, Mflo, Mtlo, Mult, Multu, Div, Divu, Add, Addu, Sub, Subu, And, Or, Xor, Nor, Slt, Sltu, Bltz, Bgez, Bltzal, Bgezal, J, Jal, Beq, Bne, Blez, Bgtz, Addi, Addiu, Slti, Sltiu, Andi, Ori, Xori, Lui, Lb, Lh, Lwl, Lw, Lbu, Lhu, Lwr, Sb, Sh, Swl, Sw, Swr}
 use Rattle.iop_isa.specs.Instructions.{inst_of, is_jump}
+use Rattle.iop_isa.specs.Targets.{branch_target, jump_target}
 use Rattle.iop_exec.specs.declared.cpu.Cpu.{Cpu}
-use Rattle.iop_exec.specs.Arithmetic.{as_signed, fitting, sign_extended, byte_extended, shifted_left, shifted_right, shifted_signed, inverted, is_less, is_negative, one_if, signed_product, signed_quotient, signed_remainder, quotient, remainder, loaded_left, loaded_right, stored_left, stored_right}
+use Rattle.iop_exec.specs.Arithmetic.{as_signed, fitting, shifted_left, shifted_right, shifted_signed, inverted, is_less, is_negative, one_if, signed_product, signed_quotient, signed_remainder, quotient, remainder, loaded_left, loaded_right, stored_left, stored_right}
 
 -- the one store that an instruction makes: the low bytes of a value
 pub record Storing : Type 0 where
@@ -44,13 +45,9 @@ moved c = record c { pc = c.next; next = wrapped (c.next + 4); in_slot = false }
 abbrev pub jumped : Cpu → ℕ → Cpu
 jumped c target = record c { pc = c.next; next = target; in_slot = true }
 
--- the target of a jump has the upper four bits of the address behind it
-abbrev pub jump_target : Cpu → ℕ → ℕ
-jump_target c target = wrapped (c.pc + 4) / 2 ^ 28 * 2 ^ 28 + target * 4
-
 -- a branch has a delay slot, taken or not
 abbrev pub branched : Cpu → Bool → ℕ → Cpu
-branched c taken imm = jumped c (if taken then wrapped (c.pc + 4 + sign_extended imm * 4) else wrapped (c.next + 4))
+branched c taken imm = jumped c (if taken then branch_target c.pc imm else wrapped (c.next + 4))
 
 -- the address behind the delay slot goes into a register
 abbrev pub linked : Cpu → ℕ → Cpu
@@ -80,7 +77,7 @@ products c product = pairs c (product / 2 ^ 32) (product % 2 ^ 32)
 
 -- the place of a load or a store
 abbrev pub place : Cpu → (rs imm : ℕ) → ℕ
-place c rs imm = wrapped (reg c rs + sign_extended imm)
+place c rs imm = wrapped (reg c rs + sign_extended 16 imm)
 
 -- the word in which a place stands
 abbrev pub aligned : ℕ → ℕ
@@ -140,22 +137,22 @@ effect_of (Bltz rs imm) memory c = Goes (branched c (is_negative (reg c rs)) imm
 effect_of (Bgez rs imm) memory c = Goes (branched c (not (is_negative (reg c rs))) imm) None
 effect_of (Bltzal rs imm) memory c = Goes (branched (linked c 31) (is_negative (reg c rs)) imm) None
 effect_of (Bgezal rs imm) memory c = Goes (branched (linked c 31) (not (is_negative (reg c rs))) imm) None
-effect_of (J target) memory c = Goes (jumped c (jump_target c target)) None
-effect_of (Jal target) memory c = Goes (jumped (linked c 31) (jump_target c target)) None
+effect_of (J target) memory c = Goes (jumped c (jump_target c.pc target)) None
+effect_of (Jal target) memory c = Goes (jumped (linked c 31) (jump_target c.pc target)) None
 effect_of (Beq rs rt imm) memory c = Goes (branched c (reg c rs == reg c rt) imm) None
 effect_of (Bne rs rt imm) memory c = Goes (branched c (not (reg c rs == reg c rt)) imm) None
 effect_of (Blez rs imm) memory c = Goes (branched c (is_negative (reg c rs) || reg c rs == 0) imm) None
 effect_of (Bgtz rs imm) memory c = Goes (branched c (not (is_negative (reg c rs) || reg c rs == 0)) imm) None
-effect_of (Addi rt rs imm) memory c = sums c rt (fitting (as_signed (reg c rs) +ℤ as_signed (sign_extended imm)))
-effect_of (Addiu rt rs imm) memory c = results c rt (wrapped (reg c rs + sign_extended imm))
-effect_of (Slti rt rs imm) memory c = results c rt (one_if (is_less (reg c rs) (sign_extended imm)))
-effect_of (Sltiu rt rs imm) memory c = results c rt (one_if (nat_lt (reg c rs) (sign_extended imm)))
+effect_of (Addi rt rs imm) memory c = sums c rt (fitting (as_signed (reg c rs) +ℤ as_signed (sign_extended 16 imm)))
+effect_of (Addiu rt rs imm) memory c = results c rt (wrapped (reg c rs + sign_extended 16 imm))
+effect_of (Slti rt rs imm) memory c = results c rt (one_if (is_less (reg c rs) (sign_extended 16 imm)))
+effect_of (Sltiu rt rs imm) memory c = results c rt (one_if (nat_lt (reg c rs) (sign_extended 16 imm)))
 effect_of (Andi rt rs imm) memory c = results c rt (bit_and (reg c rs) imm)
 effect_of (Ori rt rs imm) memory c = results c rt (bit_or (reg c rs) imm)
 effect_of (Xori rt rs imm) memory c = results c rt (bit_xor (reg c rs) imm)
 effect_of (Lui rt imm) memory c = results c rt (imm * 65536)
-effect_of (Lb rt imm rs) memory c = loads c rt (option_map byte_extended (loaded memory (place c rs imm) Byte))
-effect_of (Lh rt imm rs) memory c = loads c rt (option_map sign_extended (loaded memory (place c rs imm) Half))
+effect_of (Lb rt imm rs) memory c = loads c rt (option_map (sign_extended 8) (loaded memory (place c rs imm) Byte))
+effect_of (Lh rt imm rs) memory c = loads c rt (option_map (sign_extended 16) (loaded memory (place c rs imm) Half))
 effect_of (Lwl rt imm rs) memory c = loads c rt (option_map (λ word. loaded_left (place c rs imm) word (reg c rt)) (word_round memory (place c rs imm)))
 effect_of (Lw rt imm rs) memory c = loads c rt (loaded memory (place c rs imm) Word)
 effect_of (Lbu rt imm rs) memory c = loads c rt (loaded memory (place c rs imm) Byte)

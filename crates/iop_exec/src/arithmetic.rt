@@ -1,35 +1,16 @@
 //! The words that instructions compute.
 
-ghost use Rattle.iop_exec.specs.Arithmetic.{as_signed, fitting, sign_extended, byte_extended, shifted_signed, is_less, is_negative, signed_product, signed_quotient, signed_remainder, quotient, remainder, spliced, bits_below, loaded_left, loaded_right, stored_left, stored_right};
+ghost use Rattle.iop_base.specs.Numbers.{sign_extended};
+ghost use Rattle.iop_exec.specs.Arithmetic.{as_signed, fitting, shifted_signed, is_less, is_negative, signed_product, signed_quotient, signed_remainder, quotient, remainder, spliced, bits_below, loaded_left, loaded_right, stored_left, stored_right};
 ghost use Rattle.std.specs.Prelude.{◌≡◌, ◌<◌, ◌≤◌, ◌%◌, ◌^◌, ◌+ℤ◌, ◌-ℤ◌};
+
+use iop_base::sign_extended;
 
 /// A signed immediate as a word.
 pub(crate) fn signed(imm: u16) -> u32
-    ensures { result ≡ sign_extended imm }
+    ensures { result ≡ sign_extended 16 imm }
 {
-    sign_extended(u32::from(imm))
-}
-
-/// A signed half as a word.
-pub(crate) fn sign_extended(half: u32) -> u32
-    ensures { result ≡ sign_extended half }
-{
-    if half < 0x8000 {
-        half
-    } else {
-        half.wrapping_add(0xFFFF_0000)
-    }
-}
-
-/// A signed byte as a word.
-pub(crate) fn byte_extended(byte: u32) -> u32
-    ensures { result ≡ byte_extended byte }
-{
-    if byte < 0x80 {
-        byte
-    } else {
-        byte.wrapping_add(0xFFFF_FF00)
-    }
+    sign_extended(16, imm.into())
 }
 
 /// The sum of two signed words: `None` where it does not fit.

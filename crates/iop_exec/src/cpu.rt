@@ -1,9 +1,9 @@
 ghost use Rattle.std.specs.Prelude.{◌≡◌, ◌/◌, ◌%◌, ◌^◌, MatchOption};
-ghost use Rattle.iop_exec.specs.Row.{reg, with_reg, moved, jumped, jump_target, branched, linked, place};
+ghost use Rattle.iop_exec.specs.Row.{reg, with_reg, moved, jumped, branched, linked, place};
 
 use crate::arithmetic::signed;
 use iop_base::GuestFault;
-use iop_isa::{Code20, Reg, Target26};
+use iop_isa::{Code20, Reg, branch_target};
 
 /// The registers of the processor.
 ///
@@ -135,7 +135,7 @@ impl Cpu {
         ensures event { result ≡ Event.Plain }
     {
         let target = if taken {
-            self.pc.wrapping_add(4).wrapping_add(signed(imm) << 2)
+            branch_target(self.pc, imm)
         } else {
             self.next.wrapping_add(4)
         };
@@ -149,13 +149,6 @@ impl Cpu {
     {
         self.link(Reg::new(31));
         self.branch(taken, imm)
-    }
-
-    /// Where a jump to a target goes.
-    pub(crate) fn jump_target(&self, target: Target26) -> u32
-        ensures { result ≡ jump_target self.now target }
-    {
-        (self.pc.wrapping_add(4) >> 28 << 28) + (target.number() << 2)
     }
 
     /// The address of a load or a store.

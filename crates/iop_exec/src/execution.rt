@@ -13,7 +13,7 @@ use crate::memory::{
     upper_part,
 };
 use iop_base::{GuestFault, Width};
-use iop_isa::{Inst, Reg, decode};
+use iop_isa::{Inst, Reg, decode, jump_target};
 
 /// Executes the instruction at `pc`.
 ///
@@ -94,8 +94,8 @@ fn execute<B: Bus>(inst: Inst, cpu: &mut Cpu, bus: &mut B) -> Event
         Inst::Bgez { rs, imm } => cpu.branch(!is_negative(cpu.reg(rs)), imm),
         Inst::Bltzal { rs, imm } => cpu.branch_and_link(is_negative(cpu.reg(rs)), imm),
         Inst::Bgezal { rs, imm } => cpu.branch_and_link(!is_negative(cpu.reg(rs)), imm),
-        Inst::J { target } => cpu.jump(cpu.jump_target(target)),
-        Inst::Jal { target } => cpu.jump_and_link(Reg::new(31), cpu.jump_target(target)),
+        Inst::J { target } => cpu.jump(jump_target(cpu.pc, target)),
+        Inst::Jal { target } => cpu.jump_and_link(Reg::new(31), jump_target(cpu.pc, target)),
         Inst::Beq { rs, rt, imm } => cpu.branch(cpu.reg(rs) == cpu.reg(rt), imm),
         Inst::Bne { rs, rt, imm } => cpu.branch(cpu.reg(rs) != cpu.reg(rt), imm),
         Inst::Blez { rs, imm } => cpu.branch(is_negative(cpu.reg(rs)) || cpu.reg(rs) == 0, imm),

@@ -1,17 +1,16 @@
 //! Loads and stores.
 
+ghost use Rattle.iop_base.specs.Numbers.{sign_extended};
 ghost use Rattle.iop_base.specs.Places.{loaded};
-ghost use Rattle.iop_exec.specs.Arithmetic.{byte_extended, sign_extended, loaded_left, loaded_right, stored_left, stored_right};
+ghost use Rattle.iop_exec.specs.Arithmetic.{loaded_left, loaded_right, stored_left, stored_right};
 ghost use Rattle.iop_exec.specs.Row.{aligned, word_round, stores, stores_over};
 ghost use Rattle.iop_exec.specs.Stepping.{Does};
 ghost use Rattle.std.specs.Prelude.{◌≡◌, option_map};
 
-use crate::arithmetic::{
-    byte_extended, loaded_left, loaded_right, sign_extended, stored_left, stored_right,
-};
+use crate::arithmetic::{loaded_left, loaded_right, stored_left, stored_right};
 use crate::bus::Bus;
 use crate::cpu::{Cpu, Event};
-use iop_base::{GuestFault, Width};
+use iop_base::{GuestFault, Width, sign_extended};
 
 /// The unsigned number at an address: `None` where there is none.
 pub(crate) fn loaded<B: Bus>(bus: &B, at: u32, width: Width) -> Option<u32>
@@ -25,16 +24,16 @@ pub(crate) fn loaded<B: Bus>(bus: &B, at: u32, width: Width) -> Option<u32>
 
 /// The signed byte at an address, as a word.
 pub(crate) fn signed_byte<B: Bus>(bus: &B, at: u32) -> Option<u32>
-    ensures { result ≡ option_map byte_extended (loaded (B.bytes bus.now) at Width.Byte) }
+    ensures { result ≡ option_map (sign_extended 8) (loaded (B.bytes bus.now) at Width.Byte) }
 {
-    Some(byte_extended(loaded(bus, at, Width::Byte)?))
+    Some(sign_extended(8, loaded(bus, at, Width::Byte)?))
 }
 
 /// The signed half at an address, as a word.
 pub(crate) fn signed_half<B: Bus>(bus: &B, at: u32) -> Option<u32>
-    ensures { result ≡ option_map sign_extended (loaded (B.bytes bus.now) at Width.Half) }
+    ensures { result ≡ option_map (sign_extended 16) (loaded (B.bytes bus.now) at Width.Half) }
 {
-    Some(sign_extended(loaded(bus, at, Width::Half)?))
+    Some(sign_extended(16, loaded(bus, at, Width::Half)?))
 }
 
 /// What `lwl` loads over the old value of a register.

@@ -2,3 +2,4 @@ pub mod Words
 pub mod Table
 pub mod Instructions
 pub mod Writing
+pub mod Targets

@@ -8,6 +8,7 @@ mod instruction;
 mod operands;
 mod spelling;
 mod table;
+mod targets;
 #[cfg(test)]
 mod tests;
 
@@ -18,3 +19,4 @@ pub use instruction::Inst;
 pub use operands::{Code20, Reg, Target26};
 pub use spelling::{Spelling, spelling_of};
 pub use table::Operand;
+pub use targets::{branch_target, jump_target};

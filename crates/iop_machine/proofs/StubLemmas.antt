@@ -9,9 +9,10 @@ use Rattle.iop_base.specs.declared.outcomes.Width.TheVariants.{Word}
 use Rattle.iop_isa.specs.declared.instruction.Inst.TheVariants.{J}
 use Rattle.iop_isa.specs.Instructions.{inst_of}
 use Rattle.iop_isa.specs.Table.{row_of}
+use Rattle.iop_isa.specs.Targets.{jump_target}
 use Rattle.iop_isa.specs.Words.{opcode_of, target_of}
 use Rattle.iop_exec.specs.declared.cpu.Cpu.{Cpu}
-use Rattle.iop_exec.specs.Row.{Goes, effect_of, jumped, jump_target, row}
+use Rattle.iop_exec.specs.Row.{Goes, effect_of, jumped, row}
 use Rattle.iop_exec.proofs.Rows.{executed_no_slot, row_some}
 use Rattle.iop_stubs.specs.Binding.{IsBound, IsSound}
 use Rattle.iop_stubs.specs.Stubs.{Memory}
@@ -43,7 +44,7 @@ module _ (memory : Memory) (stub : Stub) (c : Cpu) (sound : IsSound memory) (has
       let in_target : target_of word ≡ stub.target / 4 = omega (arith, bound.jump, bound.target_near) in
       rw (in_opcode, in_target) refl
 
-  target_is : jump_target c (stub.target / 4) ≡ stub_target c.pc stub
+  target_is : jump_target c.pc (stub.target / 4) ≡ stub_target c.pc stub
   target_is =
       let whole : stub.target / 4 * 4 ≡ stub.target = omega (arith, bound.target_aligned) in
       ap (λ t. wrapped (c.pc + 4) / 2 ^ 28 * 2 ^ 28 + t) whole
