@@ -4,11 +4,12 @@ ghost use Rattle.std.specs.Prelude.{◌≡◌, ◌≤◌, Some, is_ok};
 ghost use Rattle.iop_disasm.specs.Listings.{listed, line_at, listing_bytes};
 ghost use Rattle.iop_trace.specs.Sent.{Sends};
 
-use crate::text::{Text, append, append_address, append_word};
+use crate::text::{Text, append_inst};
 use arrayvec::ArrayVec;
 use iop_base::WriteFault;
 use iop_ports::Sink;
 use iop_ram::Ram;
+use iop_text::{append, append_hex};
 use iop_trace::send;
 
 /// Writes a line for each of so many words from the address `from` on: its address, the word, and its text
@@ -48,11 +49,11 @@ fn line_text(word: u32, at: u32) -> Text
     ensures { result.items ≡ listed at (Some word) }
 {
     let mut text = ArrayVec::new();
-    append_address(&mut text, at);
+    append_hex(&mut text, at);
     append(&mut text, b": ");
-    append_address(&mut text, word);
+    append_hex(&mut text, word);
     append(&mut text, b" ");
-    append_word(&mut text, word, at);
+    append_inst(&mut text, word, at);
     append(&mut text, b"\n");
     text
 }

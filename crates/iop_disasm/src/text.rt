@@ -2,12 +2,12 @@
 
 ghost use Rattle.std.specs.Prelude.{◌≡◌, ◌+◌, ◌≤◌, ◌<◌, ◌++◌, codes, length};
 ghost use Rattle.arrayvec.specs.ArrayVec.{array_vec_len};
-ghost use Rattle.iop_base.specs.Text.{hex, hex_digit, hex_digits};
+ghost use Rattle.iop_base.specs.Text.{hex};
 ghost use Rattle.iop_disasm.specs.Spelling.{inst_bytes, operands_text, separator, operand_text, register, bits_half};
 
 use arrayvec::ArrayVec;
 use iop_isa::{Fields, Operand, Reg, Spelling, branch_target, jump_target, spelling_of};
-use itoa::{Buffer, Integer};
+use iop_text::{append, append_hex, append_hex_digits, append_number};
 
 /// How many bytes there is room for in a text.
 const TEXT_ROOM: usize = 64;
@@ -20,19 +20,20 @@ pub(crate) type Text = ArrayVec<u8, TEXT_ROOM>;
 ///
 /// A register is `$` and its number. Signed immediates, amounts to shift by and codes are decimal, the bits
 /// of an immediate are `0x` and 4 hexadecimal digits, and the target of a branch or a jump is its address in
-/// 8 hexadecimal digits. A word that is no instruction is `.word 0x` and its 8 digits.
+/// 8 hexadecimal digits. The place of a load or a store is its offset with the register behind it in
+/// parentheses. A word that is no instruction is `.word 0x` and its 8 digits.
 pub fn inst_text(word: u32, at: u32) -> ArrayVec<u8, 64>
     ensures bytes { result.items ≡ inst_bytes word at }
     ensures short { array_vec_len result ≤ 40 }
 {
     let mut text = ArrayVec::new();
-    append_word(&mut text, word, at);
+    append_inst(&mut text, word, at);
     text
 }
 
 /// Appends the text of a word at an address.
 #[tactic(auto, unfolding(crate::specs::Spelling::inst_bytes))]
-pub(crate) fn append_word(text: &mut Text, word: u32, at: u32)
+pub(crate) fn append_inst(text: &mut Text, word: u32, at: u32)
     requires { array_vec_len text.old + 40 ≤ TEXT_ROOM }
     ensures bytes { text.new.items ≡ text.old.items ++ inst_bytes word at }
     ensures short { array_vec_len text.new ≤ array_vec_len text.old + 40 }
@@ -45,7 +46,7 @@ pub(crate) fn append_word(text: &mut Text, word: u32, at: u32)
         }
         None => {
             append(text, b".word 0x");
-            append_address(text, word);
+            append_hex(text, word);
         }
     }
 }
@@ -92,8 +93,8 @@ fn append_operand(text: &mut Text, operand: Operand, fields: &Fields, at: u32)
         Operand::Code => append_number(text, fields.n.number()),
         Operand::Signed => append_number(text, fields.imm.cast_signed()),
         Operand::Bits => append_bits(text, fields.imm),
-        Operand::Label => append_address(text, branch_target(at, fields.imm)),
-        Operand::Target => append_address(text, jump_target(at, fields.target)),
+        Operand::Label => append_hex(text, branch_target(at, fields.imm)),
+        Operand::Target => append_hex(text, jump_target(at, fields.target)),
         Operand::Base => {
             append(text, b"(");
             append_register(text, fields.rs);
@@ -119,58 +120,5 @@ fn append_bits(text: &mut Text, imm: u16)
     ensures long { array_vec_len text.new ≡ array_vec_len text.old + 6 }
 {
     append(text, b"0x");
-    append_hex(text, u32::from(imm), 4);
-}
-
-/// Appends a number in decimal.
-fn append_number<I: Integer>(text: &mut Text, number: I)
-    requires { array_vec_len text.old + I.MAX_STR_LEN ≤ TEXT_ROOM }
-    ensures bytes { text.new.items ≡ text.old.items ++ I.text number }
-    ensures short { array_vec_len text.new ≤ array_vec_len text.old + I.MAX_STR_LEN }
-{
-    let mut buffer = Buffer::new();
-    append(text, buffer.format(number).as_bytes());
-}
-
-/// Appends the eight hexadecimal digits of a word.
-#[tactic(auto, unfolding(iop_base::specs::Text::hex))]
-pub(crate) fn append_address(text: &mut Text, word: u32)
-    requires { array_vec_len text.old + 8 ≤ TEXT_ROOM }
-    ensures bytes { text.new.items ≡ text.old.items ++ hex word }
-    ensures long { array_vec_len text.new ≡ array_vec_len text.old + 8 }
-{
-    append_hex(text, word, 8);
-}
-
-/// Appends the last hexadecimal digits of a word.
-fn append_hex(text: &mut Text, word: u32, digits: u32)
-    requires digits { digits ≤ 8 }
-    requires room { array_vec_len text.old + digits ≤ TEXT_ROOM }
-    ensures bytes { text.new.items ≡ text.old.items ++ hex_digits digits word }
-    ensures long { array_vec_len text.new ≡ array_vec_len text.old + digits }
-{
-    for place in 0..digits {
-        text.push(digit_glyph((word >> (4 * (digits - 1 - place))) & 0xf));
-    }
-}
-
-/// The character of a hexadecimal digit.
-fn digit_glyph(digit: u32) -> u8
-    requires { digit < 16 }
-    ensures { result ≡ hex_digit digit }
-{
-    if digit < 10 {
-        b'0' + digit as u8
-    } else {
-        b'a' + (digit - 10) as u8
-    }
-}
-
-/// Appends bytes for which there is room.
-pub(crate) fn append(text: &mut Text, bytes: &[u8])
-    requires { array_vec_len text.old + length bytes.now ≤ TEXT_ROOM }
-    ensures bytes { text.new.items ≡ text.old.items ++ bytes.now }
-    ensures long { array_vec_len text.new ≡ array_vec_len text.old + length bytes.now }
-{
-    let _ = text.try_extend_from_slice(bytes);
+    append_hex_digits(text, imm.into(), 4);
 }

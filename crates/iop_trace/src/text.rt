@@ -2,11 +2,12 @@
 
 ghost use Rattle.std.specs.Prelude.{◌≡◌, ◌+◌, ◌≤◌, ◌<◌, ◌++◌, length};
 ghost use Rattle.arrayvec.specs.ArrayVec.{array_vec_len};
-ghost use Rattle.iop_base.specs.Text.{line_bytes, line_text as event_text, load_text, library_name, hex, hex_digit, kept_name, fault_name};
+ghost use Rattle.iop_base.specs.Text.{line_bytes, line_text as event_text, load_text, library_name, hex, kept_name, fault_name};
 
 use arrayvec::ArrayVec;
 use iop_base::{GuestFault, Kept, Line, Stop};
-use itoa::{Buffer, Integer};
+use iop_text::{append, append_hex, append_number};
+use itoa::Integer;
 
 /// How many bytes there is room for in a line.
 const LINE_ROOM: usize = 128;
@@ -181,46 +182,4 @@ fn append_labelled<I: Integer>(text: &mut Text, label: &[u8], number: I)
 {
     append(text, label);
     append_number(text, number);
-}
-
-/// Appends a number in decimal.
-fn append_number<I: Integer>(text: &mut Text, number: I)
-    requires { array_vec_len text.old + I.MAX_STR_LEN ≤ LINE_ROOM }
-    ensures bytes { text.new.items ≡ text.old.items ++ I.text number }
-    ensures short { array_vec_len text.new ≤ array_vec_len text.old + I.MAX_STR_LEN }
-{
-    let mut buffer = Buffer::new();
-    append(text, buffer.format(number).as_bytes());
-}
-
-/// Appends the eight hexadecimal digits of a word.
-fn append_hex(text: &mut Text, word: u32)
-    requires { array_vec_len text.old + 8 ≤ LINE_ROOM }
-    ensures bytes { text.new.items ≡ text.old.items ++ hex word }
-    ensures long { array_vec_len text.new ≡ array_vec_len text.old + 8 }
-{
-    for place in 0..8u32 {
-        text.push(digit_glyph((word >> (28 - 4 * place)) & 0xf));
-    }
-}
-
-/// The character of a hexadecimal digit.
-fn digit_glyph(digit: u32) -> u8
-    requires { digit < 16 }
-    ensures { result ≡ hex_digit digit }
-{
-    if digit < 10 {
-        b'0' + digit as u8
-    } else {
-        b'a' + (digit - 10) as u8
-    }
-}
-
-/// Appends bytes for which there is room.
-fn append(text: &mut Text, bytes: &[u8])
-    requires { array_vec_len text.old + length bytes.now ≤ LINE_ROOM }
-    ensures bytes { text.new.items ≡ text.old.items ++ bytes.now }
-    ensures long { array_vec_len text.new ≡ array_vec_len text.old + length bytes.now }
-{
-    let _ = text.try_extend_from_slice(bytes);
 }

@@ -1,15 +1,15 @@
 use Rattle.std.proofs.Common.{◌≡◌, ◌-◌, ◌*◌, arith, append_assoc}
-use Rattle.iop_disasm.proofs.Digits.{hex_digits_all, hex_digits_more}
-use Rattle.iop_disasm.proofs.text.append_hex.Goals as goal
+use Rattle.iop_text.proofs.Digits.{hex_digits_all, hex_digits_more}
+use Rattle.iop_text.proofs.appending.append_hex_digits.Goals as goal
 
 pub loop-place-preserved : goal.loop-place-preserved
-loop-place-preserved c =
+loop-place-preserved g c =
     let more = hex_digits_more c.args.digits c.loop-place.place c.args.word c.loop-place-test.true in record {
       bytes = rw (more, ← append_assoc) (cc);
       long = omega arith;
     }
 
 pub returns-clause-bytes : goal.returns-clause-bytes
-returns-clause-bytes c =
+returns-clause-bytes g c =
     let last : c.loop-place.place ≡ c.args.digits = omega arith in
     rw (hex_digits_all c.args.digits c.args.word (4 * c.args.digits - 4 * c.args.digits) (omega arith)) (rw last at c.loop-place.invariant.bytes)

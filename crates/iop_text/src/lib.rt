@@ -1,0 +1,8 @@
+//! Texts of bounded room, and what is appended to them: bytes, decimal numbers and hexadecimal digits.
+#![tactic(auto)]
+
+mod appending;
+#[cfg(test)]
+mod tests;
+
+pub use appending::{append, append_hex, append_hex_digits, append_number};
