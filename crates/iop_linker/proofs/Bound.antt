@@ -4,8 +4,8 @@ use Rattle.std.specs.List.{filter_map, cons_option, slice_get}
 use Rattle.std.proofs.lemmas.Bool.{ltb-true, ltb-false, leb-true, le-ltb, eqb-true, and_parts}
 use Rattle.std.proofs.lemmas.List.{length-append, length-take-le}
 use Rattle.std.proofs.lemmas.Slice.{drop-append-drop}
-use Rattle.iop_base.specs.Numbers.{bytes_of}
-use Rattle.irx_tables.specs.Words.{word_at, places}
+use Rattle.iop_base.specs.Numbers.{bytes_of, word_at}
+use Rattle.irx_tables.specs.Words.{places}
 use Rattle.irx_tables.specs.Imports.{is_stub, stub_at}
 use Rattle.irx_tables.specs.declared.import_tables.Import.{Import}
 use Rattle.iop_stubs.specs.Stubs.{Memory, meets}

@@ -5,7 +5,7 @@
 
 ghost use Rattle.std.specs.Prelude.{◌≡◌, ◌+◌, ◌*◌, ◌/◌, ◌%◌, ◌^◌, ◌<◌, ◌≤◌, true, false, [], ◌∷◌, All, IfSome, length};
 ghost use Rattle.std.specs.List.{slice_get};
-ghost use Rattle.irx_tables.specs.Words.{word_at};
+ghost use Rattle.iop_base.specs.Numbers.{word_at};
 ghost use Rattle.irx_tables.specs.Imports.{ImportTable, is_stub, stub_at, tables_of};
 ghost use Rattle.irx_tables.specs.Results.{IsImportOf};
 ghost use Rattle.iop_registry.specs.Entries.{IsTable};
@@ -151,7 +151,7 @@ fn former_word(guest: &Guest, text: Text, place: u32) -> u32
 }
 
 /// The word at a place.
-#[tactic(auto, unfolding(irx_tables::specs::Words::word_at))]
+#[tactic(auto, unfolding(iop_base::specs::Numbers::word_at))]
 fn word(guest: &Guest, place: u32) -> u32
     requires aligned { place % 4 ≡ 0 }
     requires inside { place + 4 ≤ 0x200000 }

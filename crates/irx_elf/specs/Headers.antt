@@ -2,16 +2,10 @@
 -- Numbers are little-endian.
 use Rattle.std.specs.Prelude.{ℕ, ◌+◌, ◌*◌, ◌==◌, Bool, List, map, filter}
 use Rattle.std.specs.List.{range_with_len}
-use Rattle.iop_base.specs.Numbers.{number_at}
+use Rattle.iop_base.specs.Numbers.{half_at, word_at}
 use Rattle.irx_elf.specs.declared.file_header.FileHeader.{FileHeader}
 use Rattle.irx_elf.specs.declared.segment.Segment.{Segment}
 use Rattle.irx_elf.specs.declared.section.Section.{Section}
-
-unfoldable pub half_at : List ℕ → ℕ → ℕ
-half_at file p = number_at file p 2
-
-unfoldable pub word_at : List ℕ → ℕ → ℕ
-word_at file p = number_at file p 4
 
 -- the file header: e_type, e_machine, e_phoff, e_shoff, e_phentsize, e_phnum, e_shentsize, e_shnum
 abbrev pub file_header : List ℕ → FileHeader

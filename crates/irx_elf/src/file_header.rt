@@ -2,8 +2,8 @@ ghost use Rattle.std.specs.Prelude.{◌≡◌, ◌+◌, ◌*◌, ◌≤◌, IsTr
 ghost use Rattle.irx_elf.specs.Headers.{file_header};
 ghost use Rattle.irx_elf.specs.Rules.{header_rules, has_segments, has_sections, first_unmet};
 
-use crate::reading::{demand, half_at, word_at};
-use iop_base::Illegal;
+use crate::reading::demand;
+use iop_base::{Illegal, half_at, word_at};
 
 /// The bytes of a file header.
 const SIZE: usize = 52;

@@ -1,29 +1,9 @@
-//! Numbers and ranges of a file.
+//! Ranges of a file, and the rules that it does not meet.
 
-ghost use Rattle.std.specs.Prelude.{◌≡◌, ◌+◌, ◌≤◌, IfSome, Ok, Err, if◌then◌else◌, option_copied, length};
-ghost use Rattle.irx_elf.specs.Headers.{half_at, word_at};
+ghost use Rattle.std.specs.Prelude.{◌≡◌, IfSome, Ok, Err, if◌then◌else◌, option_copied, length};
 ghost use Rattle.irx_elf.specs.Rules.{part_at};
 
-use byteorder::{ByteOrder, LittleEndian};
 use iop_base::Illegal;
-
-/// The half word at a place.
-#[tactic(auto, unfolding(crate::specs::Headers::half_at))]
-pub fn half_at(file: &[u8], at: u32) -> u16
-    requires { at + 2 ≤ length file.now }
-    ensures { result ≡ half_at file.now at }
-{
-    LittleEndian::read_u16(&file[at as usize..])
-}
-
-/// The word at a place.
-#[tactic(auto, unfolding(crate::specs::Headers::word_at))]
-pub fn word_at(file: &[u8], at: u32) -> u32
-    requires { at + 4 ≤ length file.now }
-    ensures { result ≡ word_at file.now at }
-{
-    LittleEndian::read_u32(&file[at as usize..])
-}
 
 /// The bytes of a range. None where it does not lie in the file.
 pub fn part_at(file: &[u8], offset: u32, size: u32) -> Option<&[u8]>

@@ -4,7 +4,8 @@ ghost use Rattle.irx_elf.specs.Rules.{has_entries, has_sections};
 ghost use Rattle.irx_elf.specs.Parts.{takes_memory, is_applied, list_of};
 
 use crate::file_header::{FileHeader, SECTION_SIZE};
-use crate::reading::{part_at, word_at};
+use crate::reading::part_at;
+use iop_base::word_at;
 
 /// The type of a section of relocation entries without addends, `SHT_REL`.
 const RELOCATIONS: u32 = 9;
@@ -39,13 +40,14 @@ impl Section {
         requires short { length file.now < 2 ^ 32 }
         ensures { result ≡ section_at file.now at }
     {
+        let place = at as usize;
         Section {
             at,
-            kind: word_at(file, at + 4),
-            flags: word_at(file, at + 8),
-            offset: word_at(file, at + 16),
-            size: word_at(file, at + 20),
-            target: word_at(file, at + 28),
+            kind: word_at(file, place + 4),
+            flags: word_at(file, place + 8),
+            offset: word_at(file, place + 16),
+            size: word_at(file, place + 20),
+            target: word_at(file, place + 28),
         }
     }
 

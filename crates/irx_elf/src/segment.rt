@@ -4,7 +4,7 @@ ghost use Rattle.irx_elf.specs.Headers.{file_header, segment_at, segment_number,
 ghost use Rattle.irx_elf.specs.Rules.{has_segments, image_length, has_sizes};
 
 use crate::file_header::{FileHeader, SEGMENT_SIZE};
-use crate::reading::word_at;
+use iop_base::word_at;
 use irx_info::Info;
 
 /// The fields of a program header that the rules name (ELF TIS 1.2), with its place.
@@ -29,12 +29,13 @@ impl Segment {
         requires short { length file.now < 2 ^ 32 }
         ensures { result ≡ segment_at file.now at }
     {
+        let place = at as usize;
         Segment {
             at,
-            kind: word_at(file, at),
-            offset: word_at(file, at + 4),
-            file_size: word_at(file, at + 16),
-            memory_size: word_at(file, at + 20),
+            kind: word_at(file, place),
+            offset: word_at(file, place + 4),
+            file_size: word_at(file, place + 16),
+            memory_size: word_at(file, place + 20),
         }
     }
 

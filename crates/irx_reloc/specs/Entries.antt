@@ -3,7 +3,7 @@
 -- of the System V ABI's MIPS supplement.
 use Rattle.std.specs.Prelude.{ℕ, ◌+◌, ◌*◌, ◌/◌, ◌%◌, ◌==◌, Bool, List, length, map}
 use Rattle.std.specs.List.{range_with_len}
-use Rattle.irx_reloc.specs.Words.{word_at}
+use Rattle.iop_base.specs.Numbers.{word_at}
 
 -- R_MIPS_NONE, R_MIPS_32, R_MIPS_26, R_MIPS_HI16 and R_MIPS_LO16
 abbrev pub mips_none : ℕ

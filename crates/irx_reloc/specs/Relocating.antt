@@ -1,11 +1,11 @@
 -- What relocation entries make of an image (System V ABI, MIPS supplement). That each symbol counts as the
 -- image's base, and that a HI16 takes the low half of the first LO16 behind it in its section, are this
 -- project's profile. Sums are taken modulo 2 ^ 32.
-use Rattle.std.specs.Prelude.{ℕ, ◌+◌, ◌-◌, ◌*◌, ◌/◌, ◌%◌, ◌^◌, ◌==◌, if◌then◌else◌, ℤ, pos, negsuc, ◌+ℤ◌, Option, Some, None, List, [], ◌∷◌}
+use Rattle.std.specs.Prelude.{ℕ, ◌+◌, ◌*◌, ◌/◌, ◌%◌, ◌^◌, ◌==◌, if◌then◌else◌, Option, Some, None, List, [], ◌∷◌}
 use Rattle.std.specs.List.{find}
 use Rattle.std.specs.Option.{option_map_or}
-use Rattle.iop_base.specs.Numbers.{signed, wrapped}
-use Rattle.irx_reloc.specs.Words.{word_at, with_word}
+use Rattle.iop_base.specs.Numbers.{wrapped, sign_extended, word_at}
+use Rattle.irx_reloc.specs.Words.{with_word}
 use Rattle.irx_reloc.specs.Entries.{mips_32, mips_26, mips_hi16, mips_lo16, is_low}
 
 -- a word with other low bits
@@ -13,17 +13,12 @@ abbrev pub with_low_bits : ℕ → ℕ → ℕ → ℕ
 with_low_bits bits word value = word / 2 ^ bits * 2 ^ bits + value % 2 ^ bits
 
 -- the address that a high and a signed low half give, moved by the base
-abbrev pub moved_address : (high low base : ℕ) → ℤ
-moved_address high low base = pos (high * 65536) +ℤ signed 16 low +ℤ pos base
-
--- a whole number modulo 2 ^ 32
-abbrev pub word_of : ℤ → ℕ
-word_of (pos n) = wrapped n
-word_of (negsuc n) = 2 ^ 32 - 1 - wrapped n
+abbrev pub moved_address : (high low base : ℕ) → ℕ
+moved_address high low base = wrapped (high * 65536 + sign_extended low + base)
 
 -- the high half that gives an address together with its low half, which is signed
-unfoldable pub high_half : ℤ → ℕ
-high_half address = word_of (address +ℤ pos 0x8000) / 65536
+abbrev pub high_half : ℕ → ℕ
+high_half address = wrapped (address + 0x8000) / 65536
 
 -- the word that an entry of this type leaves at its site, unless it leaves it as it is; `low` is the low
 -- half that a HI16 takes

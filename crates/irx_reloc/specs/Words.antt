@@ -1,9 +1,6 @@
--- Words at places of bytes, lowest byte first (little-endian, as the IOP's R3000 runs and its files are).
+-- A word put at a place of bytes, lowest byte first (little-endian, as the IOP's R3000 runs and its files are).
 use Rattle.std.specs.Prelude.{ℕ, List}
-use Rattle.iop_base.specs.Numbers.{number_at, bytes_of, with_bytes}
-
-unfoldable pub word_at : List ℕ → ℕ → ℕ
-word_at bytes place = number_at bytes place 4
+use Rattle.iop_base.specs.Numbers.{bytes_of, with_bytes}
 
 -- the bytes with a word at a place
 unfoldable pub with_word : List ℕ → ℕ → ℕ → List ℕ

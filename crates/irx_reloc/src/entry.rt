@@ -4,7 +4,7 @@ ghost use Rattle.irx_reloc.specs.Fitting.{is_type};
 ghost use Rattle.irx_reloc.specs.Walking.{is_named, pair_of};
 
 use crate::kind::Kind;
-use crate::words::word_at;
+use iop_base::word_at;
 
 /// How many bytes an entry has in its section.
 const SIZE: usize = 8;

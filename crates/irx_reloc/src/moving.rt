@@ -1,8 +1,10 @@
 //! The words that entries leave at their sites.
 
 ghost use Rattle.std.specs.Prelude.{◌≡◌, ◌+◌, ◌/◌, ◌%◌, ◌^◌, ◌<◌};
-ghost use Rattle.iop_base.specs.Numbers.{signed, wrapped};
-ghost use Rattle.irx_reloc.specs.Relocating.{with_low_bits, word_of, moved_address, high_half};
+ghost use Rattle.iop_base.specs.Numbers.{wrapped};
+ghost use Rattle.irx_reloc.specs.Relocating.{with_low_bits, moved_address, high_half};
+
+use iop_base::sign_extended;
 
 /// How many low bits of a jump are its target.
 const TARGET_BITS: u32 = 26;
@@ -17,18 +19,6 @@ fn with_low_bits(bits: u32, word: u32, value: u32) -> u32
 {
     let low = 1 << bits;
     word / low * low + value % low
-}
-
-/// A signed half as a word.
-fn sign_extended(half: u32) -> u32
-    requires { half < 2 ^ 16 }
-    ensures { result ≡ word_of (signed 16 half) }
-{
-    if half < 0x8000 {
-        half
-    } else {
-        half.wrapping_add(0xFFFF_0000)
-    }
 }
 
 /// A word that is an address, moved by the base.
@@ -47,8 +37,7 @@ pub(crate) fn jump_moved(word: u32, base: u32) -> u32
 
 /// An instruction with the high half of an address, moved by the base. `low` is the low half of the
 /// address, which is signed.
-pub(crate) fn high_moved(word: u32, low: u32, base: u32) -> u32
-    requires { low < 2 ^ 16 }
+pub(crate) fn high_moved(word: u32, low: u16, base: u32) -> u32
     ensures { result ≡ with_low_bits 16 word (high_half (moved_address (word % 2 ^ 16) low base)) }
 {
     let address = (word % 0x1_0000 * 0x1_0000)

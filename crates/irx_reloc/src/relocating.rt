@@ -1,6 +1,6 @@
-ghost use Rattle.std.specs.Prelude.{◌≡◌, ◌<◌, ◌^◌, true, None, length};
+ghost use Rattle.std.specs.Prelude.{◌≡◌, ◌<◌, true, None, length};
 ghost use Rattle.std.specs.List.{slice_get};
-ghost use Rattle.irx_reloc.specs.Words.{word_at};
+ghost use Rattle.iop_base.specs.Numbers.{word_at};
 ghost use Rattle.irx_reloc.specs.Entries.{entries_of, all_entries};
 ghost use Rattle.irx_reloc.specs.Fitting.{is_type, section_misfit, misfit};
 ghost use Rattle.irx_reloc.specs.Relocating.{moved_word, half_of, after_entry, after_section, relocated};
@@ -11,16 +11,16 @@ use crate::fitting::Checked;
 use crate::kind::Kind;
 use crate::low_halves::low_behind;
 use crate::moving::{high_moved, jump_moved, low_moved, word_moved};
-use crate::words::{put_word, word_at};
+use crate::words::put_word;
+use iop_base::word_at;
 use irx_elf::Rels;
 
 /// The word that an entry leaves at its site, unless it leaves it as it is. `low` is the low half that a
 /// HI16 takes.
 #[tactic(auto, unfolding(crate::specs::Relocating::moved_word))]
-fn new_word(image: &[u8], entry: Entry, low: u32, base: u32) -> Option<u32>
+fn new_word(image: &[u8], entry: Entry, low: u16, base: u32) -> Option<u32>
     requires fits { EntryFits (length image.now) entry }
     requires named { is_named entry.kind ≡ is_type (pair_of entry).1 }
-    requires half { low < 2 ^ 16 }
     ensures { result ≡ moved_word (type_of entry.kind) (word_at image.now entry.site) low base }
 {
     let site = entry.site as usize;
@@ -35,10 +35,9 @@ fn new_word(image: &[u8], entry: Entry, low: u32, base: u32) -> Option<u32>
 
 /// Applies an entry to the image. `low` is the low half that a HI16 takes.
 #[tactic(auto, unfolding(crate::specs::Relocating::after_entry))]
-fn apply(image: &mut [u8], entry: Entry, low: u32, base: u32)
+fn apply(image: &mut [u8], entry: Entry, low: u16, base: u32)
     requires fits { EntryFits (length image.old) entry }
     requires named { is_named entry.kind ≡ is_type (pair_of entry).1 }
-    requires half { low < 2 ^ 16 }
     ensures { image.new ≡ after_entry image.old (pair_of entry) low base }
 {
     if let Some(word) = new_word(image, entry, low, base) {
@@ -47,14 +46,14 @@ fn apply(image: &mut [u8], entry: Entry, low: u32, base: u32)
 }
 
 /// The low half of the word at the site of the LO16 entry of an index; 0 past the entries.
-fn low_half(image: &[u8], section: &[u8], index: usize) -> u32
+fn low_half(image: &[u8], section: &[u8], index: usize) -> u16
     requires fits { section_misfit (length image.now) (entries_of section.now) ≡ None }
     requires low { index < length (entries_of section.now) → is_low_at (entries_of section.now) index ≡ true }
-    ensures low { result ≡ half_of image.now (slice_get (entries_of section.now) index) }
-    ensures half { result < 2 ^ 16 }
+    ensures { result ≡ half_of image.now (slice_get (entries_of section.now) index) }
 {
     if index < Entry::count(section) {
-        word_at(image, Entry::read(section, index).site as usize) % 0x1_0000
+        let site = Entry::read(section, index).site as usize;
+        (word_at(image, site) % 0x1_0000) as u16
     } else {
         0
     }

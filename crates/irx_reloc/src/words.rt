@@ -1,21 +1,10 @@
-//! Words at places of bytes, lowest byte first.
+//! Words put at places of bytes, lowest byte first.
 
 ghost use Rattle.std.specs.Prelude.{◌≡◌, ◌+◌, ◌≤◌, length};
-ghost use Rattle.irx_reloc.specs.Words.{word_at, with_word};
-
-use byteorder::{ByteOrder, LittleEndian};
+ghost use Rattle.irx_reloc.specs.Words.{with_word};
 
 /// How many bytes a word has.
 const WORD: usize = 4;
-
-/// The word at a place.
-#[tactic(auto, unfolding(crate::specs::Words::word_at))]
-pub(crate) fn word_at(bytes: &[u8], place: usize) -> u32
-    requires { place + 4 ≤ length bytes.now }
-    ensures { result ≡ word_at bytes.now place }
-{
-    LittleEndian::read_u32(&bytes[place..])
-}
 
 /// Puts a word at a place.
 #[tactic(auto, unfolding(crate::specs::Words::with_word))]

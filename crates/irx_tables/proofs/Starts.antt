@@ -1,7 +1,7 @@
 -- The least start of a table, found by reading one word after another.
 use Rattle.std.proofs.Common.{◌≡◌, ℕ, ◌+◌, ◌-◌, ◌*◌, ◌/◌, ◌<◌, true, false, Some, None, List, ap, sym, ◌∙◌, arith, eq-eqb}
 use Rattle.std.proofs.lemmas.Bool.{and_from}
-use Rattle.irx_tables.specs.Words.{word_at}
+use Rattle.iop_base.specs.Numbers.{word_at}
 use Rattle.irx_tables.specs.Imports.{is_start, first_start}
 use Rattle.irx_tables.proofs.Rows.{find_places, find_no_place}
 

@@ -1,12 +1,5 @@
--- Words and half words at places of memory, lowest byte first (little-endian), and rows of places.
+-- Names at places of memory, and rows of places.
 use Rattle.std.specs.Prelude.{ℕ, zero, suc, ◌+◌, List, [], ◌∷◌, take, drop}
-use Rattle.iop_base.specs.Numbers.{number_at}
-
-unfoldable pub word_at : List ℕ → ℕ → ℕ
-word_at memory p = number_at memory p 4
-
-unfoldable pub half_at : List ℕ → ℕ → ℕ
-half_at memory p = number_at memory p 2
 
 -- the eight bytes of a library's name
 unfoldable pub name_at : List ℕ → ℕ → List ℕ

@@ -1,7 +1,8 @@
 //! Words, half words and names at places of RAM that are known to be good.
 
 ghost use Rattle.std.specs.Prelude.{◌≡◌, ◌+◌, ◌%◌, ◌≤◌, length};
-ghost use Rattle.irx_tables.specs.Words.{word_at, half_at, name_at};
+ghost use Rattle.iop_base.specs.Numbers.{word_at, half_at};
+ghost use Rattle.irx_tables.specs.Words.{name_at};
 
 use iop_ram::Ram;
 
@@ -9,7 +10,7 @@ use iop_ram::Ram;
 pub const HEADER: u32 = 20;
 
 /// The word at a place.
-#[tactic(auto, unfolding(crate::specs::Words::word_at))]
+#[tactic(auto, unfolding(iop_base::specs::Numbers::word_at))]
 pub fn word(ram: &Ram, place: u32) -> u32
     requires aligned { place % 4 ≡ 0 }
     requires inside { place + 4 ≤ 0x200000 }
@@ -20,7 +21,7 @@ pub fn word(ram: &Ram, place: u32) -> u32
 }
 
 /// The half word at a place.
-#[tactic(auto, unfolding(crate::specs::Words::half_at))]
+#[tactic(auto, unfolding(iop_base::specs::Numbers::half_at))]
 pub fn half(ram: &Ram, place: u32) -> u16
     requires aligned { place % 2 ≡ 0 }
     requires inside { place + 2 ≤ 0x200000 }

@@ -15,6 +15,6 @@ loop-index-preserved c = record {
   low = λ lt. c.low_behind-next_low.ensures;
   left =
       ap (λ image. after_section image (drop (c.loop-index.index + 1) (entries_of c.args.section.now)) c.args.base) c.apply.ensures
-      ∙ sym (section_after (entries_of c.args.section.now) c.args.base c.loop-index.image c.loop-index.index c.low_behind-next_low.result c.low_half-low.result (pair_of c.read.result) (omega arith) c.read.ensures.entry c.low_behind-next_low.ensures c.low_half-low.ensures.low)
+      ∙ sym (section_after (entries_of c.args.section.now) c.args.base c.loop-index.image c.loop-index.index c.low_behind-next_low.result c.low_half-low.result (pair_of c.read.result) (omega arith) c.read.ensures.entry c.low_behind-next_low.ensures c.low_half-low.ensures)
       ∙ c.loop-index.invariant.left;
 }

@@ -1,5 +1,5 @@
 use Rattle.std.proofs.Common.{◌≡◌, ℕ, ◌+◌, ◌*◌, ◌<◌, false, nat_eq}
-use Rattle.irx_tables.specs.Words.{word_at}
+use Rattle.iop_base.specs.Numbers.{word_at}
 use Rattle.irx_tables.proofs.export_tables.exports_count.Given as goal
 
 abbrev pub invariant-loop-index : goal.invariant-loop-index

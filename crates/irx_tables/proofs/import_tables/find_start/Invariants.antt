@@ -1,5 +1,5 @@
 use Rattle.std.proofs.Common.{◌≡◌, ℕ, ◌+◌, ◌*◌, ◌<◌, false}
-use Rattle.irx_tables.specs.Words.{word_at}
+use Rattle.iop_base.specs.Numbers.{word_at}
 use Rattle.irx_tables.specs.Imports.{is_start}
 use Rattle.irx_tables.proofs.import_tables.find_start.Given as goal
 
