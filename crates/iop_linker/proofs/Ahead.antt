@@ -3,7 +3,7 @@ use Rattle.std.proofs.Common.{◌≡◌, ℕ, zero, suc, ◌+◌, ◌-◌, ◌*�
 use Rattle.std.specs.List.{find, prefix_len}
 use Rattle.std.proofs.lemmas.List.{get_or-drop, drop-drop}
 use Rattle.iop_base.specs.Numbers.{number_at, word_at, half_at}
-use Rattle.irx_tables.specs.Words.{name_at, places}
+use Rattle.irx_tables.specs.Places.{name_at, places}
 use Rattle.irx_tables.specs.Imports.{is_start, first_start, is_stub, stub_at, stubs_from, ended_stubs, table_with, table_at, found_at, found_by, next_table}
 use Rattle.irx_tables.proofs.Rows.{found_place}
 

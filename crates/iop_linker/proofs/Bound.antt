@@ -5,7 +5,7 @@ use Rattle.std.proofs.lemmas.Bool.{ltb-true, ltb-false, leb-true, le-ltb, eqb-tr
 use Rattle.std.proofs.lemmas.List.{length-append, length-take-le}
 use Rattle.std.proofs.lemmas.Slice.{drop-append-drop}
 use Rattle.iop_base.specs.Numbers.{bytes_of, word_at}
-use Rattle.irx_tables.specs.Words.{places}
+use Rattle.irx_tables.specs.Places.{places}
 use Rattle.irx_tables.specs.Imports.{is_stub, stub_at}
 use Rattle.irx_tables.specs.declared.import_tables.Import.{Import}
 use Rattle.iop_stubs.specs.Stubs.{Memory, meets}

@@ -9,7 +9,7 @@ use Rattle.std.proofs.lemmas.List.Sums.{prefix_len-le-length}
 use Rattle.std.proofs.lemmas.Option.{slice_get-get_or}
 use Rattle.iop_base.specs.Numbers.{number_at, bytes_of, word_at}
 use Rattle.iop_base.proofs.Memory.{number_at_before, length-with_bytes}
-use Rattle.irx_tables.specs.Words.{places}
+use Rattle.irx_tables.specs.Places.{places}
 use Rattle.irx_tables.specs.Exports.{functions}
 use Rattle.irx_tables.proofs.Rows.{length-places, get_or-places}
 use Rattle.iop_stubs.specs.Stubs.{Memory, meets, stands_at}

@@ -1,7 +1,7 @@
 -- The tables of a range, one after another, and the import that stands for a table.
 use Rattle.std.proofs.Common.{◌≡◌, ℕ, suc, ◌+◌, ◌*◌, ◌<◌, true, Some, None, List, [], ◌∷◌, length, map, refl, ap, sym, ◌∙◌, arith}
 use Rattle.std.specs.List.{slice_get}
-use Rattle.irx_tables.specs.Words.{places}
+use Rattle.irx_tables.specs.Places.{places}
 use Rattle.irx_tables.specs.Imports.{ImportTable, Found, Nothing, Whole, Broken, ImportTables, is_stub, stub_at, stubs_from, ended_stubs, table_with, next_table, and_then, tables_from}
 use Rattle.irx_tables.specs.Results.{import_of, next_of, IsImportOf}
 use Rattle.irx_tables.specs.declared.import_tables.Import.{Import}

@@ -2,7 +2,7 @@
 -- live before.
 use Rattle.std.specs.Prelude.{◌≡◌, ℕ, ◌+◌, ◌-◌, ◌/◌, ◌%◌, ◌==◌, nat_le, nat_lt, min, Bool, false, not, ◌&&◌, if◌then◌else◌, is_some, Option, Some, None, Result, Ok, Err, List, [], length, map, drop, find, take_while, All}
 use Rattle.iop_base.specs.Numbers.{word_at}
-use Rattle.irx_tables.specs.Words.{places}
+use Rattle.irx_tables.specs.Places.{places}
 use Rattle.irx_tables.specs.Imports.{ImportTable, stub_at}
 use Rattle.irx_tables.specs.declared.import_tables.Import.{Import}
 use Rattle.iop_stubs.specs.Stubs.{Memory, meets, stands_at}

@@ -14,7 +14,7 @@ with_low_bits bits word value = word / 2 ^ bits * 2 ^ bits + value % 2 ^ bits
 
 -- the address that a high and a signed low half give, moved by the base
 abbrev pub moved_address : (high low base : ℕ) → ℕ
-moved_address high low base = wrapped (high * 65536 + sign_extended low + base)
+moved_address high low base = wrapped (high * 65536 + sign_extended 16 low + base)
 
 -- the high half that gives an address together with its low half, which is signed
 abbrev pub high_half : ℕ → ℕ

@@ -41,7 +41,7 @@ pub(crate) fn high_moved(word: u32, low: u16, base: u32) -> u32
     ensures { result ≡ with_low_bits 16 word (high_half (moved_address (word % 2 ^ 16) low base)) }
 {
     let address = (word % 0x1_0000 * 0x1_0000)
-        .wrapping_add(sign_extended(low))
+        .wrapping_add(sign_extended(16, low.into()))
         .wrapping_add(base);
     with_low_bits(HALF_BITS, word, address.wrapping_add(0x8000) / 0x1_0000)
 }

@@ -6,7 +6,7 @@ use Rattle.std.proofs.lemmas.List.Folds.{length-prefix_len}
 use Rattle.std.proofs.lemmas.List.Sums.{prefix_len_is, prefix_len-le-length}
 use Rattle.std.proofs.lemmas.Option.{slice_get-get_or}
 use Rattle.iop_base.specs.Numbers.{word_at}
-use Rattle.irx_tables.specs.Words.{places}
+use Rattle.irx_tables.specs.Places.{places}
 use Rattle.irx_tables.specs.Exports.{words_behind, functions}
 use Rattle.irx_tables.proofs.Rows.{length-places, get_or-places}
 

@@ -2,7 +2,7 @@
 use Rattle.std.proofs.Common.{◌≡◌, ℕ, zero, suc, ◌+◌, ◌*◌, ◌<◌, ◌≤◌, Bool, true, false, Some, None, length, get_or, refl, ap, sym, ◌∙◌, arith, cond}
 use Rattle.std.specs.List.{find, prefix_len}
 use Rattle.std.proofs.lemmas.List.Sums.{prefix_len_is}
-use Rattle.irx_tables.specs.Words.{places}
+use Rattle.irx_tables.specs.Places.{places}
 
 pub length-places : (step p n : ℕ) → length (places step p n) ≡ n
 length-places step p zero = refl

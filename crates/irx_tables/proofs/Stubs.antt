@@ -7,7 +7,7 @@ use Rattle.std.proofs.lemmas.List.Sums.{prefix_len_passes, prefix_len-le-length}
 use Rattle.std.proofs.lemmas.Option.{slice_get-get_or, cond_some}
 use Rattle.std.proofs.lemmas.Bool.{ltb-true, leb-true, le-leb, lt-leb, and_parts, and_from, and_left, and_right}
 use Rattle.iop_base.specs.Numbers.{word_at}
-use Rattle.irx_tables.specs.Words.{places}
+use Rattle.irx_tables.specs.Places.{places}
 use Rattle.irx_tables.specs.Imports.{is_stub, is_end, stub_at, stubs_from, ended_stubs}
 use Rattle.irx_tables.specs.Results.{pair_at}
 use Rattle.irx_tables.specs.declared.import_tables.Pair.TheVariants.{Stub, Zeroes, Other}

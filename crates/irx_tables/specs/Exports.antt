@@ -4,7 +4,7 @@
 use Rattle.std.specs.Prelude.{ℕ, ◌+◌, ◌-◌, ◌/◌, ◌==◌, min, not, if◌then◌else◌, Option, Some, None, List, length, map}
 use Rattle.std.specs.List.{take_while}
 use Rattle.iop_base.specs.Numbers.{word_at, half_at}
-use Rattle.irx_tables.specs.Words.{name_at, places}
+use Rattle.irx_tables.specs.Places.{name_at, places}
 
 -- a table's name and version, where its magic is there
 abbrev pub header_of : List ℕ → ℕ → Option (List ℕ × ℕ)

@@ -4,7 +4,7 @@
 use Rattle.std.specs.Prelude.{ℕ, ◌+◌, ◌-◌, ◌*◌, ◌/◌, ◌^◌, ◌==◌, nat_le, nat_lt, Bool, ◌&&◌, if◌then◌else◌, zero, suc, Option, Some, None, option_map, List, [], ◌∷◌, length, map}
 use Rattle.std.specs.List.{find, take_while}
 use Rattle.iop_base.specs.Numbers.{word_at, half_at}
-use Rattle.irx_tables.specs.Words.{name_at, places}
+use Rattle.irx_tables.specs.Places.{name_at, places}
 
 -- the first two words of a table
 abbrev pub is_start : List ℕ → ℕ → Bool

@@ -1,4 +1,4 @@
-pub mod Words
+pub mod Places
 pub mod Imports
 pub mod Exports
 pub mod Results

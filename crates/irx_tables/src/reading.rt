@@ -2,7 +2,7 @@
 
 ghost use Rattle.std.specs.Prelude.{◌≡◌, ◌+◌, ◌%◌, ◌≤◌, length};
 ghost use Rattle.iop_base.specs.Numbers.{word_at, half_at};
-ghost use Rattle.irx_tables.specs.Words.{name_at};
+ghost use Rattle.irx_tables.specs.Places.{name_at};
 
 use iop_ram::Ram;
 
@@ -31,7 +31,7 @@ pub fn half(ram: &Ram, place: u32) -> u16
 }
 
 /// The eight bytes of a library's name at a place.
-#[tactic(auto, unfolding(crate::specs::Words::name_at))]
+#[tactic(auto, unfolding(crate::specs::Places::name_at))]
 pub fn name(ram: &Ram, place: u32) -> [u8; 8]
     requires { place + 8 ≤ 0x200000 }
     ensures { result ≡ name_at ram.now place }
