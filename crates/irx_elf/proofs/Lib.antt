@@ -1,4 +1,4 @@
 pub mod Rows
 pub mod Headers
 pub mod Meeting
-pub mod Lists
+pub mod Sound

@@ -1,6 +1,7 @@
 -- What is left of a row from a number on, as a loop over the numbers sees it.
-use Rattle.std.proofs.Common.{◌≡◌, ℕ, zero, suc, ◌+◌, ◌-◌, ◌<◌, ◌≤◌, Bool, true, false, cond, Some, None, List, [], ◌∷◌, map, find, filter, refl, ap, ◌∙◌, arith}
+use Rattle.std.proofs.Common.{◌≡◌, ℕ, zero, suc, ◌+◌, ◌-◌, ◌<◌, ◌≤◌, Bool, true, false, cond, Some, None, List, [], ◌∷◌, map, drop, find, filter, refl, ap, sym, ◌∙◌, arith}
 use Rattle.std.specs.List.{range_with_len, slice_get}
+use Rattle.std.proofs.lemmas.List.{drop-map}
 
 -- the elements of numbers i to n
 unfoldable pub row : {X : Type 0} → (ℕ → X) → ℕ → ℕ → List X
@@ -14,6 +15,26 @@ row-step f i n below =
 pub row-end : {X : Type 0} (f : ℕ → X) (i n : ℕ) → n ≤ i → row f i n ≡ []
 unfolding row
 row-end f i n over = let none : n - i ≡ 0 = omega arith in ap (λ k. map f (range_with_len i k)) none
+
+-- the elements of numbers from a, without the first i
+drop-numbers : (a n i : ℕ) → drop i (range_with_len a n) ≡ range_with_len (a + i) (n - i)
+drop-numbers a n zero =
+    let from : a ≡ a + 0 = omega arith in
+    let count : n ≡ n - 0 = omega arith in
+    ap (λ k. range_with_len k n) from ∙ ap (range_with_len (a + 0)) count
+drop-numbers a zero (suc i) =
+    let none : 0 ≡ 0 - suc i = omega arith in ap (range_with_len (a + suc i)) none
+drop-numbers a (suc n) (suc i) =
+    let from : a + 1 + i ≡ a + suc i = omega arith in
+    let count : n - i ≡ suc n - suc i = omega arith in
+    drop-numbers (a + 1) n i ∙ ap (λ k. range_with_len k (n - i)) from ∙ ap (range_with_len (a + suc i)) count
+
+-- the whole row without the first i
+pub row-left : {X : Type 0} (f : ℕ → X) (i n : ℕ) → row f i n ≡ drop i (map f (range_with_len 0 n))
+unfolding row
+row-left f i n =
+    let from : 0 + i ≡ i = omega arith in
+    sym (drop-map f i (range_with_len 0 n) ∙ ap (map f) (drop-numbers 0 n i ∙ ap (λ k. range_with_len k (n - i)) from))
 
 -- the whole row
 pub row-whole : {X : Type 0} (f : ℕ → X) (n : ℕ) → row f 0 n ≡ map f (range_with_len 0 n)

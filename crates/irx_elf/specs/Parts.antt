@@ -1,9 +1,9 @@
 -- What an IRX file consists of: each part is the file's bytes at the place that a header names. That
 -- relocation entries of a section which takes no memory are not applied is this project's own profile.
-use Rattle.std.specs.Prelude.{◌≡◌, ℕ, ◌/◌, ◌%◌, ◌^◌, ◌<◌, ◌≤◌, ◌==◌, Bool, ◌||◌, if◌then◌else◌, None, Result, List, [], length, map, All}
+use Rattle.std.specs.Prelude.{◌≡◌, ℕ, ◌/◌, ◌%◌, ◌^◌, ◌<◌, ◌≤◌, ◌==◌, Bool, ◌||◌, if◌then◌else◌, None, Result, List, [], length, map, filter, drop, All}
 use Rattle.iop_base.specs.declared.outcomes.Illegal.{Illegal}
 use Rattle.irx_info.specs.Information.{Information}
-use Rattle.irx_elf.specs.Headers.{section_number, relocation_sections}
+use Rattle.irx_elf.specs.Headers.{section_number, sections, is_relocations, relocation_sections}
 use Rattle.irx_elf.specs.Rules.{bytes_at, image_segment, image_length, module_information, section_rules, first_unmet, unmet, answered}
 use Rattle.irx_elf.specs.declared.section.Section.{Section}
 
@@ -31,6 +31,10 @@ list_of file section = if is_applied file section then bytes_at file section.off
 -- a list for each section of relocation entries, in order
 unfoldable pub lists_of : List ℕ → List (List ℕ)
 lists_of file = map (list_of file) (relocation_sections file)
+
+-- those of the section headers from a number on
+unfoldable pub lists_from : List ℕ → ℕ → List (List ℕ)
+lists_from file number = map (list_of file) (filter is_relocations (drop number (sections file)))
 
 abbrev pub parts_of : List ℕ → Parts
 parts_of file =

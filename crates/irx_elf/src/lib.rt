@@ -11,4 +11,4 @@ mod segment;
 mod tests;
 
 pub use irx::Irx;
-pub use relocations::Rels;
+pub use relocations::{Lists, Rels};

@@ -1,4 +1,4 @@
-ghost use Rattle.std.specs.Prelude.{◌≡◌, ◌+◌, ◌*◌, ◌%◌, ◌^◌, ◌<◌, ◌≤◌, None, Some, length, IsTrue, [], slice_index_or};
+ghost use Rattle.std.specs.Prelude.{◌≡◌, ◌+◌, ◌*◌, ◌%◌, ◌^◌, ◌<◌, ◌≤◌, None, Some, IfSome, MatchOption, length, IsTrue, [], ◌∷◌, slice_index_or};
 ghost use Rattle.std.specs.List.{slice_get};
 ghost use Rattle.irx_elf.specs.Headers.{file_header, relocation_sections};
 ghost use Rattle.irx_elf.specs.Rules.{section_rules, has_sections, first_unmet};
@@ -58,8 +58,21 @@ impl<'a> Rels<'a> {
         count
     }
 
+    /// All lists, to be walked in order.
+    pub fn lists(&self) -> Lists<'a>
+        ensures { result ≡ self.now }
+    {
+        Lists {
+            file: self.file,
+            number: 0,
+        }
+    }
+
     /// The entries of list `k`, 8 bytes each. None are given past the lists, and where they are not
     /// applied: where `sh_info` is not 0 and names a section without the flag `SHF_ALLOC`.
+    ///
+    /// Each call goes over the section headers from the first on, while a walk over `lists` goes over them
+    /// once for all lists.
     pub fn list(&self, k: u32) -> &'a [u8]
         ensures entries { result.now ≡ slice_index_or self.now k [] }
         ensures whole { length result.now % 8 ≡ 0 }
@@ -69,6 +82,45 @@ impl<'a> Rels<'a> {
             Some(section) => section.list(self.file, &header),
             None => &[],
         }
+    }
+}
+
+/// The lists of relocation entries that are still to be given, in order.
+#[derive(Drop)]
+pub struct Lists<'a> {
+    file: &'a [u8],
+    /// The number of the section header that comes next.
+    number: u32,
+}
+
+impl<'a> Model for Lists<'a> {
+    ghost use Rattle.std.specs.Prelude.{List, ℕ};
+    ghost use Rattle.irx_elf.specs.Parts.{lists_from, HasLists};
+
+    ghost Value = { List (List ℕ) };
+
+    ghost view = { λ lists. lists_from lists.file.now lists.number };
+
+    ghost invariant = { λ lists. HasLists lists.file.now };
+}
+
+impl<'a> Lists<'a> {
+    /// The next list, with the entries that `Rels::list` gives; `None` behind the last. A whole walk goes
+    /// over the section headers once, and looks again at those that an `sh_info` names.
+    pub fn next(&mut self) -> Option<&'a [u8]>
+        ensures next { MatchOption result ((self.old ≡ []) × (self.new ≡ [])) (λ list. self.old ≡ list.now ∷ self.new) }
+        ensures whole { IfSome result (λ list. length list.now % 8 ≡ 0) }
+    {
+        let file = self.file;
+        let header = FileHeader::read(file);
+        while self.number < u32::from(header.section_count) {
+            let section = Section::numbered(file, &header, self.number);
+            self.number += 1;
+            if section.is_relocations() {
+                return Some(section.list(file, &header));
+            }
+        }
+        None
     }
 }
 

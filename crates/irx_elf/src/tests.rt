@@ -74,6 +74,11 @@ fn lists(rt: &impl Abort, file: &[u8], sections: u32, lists: [&[u8]; 3]) -> Resu
     for (k, list) in lists.iter().enumerate() {
         assert_eq!(rt; rels.list(k as u32), *list);
     }
+    let mut walk = rels.lists();
+    for list in lists.iter().take(sections as usize) {
+        assert_eq!(rt; walk.next(), Some(*list));
+    }
+    assert_eq!(rt; walk.next(), None);
     Ok(())
 }
 

@@ -2,13 +2,13 @@
 use Rattle.std.proofs.Common.{◌≡◌, ℕ, zero, suc, ◌+◌, ◌%◌, ◌<◌, ◌≤◌, Bool, true, false, List, [], ◌∷◌, length, drop, get_or, nat_lt, nat_le, nat_eq, not, cond, Option, Some, None, is_some, option_map, refl, ap, sym, ◌∙◌, arith}
 use Rattle.std.specs.List.{find}
 use Rattle.std.specs.Option.{option_or}
-use Rattle.std.proofs.lemmas.List.{at_drop_more, get_or-map, length-map}
+use Rattle.std.proofs.lemmas.List.{at_drop_more}
 use Rattle.std.proofs.lemmas.Bool.{leb-true, eqb-true, and_parts}
 use Rattle.iop_base.specs.declared.outcomes.Illegal.{Illegal}
 use Rattle.irx_reloc.specs.declared.entry.Entry.{Entry}
 use Rattle.irx_reloc.specs.declared.kind.Kind.{Kind}
-use Rattle.irx_reloc.specs.Entries.{entries_of, all_entries, is_low}
-use Rattle.irx_reloc.specs.Fitting.{is_site, broken_rule, section_misfit, misfit}
+use Rattle.irx_reloc.specs.Entries.{is_low}
+use Rattle.irx_reloc.specs.Fitting.{is_site, broken_rule, section_misfit}
 use Rattle.irx_reloc.specs.Walking.{type_of, pair_of, EntryFits, is_low_at, IsNextLow}
 use Rattle.irx_reloc.proofs.Halves.{has_next}
 
@@ -19,13 +19,6 @@ said site rule later = option_or (option_map (λ (r : ℕ). record { rule = r; a
 said_none : (site : ℕ) (rule : Option ℕ) (later : Option Illegal) → said site rule later ≡ None → (rule ≡ None) × (later ≡ None)
 said_none site None later e = (refl, e)
 said_none site (Some r) later e = absurd (cc)
-
-or_none : (first later : Option Illegal) → option_or first later ≡ None → (first ≡ None) × (later ≡ None)
-or_none None later e = (refl, e)
-or_none (Some x) later e = absurd (cc)
-
-pub section_is : (sections : List (List ℕ)) (k : ℕ) (section : List ℕ) → k < length sections → section ≡ get_or sections k [] → get_or (all_entries sections) k [] ≡ entries_of section
-section_is sections k section lt e = get_or-map entries_of sections k [] [] lt ∙ ap entries_of (sym e)
 
 module _ (size : ℕ) where
   -- an entry and those behind it
@@ -38,24 +31,12 @@ module _ (size : ℕ) where
       (has_next entries (k + 1) low h ∙ ap (nat_lt low) (sym all))
       ∙ ap (λ (r : Option ℕ). said entry.0 r (section_misfit size (drop (k + 1) entries))) (sym broken)
 
-  -- a section and those behind it
-  pub misfit_from : (sections : List (List ℕ)) (k : ℕ) (section : List ℕ) → k < length sections → section ≡ get_or sections k [] → misfit size (drop k (all_entries sections)) ≡ option_or (section_misfit size (entries_of section)) (misfit size (drop (k + 1) (all_entries sections)))
-  misfit_from sections k section lt e =
-      at_drop_more (misfit size) (all_entries sections) k [] (omega (arith, length-map sections entries_of))
-      ∙ ap (λ (x : List (ℕ × ℕ)). option_or (section_misfit size x) (misfit size (drop (k + 1) (all_entries sections))))
-      (section_is sections k section lt e)
-
   pub entry_fits : (entries : List (ℕ × ℕ)) → section_misfit size entries ≡ None → (k : ℕ) → k < length entries → (has_low : Bool) × (broken_rule size (get_or entries k (0, 0)) has_low ≡ None)
   entry_fits [] e k lt = absurd (omega arith)
   entry_fits (entry ∷ later) e zero lt =
       (is_some (find is_low later), (said_none entry.0 (broken_rule size entry (is_some (find is_low later))) (section_misfit size later) e).0)
   entry_fits (entry ∷ later) e (suc k) lt =
       entry_fits later (said_none entry.0 (broken_rule size entry (is_some (find is_low later))) (section_misfit size later) e).1 k (omega arith)
-
-  pub section_fits : (sections : List (List (ℕ × ℕ))) → misfit size sections ≡ None → (k : ℕ) → section_misfit size (get_or sections k []) ≡ None
-  section_fits [] e k = refl
-  section_fits (section ∷ later) e zero = (or_none (section_misfit size section) (misfit size later) e).0
-  section_fits (section ∷ later) e (suc k) = section_fits later (or_none (section_misfit size section) (misfit size later) e).1 k
 
   site_or : (site : ℕ) (b : Bool) (rest : Option ℕ) → is_site size site ≡ b → cond (not b) (Some 13) rest ≡ None → site + 4 ≤ size
   site_or site true rest e f = leb-true (site + 4) size (and_parts (nat_eq (site % 4) 0) (nat_le (site + 4) size) e).1
@@ -84,10 +65,3 @@ module _ (size : ℕ) where
         fits.0,
         ap (λ (n : ℕ). broken_rule n (pair_of entry) fits.0) same ∙ ap (λ (x : ℕ × ℕ). broken_rule size x fits.0) read ∙ fits.1,
       )
-
-  -- a section of a module that fits
-  pub section_at_fits : (sections : List (List ℕ)) (now k : ℕ) (section : List ℕ) → misfit size (all_entries sections) ≡ None → now ≡ size → k < length sections → section ≡ get_or sections k [] → section_misfit now (entries_of section) ≡ None
-  section_at_fits sections now k section e same lt read =
-      ap (λ (n : ℕ). section_misfit n (entries_of section)) same
-      ∙ ap (section_misfit size) (sym (section_is sections k section lt read))
-      ∙ section_fits (all_entries sections) e k

@@ -100,8 +100,9 @@ fn section_misfit(length: u32, section: &[u8]) -> Option<Illegal>
 fn misfit(length: u32, rels: &Rels<'_>) -> Option<Illegal>
     ensures { result ≡ misfit length (all_entries rels.now) }
 {
-    for section in 0..rels.sections() {
-        if let Some(illegal) = section_misfit(length, rels.list(section)) {
+    let mut lists = rels.lists();
+    while let Some(section) = lists.next() {
+        if let Some(illegal) = section_misfit(length, section) {
             return Some(illegal);
         }
     }

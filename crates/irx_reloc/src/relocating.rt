@@ -77,8 +77,9 @@ fn relocate_sections(image: &mut [u8], rels: &Rels<'_>, base: u32)
     requires { misfit (length image.old) (all_entries rels.now) ≡ None }
     ensures { image.new ≡ relocated image.old (all_entries rels.now) base }
 {
-    for section in 0..rels.sections() {
-        relocate_section(image, rels.list(section), base);
+    let mut lists = rels.lists();
+    while let Some(section) = lists.next() {
+        relocate_section(image, section, base);
     }
 }
 

@@ -1,8 +1,14 @@
-use Rattle.std.proofs.Common.{◌≡◌, drop}
+use Rattle.std.proofs.Common.{◌≡◌, None, length}
 use Rattle.irx_reloc.specs.Entries.{all_entries}
+use Rattle.irx_reloc.specs.Fitting.{misfit}
 use Rattle.irx_reloc.specs.Relocating.{relocated}
 use Rattle.irx_reloc.proofs.relocating.relocate_sections.Given as goal
 
 abbrev pub invariant-loop-section : goal.invariant-loop-section
-invariant-loop-section l =
-    relocated l.image (drop l.section (all_entries l.rels)) l.base ≡ relocated l.fn.image (all_entries l.rels) l.base
+invariant-loop-section l = record {
+  fits : misfit (length l.image) (all_entries l.lists) ≡ None;
+  left : relocated l.image (all_entries l.lists) l.base ≡ relocated l.fn.image (all_entries l.rels) l.base;
+}
+
+abbrev pub decreases-loop-section : goal.decreases-loop-section
+decreases-loop-section l = length l.lists

@@ -2,7 +2,7 @@ use Rattle.std.proofs.Common.{◌≡◌, is_some, ap, ◌∙◌, arith, rules}
 use Rattle.irx_elf.specs.Rules.{part_at, image_length, module_information, image_segment}
 use Rattle.irx_info.specs.Information.{Information}
 use Rattle.irx_elf.specs.declared.segment.Segment.{Segment}
-use Rattle.irx_elf.proofs.Lists.{some-copied, segments-met, length-short, parts-sound}
+use Rattle.irx_elf.proofs.Sound.{some-copied, segments-met, length-short, parts-sound}
 use Rattle.irx_elf.proofs.irx.Irx.lend.Goals as goal
 
 pub unwrap-requires : goal.unwrap-requires

@@ -1,5 +1,5 @@
 use Rattle.std.proofs.Common.{ℕ, [], List, get_or, ap, sym, ◌∙◌}
-use Rattle.irx_elf.proofs.Lists.{sections-met, entries-met, list-at, list-past}
+use Rattle.irx_elf.proofs.Sound.{sections-met, entries-met, list-at, list-past}
 use Rattle.irx_elf.proofs.relocations.Rels.list.Goals as goal
 
 pub find-requires-clause-sections : goal.find-requires-clause-sections

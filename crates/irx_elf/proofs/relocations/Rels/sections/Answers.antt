@@ -4,7 +4,7 @@ use Rattle.irx_elf.specs.declared.file_header.FileHeader.{FileHeader}
 use Rattle.irx_elf.specs.declared.section.Section.{Section}
 use Rattle.irx_elf.proofs.Rows.{filter-here, filter-later, filter-end}
 use Rattle.irx_elf.proofs.Headers.{relocation_sections-are}
-use Rattle.irx_elf.proofs.Lists.{sections-met, length-lists}
+use Rattle.irx_elf.proofs.Sound.{sections-met, length-lists}
 use Rattle.irx_elf.proofs.relocations.Rels.sections.Goals as goal
 use Rattle.irx_elf.proofs.relocations.Rels.sections.Goals.{then-is_relocations, else-is_relocations}
 

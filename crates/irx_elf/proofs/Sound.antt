@@ -1,16 +1,18 @@
 -- What the rules say of a file that meets them.
-use Rattle.std.proofs.Common.{◌≡◌, ℕ, zero, suc, ◌+◌, ◌%◌, ◌^◌, ◌<◌, ◌≤◌, Bool, true, false, cond, nat_le, is_some, unwrap_or, option_map, Option, Some, None, List, [], ◌∷◌, length, map, take, drop, find, All, get_or, Bor, option_copied, ap, sym, ◌∙◌, refl, subst, arith}
+use Rattle.std.proofs.Common.{◌≡◌, ℕ, zero, suc, ◌+◌, ◌%◌, ◌^◌, ◌<◌, ◌≤◌, Bool, true, false, cond, nat_le, is_some, unwrap_or, option_map, Option, Some, None, List, [], ◌∷◌, length, map, take, drop, find, filter, All, get_or, Bor, option_copied, ap, sym, ◌∙◌, refl, subst, arith}
 use Rattle.std.specs.List.{slice_get}
 use Rattle.std.proofs.lemmas.Bool.{and_parts, leb-true, ltb-true, eqb-true}
 use Rattle.std.proofs.lemmas.Option.{slice_get-get_or, slice_get-map, unwrap_or-slice_get}
 use Rattle.std.proofs.lemmas.List.{length-take, length-drop, length-map}
 use Rattle.std.proofs.lemmas.List.Elements.{All-map}
 use Rattle.iop_base.specs.declared.outcomes.Illegal.{Illegal}
-use Rattle.irx_elf.specs.Headers.{file_header, segments, is_of_kind, relocation_sections}
+use Rattle.irx_elf.specs.Headers.{file_header, segments, is_of_kind, section_number, sections, is_relocations, relocation_sections}
 use Rattle.irx_elf.specs.Rules.{first_unmet, segment_rules, section_rules, has_sections, has_sizes, has_entries, entries_rule, bytes_at, part_at, information_at, image_length, info_segment, image_segment, module_information}
-use Rattle.irx_elf.specs.Parts.{Parts, parts_of, is_applied, list_of, lists_of, IsSound}
+use Rattle.irx_elf.specs.Parts.{Parts, parts_of, is_applied, list_of, lists_of, lists_from, IsSound}
 use Rattle.irx_elf.specs.declared.file_header.FileHeader.{FileHeader}
 use Rattle.irx_elf.specs.declared.section.Section.{Section}
+use Rattle.irx_elf.proofs.Rows.{row, filter-here, filter-later, filter-end}
+use Rattle.irx_elf.proofs.Headers.{relocation_sections-left}
 
 none-parts : (met : Bool) (o : Option Illegal) (e : Illegal) → cond met o (Some e) ≡ None → (met ≡ true) × (o ≡ None)
 none-parts true o e h = (refl, h)
@@ -43,6 +45,17 @@ module _ (file : List ℕ) where
   entries-at (x ∷ xs) (suc k) s met at =
       entries-at xs k s (none-parts (has_entries file x) (first_unmet (map (entries_rule file) xs)) (record { rule = 12; at = x.at }) met).1 at
 
+  behind-met : (x : Section) (xs : List Section) (b : Bool) → first_unmet (map (entries_rule file) (cond b (x ∷ xs) xs)) ≡ None → first_unmet (map (entries_rule file) xs) ≡ None
+  behind-met x xs true met =
+      (none-parts (has_entries file x) (first_unmet (map (entries_rule file) xs)) (record { rule = 12; at = x.at }) met).1
+  behind-met x xs false met = met
+
+  left-met : (i : ℕ) (xs : List Section) → first_unmet (map (entries_rule file) (filter is_relocations xs)) ≡ None → first_unmet (map (entries_rule file) (filter is_relocations (drop i xs))) ≡ None
+  left-met zero xs met = met
+  left-met (suc i) [] met = refl
+  left-met (suc i) (x ∷ xs) met =
+      left-met i xs (behind-met x (filter is_relocations xs) (is_relocations x) met)
+
   module _ (met : first_unmet (section_rules file) ≡ None) where
     parts : (has_sections file (file_header file) ≡ true) × (first_unmet (map (entries_rule file) (relocation_sections file)) ≡ None)
     unfolding section_rules
@@ -53,6 +66,15 @@ module _ (file : List ℕ) where
 
     pub entries-met : (k : ℕ) (s : Section) → slice_get (relocation_sections file) k ≡ Some s → has_entries file s ≡ true
     entries-met k s at = entries-at (relocation_sections file) k s parts.1 at
+
+    -- rule 12 of a section of relocation entries
+    pub entry-met : (i n : ℕ) → n ≡ (file_header file).section_count → i < n → is_relocations (section_number file i) ≡ true → has_entries file (section_number file i) ≡ true
+    unfolding relocation_sections
+    entry-met i n count below same =
+        let f = section_number file in
+        let left = sym (relocation_sections-left file i n count) ∙ filter-here is_relocations f i n below same in
+        let unmet = ap (λ (xs : List Section). first_unmet (map (entries_rule file) xs)) left in
+        (none-parts (has_entries file (f i)) (first_unmet (map (entries_rule file) (filter is_relocations (row f (i + 1) n)))) (record { rule = 12; at = (f i).at }) (sym unmet ∙ left-met i (sections file) parts.1)).0
 
     whole-bytes : (s : Section) → has_entries file s ≡ true → length (bytes_at file s.offset s.size) % 8 ≡ 0
     whole-bytes s h =
@@ -86,6 +108,27 @@ module _ (file : List ℕ) where
   pub length-lists : length (lists_of file) ≡ length (relocation_sections file)
   unfolding lists_of
   length-lists = length-map (relocation_sections file) (list_of file)
+
+  -- all lists, and those that are left from a section header on
+  pub lists-all : lists_from file 0 ≡ lists_of file
+  unfolding lists_of lists_from relocation_sections
+  lists-all = refl
+
+  pub lists-here : (i n : ℕ) → n ≡ (file_header file).section_count → i < n → is_relocations (section_number file i) ≡ true → lists_from file i ≡ list_of file (section_number file i) ∷ lists_from file (i + 1)
+  unfolding lists_from
+  lists-here i n count below same =
+      ap (map (list_of file)) (sym (relocation_sections-left file i n count) ∙ filter-here is_relocations (section_number file) i n below same)
+      ∙ ap (λ (xs : List Section). list_of file (section_number file i) ∷ map (list_of file) xs) (relocation_sections-left file (i + 1) n count)
+
+  pub lists-later : (i n : ℕ) → n ≡ (file_header file).section_count → i < n → is_relocations (section_number file i) ≡ false → lists_from file i ≡ lists_from file (i + 1)
+  unfolding lists_from
+  lists-later i n count below other =
+      ap (map (list_of file)) (sym (relocation_sections-left file i n count) ∙ filter-later is_relocations (section_number file) i n below other ∙ relocation_sections-left file (i + 1) n count)
+
+  pub lists-end : (i n : ℕ) → n ≡ (file_header file).section_count → n ≤ i → lists_from file i ≡ []
+  unfolding lists_from
+  lists-end i n count over =
+      ap (map (list_of file)) (sym (relocation_sections-left file i n count) ∙ filter-end is_relocations (section_number file) i n over)
 
   module _ (met : first_unmet (segment_rules file) ≡ None) where
     -- the image lies in the file, and its sizes fit
