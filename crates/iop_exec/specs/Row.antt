@@ -24,8 +24,8 @@ pub record Storing : Type 0 where
 pub data Row : Type 0 where
   -- it is done, with the processor after it, and the store that it makes, if any
   Goes : (after : Cpu) → (storing : Option Storing) → Row
-  -- it calls a service, with the processor after it
-  Serves : (code : ℕ) → (after : Cpu) → Row
+  -- it calls a service, and moves on
+  Serves : (code : ℕ) → Row
   -- it faults
   Faults : (fault : GuestFault) → Row
 
@@ -113,7 +113,7 @@ effect_of (Srlv rd rt rs) memory c = results c rd (shifted_right (reg c rt) (reg
 effect_of (Srav rd rt rs) memory c = results c rd (shifted_signed (reg c rt) (reg c rs % 32))
 effect_of (Jr rs) memory c = Goes (jumped c (reg c rs)) None
 effect_of (Jalr rd rs) memory c = Goes (jumped (linked c rd) (reg c rs)) None
-effect_of (Syscall n) memory c = Serves n (moved c)
+effect_of (Syscall n) memory c = Serves n
 effect_of (Break n) memory c = Faults Broken
 effect_of (Mfhi rd) memory c = results c rd c.hi
 effect_of (Mthi rs) memory c = pairs c (reg c rs) c.lo

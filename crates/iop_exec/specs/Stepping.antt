@@ -4,14 +4,14 @@ use Rattle.iop_base.specs.declared.outcomes.Width.{Width}
 use Rattle.iop_exec.specs.declared.cpu.Cpu.{Cpu}
 use Rattle.iop_exec.specs.declared.cpu.Event.{Event}
 use Rattle.iop_exec.specs.declared.cpu.Event.TheVariants.{Plain, Service, Fault}
-use Rattle.iop_exec.specs.Row.{Row, Goes, Serves, Faults}
+use Rattle.iop_exec.specs.Row.{Row, Goes, Serves, Faults, moved}
 
 -- what stores do is the bus's matter
 abbrev pub Does : {B : Type 0} → (B → ℕ → Width → ℕ → B → Type 0) → Row → Event → Cpu → B → Cpu → B → Type 0
 -- it is done; the bus stays as it is, or takes one store
 Does stores (Goes after None) event cpu bus cpu' bus' = (event ≡ Plain) × (cpu' ≡ after) × (bus' ≡ bus)
 Does stores (Goes after (Some s)) event cpu bus cpu' bus' = (event ≡ Plain) × (cpu' ≡ after) × stores bus s.at s.width s.value bus'
--- a service is called
-Does stores (Serves code after) event cpu bus cpu' bus' = (event ≡ Service code) × (cpu' ≡ after) × (bus' ≡ bus)
+-- a service is called, and the processor moves on
+Does stores (Serves code) event cpu bus cpu' bus' = (event ≡ Service code) × (cpu' ≡ moved cpu) × (bus' ≡ bus)
 -- a fault changes nothing
 Does stores (Faults fault) event cpu bus cpu' bus' = (event ≡ Fault fault) × (cpu' ≡ cpu) × (bus' ≡ bus)

@@ -10,7 +10,7 @@ use Rattle.iop_base.specs.declared.outcomes.Kept as fates
 use Rattle.iop_base.specs.declared.outcomes.Kept.TheVariants.{Resident, Removed, Removable}
 use Rattle.iop_base.specs.declared.outcomes.Stop.{Stop}
 use Rattle.iop_exec.specs.declared.cpu.Cpu.{Cpu}
-use Rattle.iop_exec.specs.Row.{Row, Goes, Serves, Faults, Storing, reg, row}
+use Rattle.iop_exec.specs.Row.{Row, Goes, Serves, Faults, Storing, moved, reg, row}
 use Rattle.iop_stubs.specs.Binding.{IsSound}
 use Rattle.iop_stubs.specs.Stubs.{Memory, after_store, meets}
 use Rattle.iop_stubs.specs.declared.live_stub.Stub.{Stub}
@@ -93,7 +93,7 @@ module _ (P : Stub → Type 0) where
 
   kept_performs : (w : World) (m : Loaded) (r : Row) → Kept w (performs w m r).world
   kept_performs w m (Goes after storing) = kept_stores (record w { cpu = after }) storing
-  kept_performs w m (Serves code after) = kept_calls w m after (service_of code)
+  kept_performs w m (Serves code) = kept_calls w m (moved w.cpu) (service_of code)
   kept_performs w m (Faults kind) = same P w.memory w.memory refl
 
   as_stepped : (w : World) (d : Stepped) → step w ≡ d → Kept w d.world → Kept w (step w).world
@@ -127,7 +127,7 @@ none_calls w m after (Some ModuleReturn) = none_returns (record w { cpu = after 
 
 none_performs : (w : World) (m : Loaded) (r : Row) → (performs w m r).world.waiting ≡ w.waiting
 none_performs w m (Goes after storing) = none_stores (record w { cpu = after }) storing
-none_performs w m (Serves code after) = none_calls w m after (service_of code)
+none_performs w m (Serves code) = none_calls w m (moved w.cpu) (service_of code)
 none_performs w m (Faults kind) = refl
 
 none_by : (w : World) (o : Option Stop) (l : Loader) → w.waiting ≡ None → w.over ≡ o → w.loader ≡ l → (step w).world.waiting ≡ None

@@ -2,7 +2,6 @@ pub mod Area
 pub mod StringLemmas
 pub mod Performing
 pub mod Storing
-pub mod Serving
 pub mod Executing
 pub mod Stepping
 pub mod Reaching

@@ -23,7 +23,7 @@ module _ {L : Type 0} (seen : L → Seen) where
   pub borrows : (row : Row) (event : Event) (cpu cpu' : Cpu) (old new : Board L) → Does (Stores seen) row event cpu old cpu' new → SameBorrows old new
   borrows (Goes after None) event cpu cpu' old new h = stays old new h.2
   borrows (Goes after (Some s)) event cpu cpu' old new h = record { guest = h.2.guest_name; lines = h.2.lines_name }
-  borrows (Serves code after) event cpu cpu' old new h = stays old new h.2
+  borrows (Serves code) event cpu cpu' old new h = stays old new h.2
   borrows (Faults kind) event cpu cpu' old new h = stays old new h.2
 
   quiet : (old new : Board L) → new ≡ old → (new.guest.now ≡ old.guest.now) × Gives (seen old.lines.now) (seen new.lines.now) []
@@ -35,7 +35,7 @@ module _ {L : Type 0} (seen : L → Seen) where
   over_board : (row : Row) (event : Event) (cpu cpu' : Cpu) (old new : Board L) → Does (Stores seen) row event cpu old cpu' new → Performs row event old.clock cpu old.guest.now (seen old.lines.now) cpu' new.guest.now (seen new.lines.now)
   over_board (Goes after None) event cpu cpu' old new h = let q = quiet old new h.2 in (h.0, h.1, q.0, q.1)
   over_board (Goes after (Some s)) event cpu cpu' old new h = (h.0, h.1, h.2.memory, h.2.lines)
-  over_board (Serves code after) event cpu cpu' old new h = let q = quiet old new h.2 in (h.0, h.1, q.0, q.1)
+  over_board (Serves code) event cpu cpu' old new h = let q = quiet old new h.2 in (h.0, h.1, q.0, q.1)
   over_board (Faults kind) event cpu cpu' old new h = let q = quiet old new h.2 in (h.0, h.1, q.0, q.1)
 
   pub performed : (row : Row) (event : Event) (cpu cpu' : Cpu) (old new : Board L) (memory : Memory) (told : Seen) → Does (Stores seen) row event cpu old cpu' new → memory ≡ new.guest.now → told ≡ seen new.lines.now → Performs row event old.clock cpu old.guest.now (seen old.lines.now) cpu' memory told

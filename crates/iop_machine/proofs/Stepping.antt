@@ -8,7 +8,7 @@ use Rattle.iop_base.specs.Keeping.{kept_of}
 use Rattle.iop_base.specs.declared.outcomes.Stop.{Stop}
 use Rattle.iop_base.specs.declared.outcomes.Stop.TheVariants.{Budget}
 use Rattle.iop_exec.specs.declared.cpu.Cpu.{Cpu}
-use Rattle.iop_exec.specs.Row.{Row, Goes, Serves, Faults, Storing, reg, row}
+use Rattle.iop_exec.specs.Row.{Row, Goes, Serves, Faults, Storing, moved, reg, row}
 use Rattle.iop_linker.specs.Linking.{links}
 use Rattle.iop_linker.specs.declared.link_fault.LinkFault.{LinkFault}
 use Rattle.iop_stubs.specs.declared.live_stub.Stub.{Stub}
@@ -161,7 +161,7 @@ rest_calls w m after (Some ModuleReturn) e f = rest_returns (record w { cpu = af
 
 rest_performs : (w : World) (m : Loaded) (r : Row) → w.waiting ≡ None → w.loader ≡ Running m → rest (performs w m r).world ≤ 1
 rest_performs w m (Goes after storing) e f = rest_stores (record w { cpu = after }) m storing e f
-rest_performs w m (Serves code after) e f = rest_calls w m after (service_of code) e f
+rest_performs w m (Serves code) e f = rest_calls w m (moved w.cpu) (service_of code) e f
 rest_performs w m (Faults kind) e f = omega arith
 
 rest_step_by : (w : World) (o : Option Stop) (m : Option (Result Image Code)) (l : Loader) (b : Bool) → w.over ≡ o → w.waiting ≡ m → w.loader ≡ l → o ≡ None → executes_by o m l ≡ b → rest (step w).world + cond b 0 1 ≤ rest_by o m l
@@ -223,7 +223,7 @@ clock_calls w m after (Some ModuleReturn) = omega (arith, clock_returns (record 
 
 clock_performs : (w : World) (m : Loaded) (r : Row) → (performs w m r).world.clock ≤ w.clock + 1
 clock_performs w m (Goes after storing) = omega (arith, clock_stores (record w { cpu = after }) storing)
-clock_performs w m (Serves code after) = clock_calls w m after (service_of code)
+clock_performs w m (Serves code) = clock_calls w m (moved w.cpu) (service_of code)
 clock_performs w m (Faults kind) = omega arith
 
 clock_by : (w : World) (o : Option Stop) (m : Option (Result Image Code)) (l : Loader) (b : Bool) → w.over ≡ o → w.waiting ≡ m → w.loader ≡ l → executes_by o m l ≡ b → (step w).world.clock ≤ w.clock + cond b 1 0

@@ -5,7 +5,7 @@ use Rattle.iop_base.specs.declared.codes.Code.{Code}
 use Rattle.iop_base.specs.declared.outcomes.Stop.{Stop}
 use Rattle.iop_base.specs.declared.outcomes.Stop.TheVariants.{Quiet, Budget}
 use Rattle.iop_base.specs.declared.tell.Line.TheVariants.{Run}
-use Rattle.iop_exec.specs.Row.{Row, Goes, Serves, Faults, Storing, row}
+use Rattle.iop_exec.specs.Row.{Row, Goes, Serves, Faults, Storing, moved, row}
 use Rattle.iop_machine.specs.declared.loader.Loaded.{Loaded}
 use Rattle.iop_machine.specs.declared.loader.Loader.{Loader}
 use Rattle.iop_machine.specs.declared.loader.Loader.TheVariants.{Dormant, Ready, Running}
@@ -23,7 +23,7 @@ stores_it w (Some s) = stores_number w s.at s.width s.value
 -- an instruction of the module that runs
 abbrev pub performs : World → Loaded → Row → Stepped
 performs w m (Goes after storing) = changed (stores_it (record w { cpu = after }) storing) ticked
-performs w m (Serves code after) = calls w m after (service_of code)
+performs w m (Serves code) = calls w m (moved w.cpu) (service_of code)
 performs w m (Faults kind) = silent (faults_with w kind)
 
 -- by the loader's thread: it is taken to run, it runs, or nothing is left to do

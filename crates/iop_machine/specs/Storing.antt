@@ -9,7 +9,7 @@ use Rattle.iop_stubs.specs.Stubs.{Memory, after_store, store_lines}
 use Rattle.iop_exec.specs.declared.cpu.Cpu.{Cpu}
 use Rattle.iop_exec.specs.declared.cpu.Event.{Event}
 use Rattle.iop_exec.specs.declared.cpu.Event.TheVariants.{Plain, Service, Fault}
-use Rattle.iop_exec.specs.Row.{Row, Goes, Serves, Faults, Storing}
+use Rattle.iop_exec.specs.Row.{Row, Goes, Serves, Faults, Storing, moved}
 use Rattle.iop_machine.specs.declared.board.Board.{Board}
 use Rattle.iop_machine.specs.World.{World, Stepped}
 
@@ -60,7 +60,7 @@ lines_after clock memory (Some s) = store_lines clock memory (place_of memory s.
 abbrev pub Performs : Row → Event → ℕ → Cpu → Memory → Seen → Cpu → Memory → Seen → Type 0
 Performs (Goes after storing) event clock cpu memory seen cpu' memory' seen' =
     (event ≡ Plain) × (cpu' ≡ after) × (memory' ≡ memory_after memory storing) × Gives seen seen' (lines_after clock memory storing)
-Performs (Serves code after) event clock cpu memory seen cpu' memory' seen' =
-    (event ≡ Service code) × (cpu' ≡ after) × (memory' ≡ memory) × Gives seen seen' []
+Performs (Serves code) event clock cpu memory seen cpu' memory' seen' =
+    (event ≡ Service code) × (cpu' ≡ moved cpu) × (memory' ≡ memory) × Gives seen seen' []
 Performs (Faults kind) event clock cpu memory seen cpu' memory' seen' =
     (event ≡ Fault kind) × (cpu' ≡ cpu) × (memory' ≡ memory) × Gives seen seen' []

@@ -1,4 +1,4 @@
-use Rattle.std.proofs.Common.{◌≡◌, sym, ◌∙◌, refl, subst}
+use Rattle.std.proofs.Common.{◌≡◌, sym, ◌∙◌, subst}
 use Rattle.iop_base.specs.Seen.{Gives}
 use Rattle.iop_exec.specs.Row.{row}
 use Rattle.iop_machine.specs.Stepping.{performs}
@@ -14,4 +14,4 @@ returns-in-Some-clause-lines g c =
 pub returns-in-None-clause-world : goal.returns-in-None-clause-world
 returns-in-None-clause-world g c =
     subst (λ (w : World). c.fault-in-None.new.self ≡ (performs w c.args.loaded (row w.memory.ram w.cpu)).world) c.self.view_is
-    (no_service _ c.args.loaded _ c.in-Service.code _ _ _ _ _ _ refl c.perform.ensures c.in-Service.is (sym c.of_code.ensures ∙ c.in-None.is) c.fault-in-None.ensures)
+    (no_service _ c.args.loaded _ c.in-Service.code _ _ _ _ _ _ c.perform.ensures c.in-Service.is (sym c.of_code.ensures ∙ c.in-None.is) c.fault-in-None.ensures)
