@@ -1,6 +1,6 @@
 //! The text of a word.
 
-ghost use Rattle.std.specs.Prelude.{◌≡◌, ◌+◌, ◌≤◌, ◌<◌, ◌++◌, codes, length};
+ghost use Rattle.std.specs.Prelude.{◌≡◌, ◌+◌, ◌-◌, ◌*◌, ◌≤◌, ◌<◌, ◌++◌, codes, length};
 ghost use Rattle.arrayvec.specs.ArrayVec.{array_vec_len};
 ghost use Rattle.iop_base.specs.Text.{hex};
 ghost use Rattle.iop_disasm.specs.Spelling.{inst_bytes, operands_text, separator, operand_text, register, bits_half};
@@ -16,7 +16,7 @@ const TEXT_ROOM: usize = 64;
 pub(crate) type Text = ArrayVec<u8, TEXT_ROOM>;
 
 /// The text of a word as the instruction at the address `at`: its name, a space, and its operands with a
-/// comma between each two. It is no longer than 40 bytes.
+/// comma between each two. It is no longer than 32 bytes.
 ///
 /// A register is `$` and its number. Signed immediates, amounts to shift by and codes are decimal, the bits
 /// of an immediate are `0x` and 4 hexadecimal digits, and the target of a branch or a jump is its address in
@@ -24,7 +24,7 @@ pub(crate) type Text = ArrayVec<u8, TEXT_ROOM>;
 /// parentheses. A word that is no instruction is `.word 0x` and its 8 digits.
 pub fn inst_text(word: u32, at: u32) -> ArrayVec<u8, 64>
     ensures bytes { result.items ≡ inst_bytes word at }
-    ensures short { array_vec_len result ≤ 40 }
+    ensures short { array_vec_len result ≤ 32 }
 {
     let mut text = ArrayVec::new();
     append_inst(&mut text, word, at);
@@ -36,7 +36,7 @@ pub fn inst_text(word: u32, at: u32) -> ArrayVec<u8, 64>
 pub(crate) fn append_inst(text: &mut Text, word: u32, at: u32)
     requires { array_vec_len text.old + 40 ≤ TEXT_ROOM }
     ensures bytes { text.new.items ≡ text.old.items ++ inst_bytes word at }
-    ensures short { array_vec_len text.new ≤ array_vec_len text.old + 40 }
+    ensures short { array_vec_len text.new ≤ array_vec_len text.old + 32 }
 {
     match spelling_of(word) {
         Some(Spelling { name, operands }) => {
@@ -56,7 +56,7 @@ fn append_operands(text: &mut Text, operands: &[Operand], fields: &Fields, at: u
     requires room { array_vec_len text.old + 32 ≤ TEXT_ROOM }
     requires few { length operands.now ≤ 3 }
     ensures bytes { text.new.items ≡ text.old.items ++ operands_text at fields.now operands.now }
-    ensures short { array_vec_len text.new ≤ array_vec_len text.old + 32 }
+    ensures short { array_vec_len text.new ≤ array_vec_len text.old + (8 + 9 * (length operands.now - 1)) }
 {
     if let Some((first, others)) = operands.split_first() {
         append_operand(text, *first, fields, at);
@@ -83,7 +83,7 @@ fn append_separator(text: &mut Text, operand: Operand)
 fn append_operand(text: &mut Text, operand: Operand, fields: &Fields, at: u32)
     requires { array_vec_len text.old + 10 ≤ TEXT_ROOM }
     ensures bytes { text.new.items ≡ text.old.items ++ operand_text at fields.now operand }
-    ensures short { array_vec_len text.new ≤ array_vec_len text.old + 10 }
+    ensures short { array_vec_len text.new ≤ array_vec_len text.old + 8 }
 {
     match operand {
         Operand::Rd => append_register(text, fields.rd),
