@@ -4,13 +4,11 @@ ghost use Rattle.iop_base.specs.Numbers.{sign_extended};
 ghost use Rattle.iop_exec.specs.Arithmetic.{as_signed, fitting, shifted_signed, is_less, is_negative, signed_product, signed_quotient, signed_remainder, quotient, remainder, spliced, bits_below, loaded_left, loaded_right, stored_left, stored_right};
 ghost use Rattle.std.specs.Prelude.{◌≡◌, ◌<◌, ◌≤◌, ◌%◌, ◌^◌, ◌+ℤ◌, ◌-ℤ◌};
 
-use iop_base::sign_extended;
-
 /// A signed immediate as a word.
 pub(crate) fn signed(imm: u16) -> u32
     ensures { result ≡ sign_extended 16 imm }
 {
-    sign_extended(16, imm.into())
+    i32::from(imm.cast_signed()).cast_unsigned()
 }
 
 /// The sum of two signed words: `None` where it does not fit.

@@ -48,7 +48,7 @@ impl Cpu {
         }
     }
 
-    /// An instruction is done whose result goes into a register.
+    /// Ends an instruction: its result goes into a register.
     pub(crate) fn complete(&mut self, register: Reg, value: u32) -> Event
         ensures state { self.new ≡ moved (with_reg self.old register value) }
         ensures event { result ≡ Event.Plain }
@@ -58,7 +58,7 @@ impl Cpu {
         Event::Plain
     }
 
-    /// A load is done, of a number that goes into a register: `Address` where there is none.
+    /// Ends a load: the number goes into a register. `Address` where there is none.
     pub(crate) fn load(&mut self, register: Reg, number: Option<u32>) -> Event
         ensures { MatchOption number ((result ≡ Event.Fault GuestFault.Address) × (self.new ≡ self.old))
             (λ n. (result ≡ Event.Plain) × (self.new ≡ moved (with_reg self.old register n))) }
@@ -69,7 +69,7 @@ impl Cpu {
         }
     }
 
-    /// A sum is done, which goes into a register: `Overflow` where it does not fit.
+    /// Ends a sum or a difference: it goes into a register. `Overflow` where there is none that fits.
     pub(crate) fn complete_sum(&mut self, register: Reg, sum: Option<u32>) -> Event
         ensures { MatchOption sum ((result ≡ Event.Fault GuestFault.Overflow) × (self.new ≡ self.old))
             (λ n. (result ≡ Event.Plain) × (self.new ≡ moved (with_reg self.old register n))) }
@@ -80,7 +80,7 @@ impl Cpu {
         }
     }
 
-    /// An instruction is done that writes HI and LO.
+    /// Ends an instruction that writes HI and LO.
     pub(crate) fn complete_pair(&mut self, hi: u32, lo: u32) -> Event
         ensures state { self.new ≡ moved (record self.old { hi = hi; lo = lo }) }
         ensures event { result ≡ Event.Plain }
@@ -91,7 +91,7 @@ impl Cpu {
         Event::Plain
     }
 
-    /// An instruction is done that writes the upper and lower half of a product to HI and LO.
+    /// Ends a multiplication: the upper half of the product goes into HI, the lower into LO.
     pub(crate) fn complete_product(&mut self, product: u64) -> Event
         ensures state { self.new ≡ moved (record self.old { hi = product / 2 ^ 32; lo = product % 2 ^ 32 }) }
         ensures event { result ≡ Event.Plain }
@@ -99,7 +99,7 @@ impl Cpu {
         self.complete_pair((product >> 32) as u32, (product % (1 << 32)) as u32)
     }
 
-    /// An instruction is done that calls a service.
+    /// Ends a `syscall`.
     pub(crate) fn serve(&mut self, code: Code20) -> Event
         ensures state { self.new ≡ moved self.old }
         ensures event { result ≡ Event.Service code }
@@ -108,8 +108,8 @@ impl Cpu {
         Event::Service(code.number())
     }
 
-    /// A jump is done: the instruction at `next` stands in its delay slot, and the one at the target
-    /// comes after it.
+    /// Jumps: the instruction at `next` stands in the delay slot, and the one at the target comes
+    /// after it.
     pub(crate) fn jump(&mut self, target: u32) -> Event
         ensures state { self.new ≡ jumped self.old target }
         ensures event { result ≡ Event.Plain }
@@ -120,7 +120,7 @@ impl Cpu {
         Event::Plain
     }
 
-    /// A jump is done that links.
+    /// Jumps, with the address behind the delay slot in a register.
     pub(crate) fn jump_and_link(&mut self, register: Reg, target: u32) -> Event
         ensures state { self.new ≡ jumped (linked self.old register) target }
         ensures event { result ≡ Event.Plain }
@@ -129,7 +129,7 @@ impl Cpu {
         self.jump(target)
     }
 
-    /// A branch is done: what comes after its delay slot depends on whether it is taken.
+    /// Branches, or not: the delay slot comes first either way.
     pub(crate) fn branch(&mut self, taken: bool, imm: u16) -> Event
         ensures state { self.new ≡ branched self.old taken imm }
         ensures event { result ≡ Event.Plain }
@@ -142,7 +142,7 @@ impl Cpu {
         self.jump(target)
     }
 
-    /// A branch is done that links, taken or not.
+    /// Branches, or not, with the address behind the delay slot in register 31 either way.
     pub(crate) fn branch_and_link(&mut self, taken: bool, imm: u16) -> Event
         ensures state { self.new ≡ branched (linked self.old 31) taken imm }
         ensures event { result ≡ Event.Plain }

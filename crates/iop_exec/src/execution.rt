@@ -1,6 +1,7 @@
-ghost use Rattle.iop_exec.specs.Row.{effect_of, executed, row};
+ghost use Rattle.iop_exec.specs.Row.{Faults, effect_of, executed, row};
 ghost use Rattle.iop_exec.specs.Stepping.{Does};
-ghost use Rattle.std.specs.Prelude.{◌≡◌};
+ghost use Rattle.iop_isa.specs.Instructions.{inst_of};
+ghost use Rattle.std.specs.Prelude.{◌≡◌, ℕ, List, Some, None};
 
 use crate::arithmetic::{
     difference, is_less, is_negative, quotient, remainder, shifted_signed, signed, signed_product,
@@ -13,7 +14,7 @@ use crate::memory::{
     upper_part,
 };
 use iop_base::{GuestFault, Width};
-use iop_isa::{Inst, Reg, decode, jump_target};
+use iop_isa::{Fields, Inst, Reg, jump_target, selected, table};
 
 /// Executes the instruction at `pc`.
 ///
@@ -22,7 +23,8 @@ use iop_isa::{Inst, Reg, decode, jump_target};
 /// those of the instruction. One that faults changes nothing.
 #[tactic(auto, unfolding(crate::specs::Row::row))]
 pub fn step<B: Bus>(cpu: &mut Cpu, bus: &mut B) -> Event
-    ensures { Does B.stores (row (B.bytes bus.old) cpu.old) result cpu.old bus.old cpu.new bus.new }
+    ensures { Does B.bytes B.stores (row (B.bytes bus.old) cpu.old)
+        result cpu.old bus.old cpu.new bus.new }
 {
     match bus.fetch(cpu.pc) {
         Ok(word) => execute_word(word, cpu, bus),
@@ -30,22 +32,56 @@ pub fn step<B: Bus>(cpu: &mut Cpu, bus: &mut B) -> Event
     }
 }
 
+/// Executes a word as the instruction of a row, with the operands that fields hold.
+macro_rules! executed {
+    (($word:ident, $fields:ident, $cpu:ident, $bus:ident) ($name:literal $inst:ident { $($field:ident: $operand:ident),* })) => {
+        execute_as($word, Inst::$inst { $($field: $fields.$field),* }, $cpu, $bus)
+    };
+}
+
 /// Executes a word as an instruction.
-#[tactic(auto, unfolding(crate::specs::Row::executed))]
+///
+/// Each arm of the table executes its own instruction, so the word is looked at only once.
+#[tactic(auto, unfolding(iop_isa::specs::Instructions::inst_of, iop_isa::specs::Table::row_of))]
 fn execute_word<B: Bus>(word: u32, cpu: &mut Cpu, bus: &mut B) -> Event
-    ensures { Does B.stores (executed word (B.bytes bus.old) cpu.old) result cpu.old bus.old cpu.new bus.new }
+    ensures { Does B.bytes B.stores (executed word (B.bytes bus.old) cpu.old)
+        result cpu.old bus.old cpu.new bus.new }
 {
-    match decode(word) {
-        None => Event::Fault(GuestFault::Reserved),
-        Some(inst) if cpu.in_slot && inst.is_jump() => Event::Fault(GuestFault::BranchInSlot),
-        Some(inst) => execute(inst, cpu, bus),
+    let fields = Fields::of(word);
+    table!(selected!(word, executed!(word, fields, cpu, bus), reserved(word)))
+}
+
+/// Executes a word as an instruction, which it is.
+#[inline(always)]
+#[tactic(auto, unfolding(crate::specs::Row::executed))]
+fn execute_as<B: Bus>(word: u32, inst: Inst, cpu: &mut Cpu, bus: &mut B) -> Event
+    requires { inst_of word ≡ Some inst }
+    ensures { Does B.bytes B.stores (executed word (B.bytes bus.old) cpu.old)
+        result cpu.old bus.old cpu.new bus.new }
+{
+    if cpu.in_slot && inst.is_jump() {
+        Event::Fault(GuestFault::BranchInSlot)
+    } else {
+        execute(inst, cpu, bus)
     }
 }
 
+/// What a word does that is no instruction.
+#[tactic(auto, unfolding(crate::specs::Row::executed))]
+fn reserved(word: u32) -> Event
+    requires { inst_of word ≡ None }
+    ensures event { result ≡ Event.Fault GuestFault.Reserved }
+    ensures row { (memory : List ℕ) (c : Cpu) → executed word memory c ≡ Faults GuestFault.Reserved }
+{
+    Event::Fault(GuestFault::Reserved)
+}
+
 /// Executes an instruction that may stand where it does.
+#[inline(always)]
 #[tactic(auto, unfolding(crate::specs::Row::effect_of))]
 fn execute<B: Bus>(inst: Inst, cpu: &mut Cpu, bus: &mut B) -> Event
-    ensures { Does B.stores (effect_of inst (B.bytes bus.old) cpu.old) result cpu.old bus.old cpu.new bus.new }
+    ensures { Does B.bytes B.stores (effect_of inst (B.bytes bus.old) cpu.old)
+        result cpu.old bus.old cpu.new bus.new }
 {
     match inst {
         Inst::Sll { rd, rt, sa } => cpu.complete(rd, cpu.reg(rt) << sa.number()),

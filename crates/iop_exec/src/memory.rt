@@ -54,7 +54,8 @@ pub(crate) fn lower_part<B: Bus>(bus: &B, at: u32, old: u32) -> Option<u32>
 
 /// Stores the low bytes of a value.
 pub(crate) fn store<B: Bus>(cpu: &mut Cpu, bus: &mut B, at: u32, width: Width, value: u32) -> Event
-    ensures { Does B.stores (stores cpu.old (B.bytes bus.old) at width value) result cpu.old bus.old cpu.new bus.new }
+    ensures { Does B.bytes B.stores (stores cpu.old (B.bytes bus.old) at width value)
+        result cpu.old bus.old cpu.new bus.new }
 {
     match bus.store(at, width, value) {
         Ok(()) => {
@@ -67,7 +68,8 @@ pub(crate) fn store<B: Bus>(cpu: &mut Cpu, bus: &mut B, at: u32, width: Width, v
 
 /// Stores as `swl` does.
 pub(crate) fn store_upper_part<B: Bus>(cpu: &mut Cpu, bus: &mut B, at: u32, value: u32) -> Event
-    ensures { Does B.stores (stores_over cpu.old (B.bytes bus.old) at (stored_left at value)) result cpu.old bus.old cpu.new bus.new }
+    ensures { Does B.bytes B.stores (stores_over cpu.old (B.bytes bus.old) at (stored_left at value))
+        result cpu.old bus.old cpu.new bus.new }
 {
     match loaded(bus, aligned(at), Width::Word) {
         Some(word) => store(
@@ -83,7 +85,8 @@ pub(crate) fn store_upper_part<B: Bus>(cpu: &mut Cpu, bus: &mut B, at: u32, valu
 
 /// Stores as `swr` does.
 pub(crate) fn store_lower_part<B: Bus>(cpu: &mut Cpu, bus: &mut B, at: u32, value: u32) -> Event
-    ensures { Does B.stores (stores_over cpu.old (B.bytes bus.old) at (stored_right at value)) result cpu.old bus.old cpu.new bus.new }
+    ensures { Does B.bytes B.stores (stores_over cpu.old (B.bytes bus.old) at (stored_right at value))
+        result cpu.old bus.old cpu.new bus.new }
 {
     match loaded(bus, aligned(at), Width::Word) {
         Some(word) => store(

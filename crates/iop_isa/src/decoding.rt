@@ -5,12 +5,12 @@ ghost use Rattle.iop_isa.specs.Instructions.{inst_of};
 
 use crate::fields::Fields;
 use crate::instruction::Inst;
-use crate::table::{selected, table};
+use crate::{selected, table};
 
 /// The instruction of a row with the operands that fields hold.
 macro_rules! with_operands {
     (($fields:ident) ($name:literal $inst:ident { $($field:ident: $operand:ident),* })) => {
-        Inst::$inst { $($field: $fields.$field),* }
+        Some(Inst::$inst { $($field: $fields.$field),* })
     };
 }
 
@@ -22,5 +22,5 @@ pub fn decode(word: u32) -> Option<Inst>
     ensures { result ≡ inst_of word }
 {
     let fields = Fields::of(word);
-    table!(selected!(word, with_operands!(fields)))
+    table!(selected!(word, with_operands!(fields), None))
 }

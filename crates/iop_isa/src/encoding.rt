@@ -7,7 +7,7 @@ ghost use Rattle.iop_isa.specs.Instructions.{inst_of, plain_word, word_with, Hol
 
 use crate::fields::Fields;
 use crate::instruction::Inst;
-use crate::table::table;
+use crate::table;
 
 /// The word of an instruction, by the format and the code of its row.
 macro_rules! encoded {

@@ -65,7 +65,7 @@ fn register(word: u32, from: u32) -> Reg
 }
 
 /// So many bits of a word, from a bit on.
-pub(crate) fn field(word: u32, from: u32, bits: u32) -> u32
+pub fn field(word: u32, from: u32, bits: u32) -> u32
     requires from { from < 32 }
     requires bits { bits < 32 }
     ensures { result ≡ field word from bits }

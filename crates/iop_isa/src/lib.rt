@@ -14,7 +14,7 @@ mod tests;
 
 pub use decoding::decode;
 pub use encoding::encode;
-pub use fields::Fields;
+pub use fields::{Fields, field};
 pub use instruction::Inst;
 pub use operands::{Code20, Reg, Target26};
 pub use spelling::{Spelling, spelling_of};

@@ -3,7 +3,8 @@
 ghost use Rattle.std.specs.Prelude.{◌≡◌, ◌≤◌, length, option_map, Option, Some};
 ghost use Rattle.iop_isa.specs.Writing.{seen, written, IsShort};
 
-use crate::table::{Operand, selected, table};
+use crate::table::Operand;
+use crate::{selected, table};
 
 /// How an instruction is written: its name, and its operands in their order.
 #[derive(Clone, Copy)]
@@ -17,7 +18,7 @@ pub struct Spelling {
 /// How a row is written.
 macro_rules! spelled {
     (() ($name:literal $inst:ident { $($field:ident: $operand:ident),* })) => {
-        Spelling { name: $name, operands: &[$(Operand::$operand),*] }
+        Some(Spelling { name: $name, operands: &[$(Operand::$operand),*] })
     };
 }
 
@@ -27,5 +28,5 @@ pub fn spelling_of(word: u32) -> Option<Spelling>
     ensures written { option_map seen result ≡ written word }
     ensures short { IsShort result }
 {
-    table!(selected!(word, spelled!()))
+    table!(selected!(word, spelled!(), None))
 }

@@ -30,6 +30,7 @@ pub enum Operand {
 /// The rows stand by their format. A row has a code, and then the instruction's name, its variant, and for each
 /// field of the variant the operand that it is. The code is the function under opcode 0, which has the formats
 /// `registers` and `code`; it is `rt` under opcode 1, whose format is `regimm`; and else it is the opcode.
+#[macro_export]
 macro_rules! table {
     ($expand:ident!($($given:tt)*)) => {
         $expand! {
@@ -106,33 +107,30 @@ macro_rules! table {
     };
 }
 
-pub(crate) use table;
-
-/// What the macro `$found` makes of the row of a word, behind what it is given: `None` for a word of no row.
+/// What the macro `$found` makes of the row of a word, behind what it is given: `$none` for a word of no row.
+#[macro_export]
 macro_rules! selected {
     (
-        ($word:ident, $found:ident! $given:tt)
+        ($word:ident, $found:ident! $given:tt, $none:expr)
         registers { $($registers:literal $registers_row:tt)* }
         code { $($code:literal $code_row:tt)* }
         regimm { $($regimm:literal $regimm_row:tt)* }
         jump { $($jump:literal $jump_row:tt)* }
         immediate { $($immediate:literal $immediate_row:tt)* }
     ) => {
-        match $crate::fields::field($word, 26, 6) {
-            0 => match $crate::fields::field($word, 0, 6) {
-                $($registers => Some($found!($given $registers_row)),)*
-                $($code => Some($found!($given $code_row)),)*
-                _ => None,
+        match $crate::field($word, 26, 6) {
+            0 => match $crate::field($word, 0, 6) {
+                $($registers => $found!($given $registers_row),)*
+                $($code => $found!($given $code_row),)*
+                _ => $none,
             },
-            1 => match $crate::fields::field($word, 16, 5) {
-                $($regimm => Some($found!($given $regimm_row)),)*
-                _ => None,
+            1 => match $crate::field($word, 16, 5) {
+                $($regimm => $found!($given $regimm_row),)*
+                _ => $none,
             },
-            $($jump => Some($found!($given $jump_row)),)*
-            $($immediate => Some($found!($given $immediate_row)),)*
-            _ => None,
+            $($jump => $found!($given $jump_row),)*
+            $($immediate => $found!($given $immediate_row),)*
+            _ => $none,
         }
     };
 }
-
-pub(crate) use selected;

@@ -20,6 +20,9 @@ const SIZE: u32 = 0x20_0000;
 pub fn physical(at: u32) -> Option<u32>
     ensures { result ≡ phys 0x200000 at }
 {
+    if at < SIZE {
+        return Some(at);
+    }
     let place = at % 0x2000_0000;
     match at / 0x2000_0000 {
         0 | 4 | 5 if place < SIZE => Some(place),
@@ -79,9 +82,9 @@ impl Ram {
         ensures inside { IfSome result (λ p. p + len ≤ length self.now) }
         ensures sized { length self.now ≡ 0x200000 }
     {
-        let size = self.bytes.len();
+        let _ = &self.bytes;
         let place = physical(at)? as usize;
-        (len <= size - place).then_some(place)
+        (len <= SIZE as usize - place).then_some(place)
     }
 
     /// The place of an access of this width.
