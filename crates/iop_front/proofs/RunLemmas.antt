@@ -9,6 +9,7 @@ use Rattle.iop_base.proofs.Giving.{extended-nil, adds_then, stops_before, stops_
 use Rattle.iop_machine.specs.Running.{Finishes, Faults}
 use Rattle.iop_machine.specs.Stepping.{Ran, steps, run_of}
 use Rattle.iop_machine.specs.World.{World}
+use Rattle.iop_machine.proofs.Advancing.{stops_short}
 use Rattle.iop_machine.proofs.Lasting.{runs_are_computed, goes_further}
 use Rattle.iop_trace.specs.Outs.{Leaves}
 use Rattle.iop_trace.specs.Sent.{Sends}
@@ -45,7 +46,7 @@ module _ (w : World) (n : ℕ) (old : Seen) where
   pub cut_run : (k : ℕ) (status : Status) (new : Seen) → status ≡ SinkFault → Faults w n k old new → Comes (outcome_of_run (run_of n w)) status old new
   cut_run k status new e h =
       let further = goes_further w n (suc k) h.before in
-      let run = subst (λ (ps : List Piece). StopsShort old new ps) (sym further.1) (stops_before further.0 h.short) in
+      let run = subst (λ (ps : List Piece). StopsShort old new ps) (sym further.1) (stops_before further.0 (stops_short {w = w} {budget = n} {k = k} h)) in
       (true, e, stops_before (end_line (run_of n w) ∷ []) run)
 
   -- the run was whole, and so was its last line, or not

@@ -15,7 +15,7 @@ use Rattle.iop_machine.specs.World.{World, Stepped, silent, and_then}
 use Rattle.iop_machine.proofs.Reaching.{steps_zero, steps_suc, executed_suc, not_over}
 use Rattle.iop_machine.proofs.Stepping.{rest, rest_by, rest_step, step_over}
 
-steps_more : (w : World) (k j : ℕ) → steps (k + j) w ≡ record { world = (steps j (steps k w).world).world; pieces = (steps k w).pieces ++ (steps j (steps k w).world).pieces }
+pub steps_more : (w : World) (k j : ℕ) → steps (k + j) w ≡ record { world = (steps j (steps k w).world).world; pieces = (steps k w).pieces ++ (steps j (steps k w).world).pieces }
 unfolding steps
 steps_more w k zero =
     ap (λ n. steps n w) (add-zero k) ∙ ap (λ p. record { world = (steps k w).world; pieces = p }) (sym (append-nil (steps k w).pieces))
@@ -26,7 +26,7 @@ steps_more w k (suc j) =
 pub steps_compose : StepsCompose
 steps_compose = λ w k j. steps_more w k j
 
-executed_more : (w : World) (k j : ℕ) → executed (k + j) w ≡ executed k w + executed j (steps k w).world
+pub executed_more : (w : World) (k j : ℕ) → executed (k + j) w ≡ executed k w + executed j (steps k w).world
 unfolding executed
 executed_more w k zero = ap (λ n. executed n w) (add-zero k) ∙ sym (add-zero (executed k w))
 executed_more w k (suc j) =
@@ -88,7 +88,7 @@ at_end None false l stop e = cc
 at_end None true zero stop e = inr refl
 at_end None true (suc l) stop e = cc
 
-at_shift : (w : World) (n m k i : ℕ) → executed k w ≡ n → stop_at (steps (k + i) w).world (n + m - executed (k + i) w) ≡ stop_at (steps i (steps k w).world).world (m - executed i (steps k w).world)
+pub at_shift : (w : World) (n m k i : ℕ) → executed k w ≡ n → stop_at (steps (k + i) w).world (n + m - executed (k + i) w) ≡ stop_at (steps i (steps k w).world).world (m - executed i (steps k w).world)
 at_shift w n m k i e =
     let less : n + m - executed (k + i) w ≡ m - executed i (steps k w).world = omega (arith, executed_more w k i, e) in
     ap (λ (d : Stepped). stop_at d.world (n + m - executed (k + i) w)) (steps_more w k i) ∙ ap (stop_at (steps i (steps k w).world).world) less
@@ -174,7 +174,7 @@ one_more true = refl
 one_more false = refl
 
 -- the steps without an instruction are few
-few_steps : (w : World) (n k : ℕ) → ((j : ℕ) → j < k → GoesOn w n j) → k + rest (steps k w).world ≤ executed k w + rest w
+pub few_steps : (w : World) (n k : ℕ) → ((j : ℕ) → j < k → GoesOn w n j) → k + rest (steps k w).world ≤ executed k w + rest w
 unfolding steps executed
 few_steps w n zero f = omega arith
 few_steps w n (suc k) f =

@@ -2,10 +2,11 @@ pub mod Area
 pub mod StringLemmas
 pub mod Performing
 pub mod Storing
-pub mod Executing
 pub mod Stepping
 pub mod Reaching
+pub mod Bursting
 pub mod Lasting
+pub mod Advancing
 pub mod LoadingLemmas
 pub mod StubLemmas
 pub mod Keeping

@@ -15,10 +15,8 @@ use Rattle.iop_stubs.specs.declared.live_stub.Stub.{Stub}
 use Rattle.iop_machine.specs.declared.loader.Loaded.{Loaded}
 use Rattle.iop_machine.specs.declared.loader.Loader.{Loader}
 use Rattle.iop_machine.specs.declared.loader.Loader.TheVariants.{Dormant, Ready, Running}
-use Rattle.iop_machine.specs.declared.machine.Progress.TheVariants.{Stopped, Prepared, Executed}
 use Rattle.iop_machine.specs.declared.service.Service.{Service}
 use Rattle.iop_machine.specs.declared.service.Service.TheVariants.{Kprintf, ThreadReturn, ModuleReturn}
-use Rattle.iop_machine.specs.Advancing.{Advances, Went}
 use Rattle.iop_machine.specs.Loading.{boots, loads, loaded_of, enters, copies, with_kernel}
 use Rattle.iop_machine.specs.Images.{Image, first_base}
 use Rattle.iop_machine.specs.Services.{service_of, calls, returns, keeps}
@@ -59,41 +57,45 @@ goes_by : (left : ℕ) → 0 < left → stops_by None true left ≡ None
 goes_by zero h = absurd (omega (arith, h))
 goes_by (suc left) h = refl
 
+-- a step was taken, which executes an instruction or does not
+pub record Takes (executing : Bool) (left : ℕ) (old new : World) (gives : List Piece → Type 0) : Type 0 where
+  pub goes_on : stop_at old left ≡ None
+  pub kind : executes old ≡ executing
+  pub world : new ≡ (step old).world
+  pub pieces : gives (step old).pieces
+
 module _ (w new : World) (left : ℕ) (gives : List Piece → Type 0) where
-  went : (d : Stepped) → step w ≡ d → stop_at w left ≡ None → new ≡ d.world → gives d.pieces → Went left w new gives
-  went d s on e g = record {
+  takes : (executing : Bool) (d : Stepped) → step w ≡ d → executes w ≡ executing → stop_at w left ≡ None → new ≡ d.world → gives d.pieces → Takes executing left w new gives
+  takes executing d s kind on e g = record {
     goes_on = on;
+    kind = kind;
     world = e ∙ sym (ap (λ (x : Stepped). x.world) s);
     pieces = subst (λ (x : Stepped). gives x.pieces) (sym s) g;
   }
 
-  pub advances_over : (stop : Stop) → w.over ≡ Some stop → new ≡ w → gives [] → Advances (Stopped stop) left w new gives
-  advances_over stop e f g = (stop_over w left stop e, f, g)
-
-  pub advances_boot : (m : Result Image Code) → w.over ≡ None → w.waiting ≡ Some m → new ≡ (boots w m).world → gives (boots w m).pieces → Advances Prepared left w new gives
-  advances_boot m e f n g =
+  pub takes_boot : (m : Result Image Code) → w.over ≡ None → w.waiting ≡ Some m → new ≡ (boots w m).world → gives (boots w m).pieces → Takes false left w new gives
+  takes_boot m e f n g =
       let x : executes w ≡ false = executes_is w None (Some m) w.loader e f refl ∙ executes_boots w.loader m in
-      (went (boots w m) (step_boots w m e f) (stop_is w left None false e x) n g, x)
+      takes false (boots w m) (step_boots w m e f) x (stop_is w left None false e x) n g
 
-  pub advances_ready : (m : Loaded) → w.over ≡ None → w.waiting ≡ None → w.loader ≡ Ready m → new ≡ (steps_by w (Ready m)).world → gives (steps_by w (Ready m)).pieces → Advances Prepared left w new gives
-  advances_ready m e f h n g =
+  pub takes_ready : (m : Loaded) → w.over ≡ None → w.waiting ≡ None → w.loader ≡ Ready m → new ≡ (steps_by w (Ready m)).world → gives (steps_by w (Ready m)).pieces → Takes false left w new gives
+  takes_ready m e f h n g =
       let x : executes w ≡ false = executes_is w None None (Ready m) e f h in
-      (went _ (step_by w (Ready m) e f h) (stop_is w left None false e x) n g, x)
+      takes false _ (step_by w (Ready m) e f h) x (stop_is w left None false e x) n g
 
-  pub advances_quiet : w.over ≡ None → w.waiting ≡ None → w.loader ≡ Dormant → new ≡ (steps_by w Dormant).world → gives [] → Advances Prepared left w new gives
-  advances_quiet e f h n g =
+  pub takes_quiet : w.over ≡ None → w.waiting ≡ None → w.loader ≡ Dormant → new ≡ (steps_by w Dormant).world → gives [] → Takes false left w new gives
+  takes_quiet e f h n g =
       let x : executes w ≡ false = executes_is w None None Dormant e f h in
-      (went _ (step_by w Dormant e f h) (stop_is w left None false e x) n g, x)
+      takes false _ (step_by w Dormant e f h) x (stop_is w left None false e x) n g
 
-  pub advances_budget : (m : Loaded) → w.over ≡ None → w.waiting ≡ None → w.loader ≡ Running m → left ≡ 0 → new ≡ w → gives [] → Advances (Stopped Budget) left w new gives
-  advances_budget m e f h z n g =
+  pub takes_instruction : (m : Loaded) → w.over ≡ None → w.waiting ≡ None → w.loader ≡ Running m → 0 < left → new ≡ (performs w m (row w.memory.ram w.cpu)).world → gives (performs w m (row w.memory.ram w.cpu)).pieces → Takes true left w new gives
+  takes_instruction m e f h some n g =
       let x : executes w ≡ true = executes_is w None None (Running m) e f h in
-      (stop_is w left None true e x ∙ budget_by left z, n, g)
+      takes true _ (step_by w (Running m) e f h) x (stop_is w left None true e x ∙ goes_by left some) n g
 
-  pub advances_executed : (m : Loaded) → w.over ≡ None → w.waiting ≡ None → w.loader ≡ Running m → 0 < left → new ≡ (performs w m (row w.memory.ram w.cpu)).world → gives (performs w m (row w.memory.ram w.cpu)).pieces → Advances Executed left w new gives
-  advances_executed m e f h some n g =
-      let x : executes w ≡ true = executes_is w None None (Running m) e f h in
-      (went _ (step_by w (Running m) e f h) (stop_is w left None true e x ∙ goes_by left some) n g, x)
+pub stop_budget : (w : World) (left : ℕ) (m : Loaded) → w.over ≡ None → w.waiting ≡ None → w.loader ≡ Running m → left ≡ 0 → stop_at w left ≡ Some Budget
+stop_budget w left m e f h z =
+    stop_is w left None true e (executes_is w None None (Running m) e f h) ∙ budget_by left z
 
 -- how many steps at most execute no instruction from here on, if no more instruction is executed
 abbrev pub rest_by : Option Stop → Option (Result Image Code) → Loader → ℕ

@@ -1,12 +1,13 @@
 -- What holds of every machine, and what the runs of one give: this project's profile.
-use Rattle.std.specs.Prelude.{◌≡◌, ℕ, suc, ◌-◌, ◌<◌, ◌≤◌, Some, None, IfSome, IfOk, []}
-use Rattle.iop_base.specs.Seen.{Seen, Adds, HasNoFault, StopsShort}
+use Rattle.std.specs.Prelude.{◌≡◌, ℕ, suc, ◌-◌, ◌<◌, ◌≤◌, Some, None, IfSome, IfOk, List, [], ◌∷◌, ◌++◌}
+use Rattle.iop_base.specs.Piece.{Piece, IsPartOf}
+use Rattle.iop_base.specs.Seen.{Seen, Adds, HasNoFault, FailsAt}
 use Rattle.iop_base.specs.declared.outcomes.Stop.{Stop}
 use Rattle.iop_machine.specs.declared.loader.Loaded.{Loaded}
 use Rattle.iop_machine.specs.declared.loader.Loader.{Loader}
 use Rattle.iop_machine.specs.declared.loader.Loader.TheVariants.{Dormant, Ready, Running}
 use Rattle.iop_machine.specs.Images.{Fits, first_base}
-use Rattle.iop_machine.specs.Stepping.{steps, executed, stop_at}
+use Rattle.iop_machine.specs.Stepping.{step, steps, executed, stop_at}
 use Rattle.iop_machine.specs.World.{World}
 
 -- a loaded module stands in memory behind the kernel's area
@@ -25,6 +26,13 @@ pub record IsSound (w : World) : Type 0 where
   pub waiting : IfSome w.waiting (λ m. IfOk m Fits)
   pub none_live : IfSome w.waiting (λ m. w.memory.live ≡ [])
 
+-- the module runs, and nothing else is to be done first
+pub record Runs (w : World) (m : Loaded) : Type 0 where
+  pub over : w.over ≡ None
+  pub waiting : w.waiting ≡ None
+  pub loader : w.loader ≡ Running m
+  pub placed : IsPlaced m
+
 -- after k steps the run goes on
 abbrev pub GoesOn : World → ℕ → ℕ → Type 0
 GoesOn w budget k = stop_at (steps k w).world (budget - executed k w) ≡ None
@@ -40,7 +48,14 @@ pub record Finishes (w : World) (budget k : ℕ) (stop : Stop) (old new : Seen) 
   pub adds : Adds old new (steps k w).pieces
   pub no_fault : HasNoFault old new
 
--- a write failed in the step after k steps, before which the run went on
+-- the k steps' pieces are there, and then a piece of the next step failed, of which a part is there
 pub record Faults (w : World) (budget k : ℕ) (old new : Seen) : Type 0 where
   pub before : (j : ℕ) → j < suc k → GoesOn w budget j
-  pub short : StopsShort old new (steps (suc k) w).pieces
+  pub sent : List Piece
+  pub part : Piece
+  pub piece : Piece
+  pub unsent : List Piece
+  pub pieces_are : (step (steps k w).world).pieces ≡ sent ++ piece ∷ unsent
+  pub is_part : IsPartOf part piece
+  pub adds : Adds old new ((steps k w).pieces ++ sent ++ part ∷ [])
+  pub fails : FailsAt piece old new

@@ -14,6 +14,7 @@ use Rattle.iop_exec.specs.Row.{reg, with_reg}
 use Rattle.iop_sysmem.specs.Memory.{rounded}
 use Rattle.iop_machine.specs.declared.loader.Loaded.{Loaded}
 use Rattle.iop_machine.specs.declared.loader.Loader.TheVariants.{Dormant}
+use Rattle.iop_machine.specs.declared.position.Position.{Position}
 use Rattle.iop_machine.specs.declared.service.Service.{Service}
 use Rattle.iop_machine.specs.declared.service.Service.TheVariants.{Kprintf, ThreadReturn, ModuleReturn}
 use Rattle.iop_machine.specs.Storing.{fills}
@@ -65,3 +66,14 @@ serves w m ModuleReturn = returns w m (reg w.cpu 2)
 abbrev pub calls : World → Loaded → Cpu → Option Service → Stepped
 calls w m after None = silent (faults_with w faults.Service)
 calls w m after (Some service) = serves (record w { cpu = after }) m service
+
+-- where a processor stands
+abbrev pub position_of : Cpu → Position
+position_of c = record { pc = c.pc; next = c.next; in_slot = c.in_slot }
+
+abbrev pub standing_at : Position → Cpu → Cpu
+standing_at p c = record c { pc = p.pc; next = p.next; in_slot = p.in_slot }
+
+-- the service of a code is called; the processor is the one after the call, and stood elsewhere before it
+abbrev pub calls_from : World → Loaded → Position → ℕ → Stepped
+calls_from w m before code = calls (record w { cpu = standing_at before w.cpu }) m w.cpu (service_of code)

@@ -8,6 +8,7 @@ mod kernel_area;
 pub mod laws;
 mod loader;
 mod machine;
+mod position;
 mod service;
 mod strings;
 #[cfg(test)]

@@ -1,22 +1,23 @@
-ghost use Rattle.std.specs.Prelude.{◌≡◌, ℕ, suc, ◌+◌, ◌^◌, ◌<◌, Some, None, Ok, IfOk, OnErr, [], option_map};
+ghost use Rattle.std.specs.Prelude.{◌≡◌, ℕ, suc, ◌+◌, ◌^◌, ◌<◌, false, Some, None, Ok, IfOk, OnErr, IfSome, [], option_map};
 ghost use Rattle.iop_base.specs.Seen.{Gives};
-ghost use Rattle.iop_trace.specs.Outs.{sinks};
-ghost use Rattle.iop_exec.specs.Row.{row, reg};
+ghost use Rattle.iop_trace.specs.Outs.{has_failed, out_seen, sinks};
+ghost use Rattle.iop_exec.specs.Row.{reg};
 ghost use Rattle.iop_ram.specs.Windows.{window_of};
 ghost use Rattle.iop_machine.specs.Images.{Fits, image_of, module_of, cpu_at};
 ghost use Rattle.iop_machine.specs.World.{beginning};
 ghost use Rattle.iop_machine.specs.Loading.{code_of, copies, passes_arguments, enters_it, links_text, refuses, loads, boots};
-ghost use Rattle.iop_machine.specs.Services.{faults_with, prints, keeps, returns, serves};
+ghost use Rattle.iop_machine.specs.Services.{faults_with, prints, keeps, returns, serves, calls_from};
 ghost use Rattle.iop_machine.specs.Strings.{string_at};
-ghost use Rattle.iop_machine.specs.Stepping.{performs, steps};
-ghost use Rattle.iop_machine.specs.Running.{IsPlaced, Finishes, Faults};
-ghost use Rattle.iop_machine.specs.Advancing.{Advances};
+ghost use Rattle.iop_machine.specs.Stepping.{steps};
+ghost use Rattle.iop_machine.specs.Running.{IsPlaced, Runs, Finishes, Faults};
+ghost use Rattle.iop_machine.specs.Advancing.{Advances, Progresses};
 
 use crate::arguments::{ARGUMENTS, ARGUMENTS_LEN, argument_block, module_start};
 use crate::board::perform;
 use crate::image::{FIRST_BASE, Image};
 use crate::kernel_area::write_kernel_area;
 use crate::loader::{Loaded, Loader};
+use crate::position::Position;
 use crate::service::Service;
 use crate::strings::string_at;
 use iop_base::{Code, GuestFault, Kept, Line, Lines, Stop};
@@ -36,15 +37,13 @@ const UNIT: u32 = 256;
 #[derive(Clone, Copy, Debug, PartialEq, Eq)]
 pub struct WriteFault;
 
-/// What a step was.
+/// How far a run got.
 #[derive(Clone, Copy, Debug, PartialEq, Eq)]
 enum Progress {
-    /// None was taken, since the machine is stopped or the budget used up.
+    /// Nowhere: it stops here.
     Stopped(Stop),
-    /// No instruction was executed.
-    Prepared,
-    /// An instruction was executed, or faulted.
-    Executed,
+    /// Further, with so many instructions of its budget left.
+    Advanced(u64),
 }
 
 /// All registers zero.
@@ -308,59 +307,133 @@ impl<'a> Machine<'a> {
         }
     }
 
-    /// Executes an instruction of the module that runs.
-    fn execute<L: Lines>(&mut self, loaded: Loaded, lines: &mut L)
+    /// The service of a code is called by the module that runs. Where none has it that is built, the `syscall` faults,
+    /// and the processor stands where it stood before it.
+    #[inline(never)]
+    #[tactic(auto, using(iop_base::proofs::Giving::gives_none))]
+    fn call<L: Lines>(&mut self, loaded: Loaded, code: u32, before: Position, lines: &mut L)
         requires placed { IsPlaced loaded }
         requires none_waits { self.old.waiting ≡ None }
         requires time { self.old.clock + 1 < 2 ^ 64 }
-        ensures world { self.new ≡ (performs self.old loaded (row self.old.memory.ram self.old.cpu)).world }
-        ensures lines { Gives (L.seen lines.old) (L.seen lines.new) (performs self.old loaded (row self.old.memory.ram self.old.cpu)).pieces }
+        ensures world { self.new ≡ (calls_from self.old loaded before code).world }
+        ensures lines { Gives (L.seen lines.old) (L.seen lines.new) (calls_from self.old loaded before code).pieces }
     {
-        let (pc, next, in_slot) = (self.cpu.pc, self.cpu.next, self.cpu.in_slot);
-        match perform(&mut self.cpu, &mut self.guest, self.clock, lines) {
-            Event::Plain => self.clock += 1,
-            Event::Fault(kind) => self.fault(kind),
-            Event::Service(code) => match Service::of_code(code) {
-                Some(service) => self.serve(loaded, service, lines),
-                None => {
-                    self.cpu.pc = pc;
-                    self.cpu.next = next;
-                    self.cpu.in_slot = in_slot;
-                    self.fault(GuestFault::Service);
-                }
-            },
+        match Service::of_code(code) {
+            Some(service) => self.serve(loaded, service, lines),
+            None => {
+                before.restore(&mut self.cpu);
+                self.fault(GuestFault::Service);
+            }
         }
     }
 
-    /// Takes one step, unless the machine is stopped or the step would execute one instruction too many.
-    fn step<L: Lines>(&mut self, left: u64, lines: &mut L) -> Progress
-        requires time { self.old.clock + left < 2 ^ 64 }
-        ensures { Advances result left self.old self.new (Gives (L.seen lines.old) (L.seen lines.new)) }
+    /// Takes the next step where it executes no instruction; else the run stops here.
+    fn prepare<L: Lines>(&mut self, budget: u64, lines: &mut L) -> Progress
+        requires no_instruction { (m : Loaded) → Runs self.old m → budget ≡ 0 }
+        requires well { (L.seen lines.old).failed ≡ false }
+        ensures { Progresses result self.old budget self.new (L.seen lines.old) (L.seen lines.new) }
     {
         if let Some(stop) = self.over {
             return Progress::Stopped(stop);
         }
         if let Some(given) = self.waiting {
             self.boot(given, lines);
-            return Progress::Prepared;
+            return Progress::Advanced(budget);
         }
         match self.loader {
             Loader::Ready(loaded) => {
                 lines.line(self.clock, Line::Run(1));
                 self.loader = Loader::Running(loaded);
-                Progress::Prepared
+                Progress::Advanced(budget)
             }
             Loader::Dormant => {
                 self.over = Some(Stop::Quiet);
-                Progress::Prepared
+                Progress::Advanced(budget)
             }
-            Loader::Running(loaded) => {
-                if left == 0 {
-                    return Progress::Stopped(Stop::Budget);
+            Loader::Running(_) => Progress::Stopped(Stop::Budget),
+        }
+    }
+
+    /// The module that runs, where nothing else is to be done first and an instruction is allowed.
+    fn running(&self, left: u64) -> Option<Loaded>
+        ensures runs { IfSome result (Runs self.now) }
+        ensures some { IfSome result (λ m. 0 < left) }
+        ensures none { result ≡ None → (m : Loaded) → Runs self.now m → left ≡ 0 }
+    {
+        match self.loader {
+            Loader::Running(loaded) if left > 0 && self.over.is_none() && self.waiting.is_none() =>
+                Some(loaded),
+            _ => None,
+        }
+    }
+
+    /// The processor and the clock are these from now on.
+    fn settle(&mut self, cpu: Cpu, clock: u64)
+        ensures { self.new ≡ record self.old { cpu = cpu; clock = clock } }
+    {
+        self.cpu = cpu;
+        self.clock = clock;
+    }
+
+    /// Executes instructions of the module that runs, one at least, and answers how many of `budget` are left.
+    ///
+    /// A burst ends at an instruction that calls a service or faults, at one in which a write failed, and where none is
+    /// left. Nothing else is looked at in between: of a machine that has nothing to look at, a plain instruction makes
+    /// none that has. It is the one place that executes instructions. The processor and the clock are local meanwhile,
+    /// so that they may stay in registers of the host.
+    fn burst<C: Sink, T: Sink>(
+        &mut self,
+        loaded: Loaded,
+        budget: u64,
+        out: &mut Out<'_, C, T>,
+    ) -> u64
+        requires runs { Runs self.old loaded }
+        requires some { 0 < budget }
+        requires time { self.old.clock + budget < 2 ^ 64 }
+        requires well { has_failed out.old ≡ false }
+        ensures { (k : ℕ) × Advances self.old budget k result self.new
+            (out_seen C.taken C.faults T.taken T.faults out.old)
+            (out_seen C.taken C.faults T.taken T.faults out.new) }
+    {
+        let mut cpu = self.cpu;
+        let mut clock = self.clock;
+        let mut left = budget;
+        'plain: loop {
+            let before = Position::of(&cpu);
+            left -= 1;
+            match perform(&mut cpu, &mut self.guest, clock, out) {
+                Event::Plain => {
+                    clock += 1;
+                    if left == 0 || out.failed() {
+                        self.settle(cpu, clock);
+                        return left;
+                    }
                 }
-                self.execute(loaded, lines);
-                Progress::Executed
+                Event::Fault(kind) => {
+                    self.settle(cpu, clock);
+                    self.fault(kind);
+                    return left;
+                }
+                Event::Service(code) => {
+                    self.settle(cpu, clock);
+                    self.call(loaded, code, before, out);
+                    return left;
+                }
             }
+        }
+    }
+
+    /// Executes a burst of the module that runs, or takes another step.
+    fn advance<C: Sink, T: Sink>(&mut self, budget: u64, out: &mut Out<'_, C, T>) -> Progress
+        requires time { self.old.clock + budget < 2 ^ 64 }
+        requires well { has_failed out.old ≡ false }
+        ensures { Progresses result self.old budget self.new
+            (out_seen C.taken C.faults T.taken T.faults out.old)
+            (out_seen C.taken C.faults T.taken T.faults out.new) }
+    {
+        match self.running(budget) {
+            Some(loaded) => Progress::Advanced(self.burst(loaded, budget, out)),
+            None => self.prepare(budget, out),
         }
     }
 
@@ -389,15 +462,11 @@ impl<'a> Machine<'a> {
         let mut out = Out::new(console, trace);
         let mut left = budget;
         'steps: loop {
-            let progress = self.step(left, &mut out);
-            if out.failed() {
-                return Err(WriteFault);
-            }
-            match progress {
+            left = match self.advance(left, &mut out) {
                 Progress::Stopped(stop) => return Ok(stop),
-                Progress::Prepared => {}
-                Progress::Executed => left -= 1,
-            }
+                Progress::Advanced(_) if out.failed() => return Err(WriteFault),
+                Progress::Advanced(rest) => rest,
+            };
         }
     }
 }

@@ -1,64 +1,67 @@
-use Rattle.std.proofs.Common.{◌≡◌, sym, ◌∙◌, ap, arith, rules}
+use Rattle.std.proofs.Common.{◌≡◌, sym, ◌∙◌, ap, rules}
 use Rattle.iop_base.proofs.Giving.{gives_names}
-use Rattle.iop_machine.proofs.Reaching.{reached_none, prepared_more, executed_more, some_left, rest_prepared, rest_executed, time_prepared, time_executed, finished, faulted, advance_names}
+use Rattle.iop_machine.proofs.Advancing.{progress_names, advances_time, advances_fewer, then_advances, finished, faulted}
+use Rattle.iop_machine.proofs.Reaching.{reached_none, reached_more}
 use Rattle.iop_machine.proofs.machine.Machine.run.Goals as goal
 
 pub steps-init : goal.steps-init
-steps-init g c = record { time = c.requires.time; reached = (0, reached_none c.args.self.now c.args.budget _ c.new-out.ensures.failed) }
-
-pub returns-then-failed-clause-fault : goal.returns-then-failed-clause-fault
-returns-then-failed-clause-fault g c =
-    let i = c.steps.invariant.reached in
-    let adv = c.step-progress.ensures in
-    let names = advance_names c.steps.left c.step-progress.result _ _ _ _ adv ∙ gives_names i.1.told in
-    let console : c.new-out.result.console.ghost_name ≡ c.step-progress.new.lines.console.ghost_name = cc names in
-    let trace : c.new-out.result.trace.ghost_name ≡ c.step-progress.new.lines.trace.ghost_name = cc names in
-    faulted c.args.self.now c.args.budget i.0 c.steps.left c.steps.self c.step-progress.new.self _ _ _ i.1 _ _
-    (sym (ap g.C.Sink.taken c.new-out.ensures.console)) (sym (ap g.T.Sink.taken c.new-out.ensures.trace))
-    (sym (ap g.C.Sink.faults c.new-out.ensures.console)) (sym (ap g.T.Sink.faults c.new-out.ensures.trace))
-    (search (rules, console)) (search (rules, trace)) (search (rules, console)) (search (rules, trace))
-    c.new-out.ensures.failed c.step-progress.result adv (sym c.failed.ensures ∙ c.if-failed.true)
+steps-init g c = record {
+  time = c.requires.time;
+  reached = (0, reached_none c.args.self.now c.args.budget _ c.new-out.ensures.failed);
+}
 
 pub returns-in-Stopped-clause-whole : goal.returns-in-Stopped-clause-whole
 returns-in-Stopped-clause-whole g c =
     let i = c.steps.invariant.reached in
-    let adv = c.in-Stopped.ensures in
-    let names = gives_names adv.2 ∙ gives_names i.1.told in
-    let console : c.new-out.result.console.ghost_name ≡ c.step-progress.new.lines.console.ghost_name = cc names in
-    let trace : c.new-out.result.trace.ghost_name ≡ c.step-progress.new.lines.trace.ghost_name = cc names in
-    finished c.args.self.now c.args.budget i.0 c.steps.left c.steps.self c.step-progress.new.self _ _ _ i.1 _ _
-    (sym (ap g.C.Sink.taken c.new-out.ensures.console)) (sym (ap g.T.Sink.taken c.new-out.ensures.trace))
-    (sym (ap g.C.Sink.faults c.new-out.ensures.console)) (sym (ap g.T.Sink.faults c.new-out.ensures.trace))
-    (search (rules, console)) (search (rules, trace)) (search (rules, console)) (search (rules, trace))
-    c.new-out.ensures.failed c.in-Stopped.stop adv (sym c.failed.ensures ∙ c.if-failed.false)
+    let names = progress_names c.advance.result c.steps.self c.steps.left c.advance.new.self _ _ c.advance.ensures ∙ gives_names i.1.told in
+    let console : c.new-out.result.console.ghost_name ≡ c.advance.new.out.console.ghost_name = cc names in
+    let trace : c.new-out.result.trace.ghost_name ≡ c.advance.new.out.trace.ghost_name = cc names in
+    finished
+    (record {
+      console = sym (ap g.C.Sink.taken c.new-out.ensures.console);
+      trace = sym (ap g.T.Sink.taken c.new-out.ensures.trace);
+      console_faults = sym (ap g.C.Sink.faults c.new-out.ensures.console);
+      trace_faults = sym (ap g.T.Sink.faults c.new-out.ensures.trace);
+    })
+    (record {
+      console = search (rules, console);
+      trace = search (rules, trace);
+      console_faults = search (rules, console);
+      trace_faults = search (rules, trace);
+    })
+    {w = c.args.self.now} {budget = c.args.budget} c.in-Stopped.stop i.1 c.new-out.ensures.failed c.in-Stopped.ensures
 
-pub steps-smaller-in-Prepared : goal.steps-smaller-in-Prepared
-steps-smaller-in-Prepared g c =
-    let less = rest_prepared c.steps.left _ _ _ _ c.in-Prepared.ensures in
-    omega (arith, less)
-
-pub steps-preserved-in-Prepared : goal.steps-preserved-in-Prepared
-steps-preserved-in-Prepared g c =
+pub returns-in-Advanced-clause-fault : goal.returns-in-Advanced-clause-fault
+returns-in-Advanced-clause-fault g c =
     let i = c.steps.invariant.reached in
-    record {
-      time = time_prepared c.steps.left _ _ _ _ _ c.in-Prepared.ensures c.steps.invariant.time;
-      reached = (_, prepared_more c.args.self.now c.args.budget i.0 c.steps.left c.steps.self c.step-progress.new.self _ _ _ i.1 c.in-Prepared.ensures (sym c.failed.ensures ∙ c.if-failed.false));
-    }
-
-pub overflow_sub-left : goal.overflow_sub-left
-overflow_sub-left g c = some_left c.steps.left _ _ _ _ c.in-Executed.ensures
+    let names = progress_names c.advance.result c.steps.self c.steps.left c.advance.new.self _ _ c.advance.ensures ∙ gives_names i.1.told in
+    let console : c.new-out.result.console.ghost_name ≡ c.advance.new.out.console.ghost_name = cc names in
+    let trace : c.new-out.result.trace.ghost_name ≡ c.advance.new.out.trace.ghost_name = cc names in
+    faulted
+    (record {
+      console = sym (ap g.C.Sink.taken c.new-out.ensures.console);
+      trace = sym (ap g.T.Sink.taken c.new-out.ensures.trace);
+      console_faults = sym (ap g.C.Sink.faults c.new-out.ensures.console);
+      trace_faults = sym (ap g.T.Sink.faults c.new-out.ensures.trace);
+    })
+    (record {
+      console = search (rules, console);
+      trace = search (rules, trace);
+      console_faults = search (rules, console);
+      trace_faults = search (rules, trace);
+    })
+    {w = c.args.self.now} {budget = c.args.budget}
+    (then_advances {w = c.args.self.now} {most = c.args.budget} i.1 c.in-Advanced.ensures.1)
+    c.new-out.ensures.failed (sym c.failed.ensures ∙ c.if-failed.true)
 
 pub steps-smaller : goal.steps-smaller
-steps-smaller g c =
-    let some = some_left c.steps.left _ _ _ _ c.in-Executed.ensures in
-    let less = rest_executed c.steps.left _ _ _ _ c.in-Executed.ensures in
-    omega (arith, some, less)
+steps-smaller g c = advances_fewer {w = c.steps.self} c.in-Advanced.ensures.1
 
 pub steps-preserved : goal.steps-preserved
 steps-preserved g c =
     let i = c.steps.invariant.reached in
-    let some = some_left c.steps.left _ _ _ _ c.in-Executed.ensures in
+    let next = c.in-Advanced.ensures in
     record {
-      time = time_executed c.steps.left _ _ _ _ _ c.in-Executed.ensures some c.steps.invariant.time;
-      reached = (_, executed_more c.args.self.now c.args.budget i.0 c.steps.left c.steps.self c.step-progress.new.self _ _ _ i.1 c.in-Executed.ensures (sym c.failed.ensures ∙ c.if-failed.false));
+      time = advances_time {w = c.steps.self} next.1 _ c.steps.invariant.time;
+      reached = (_, reached_more (then_advances {w = c.args.self.now} {most = c.args.budget} i.1 next.1) (sym c.failed.ensures ∙ c.if-failed.false));
     }
