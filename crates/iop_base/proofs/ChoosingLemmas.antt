@@ -8,18 +8,32 @@ use Rattle.iop_base.specs.Laws.{IsFirstOfLeast}
 
 module _ (number : ℕ → ℕ) (x : ℕ) (xs : List ℕ) where
   -- what is no smaller than the best is no smaller than any
-  all_over : (y : ℕ) → number x ≤ number y → IsFirstOfLeast number xs y → All (λ z. number x ≤ number z) xs
+  -- no number of the rest is smaller than that of x
+  abbrev IsLeast : List ℕ → Type 0
+  IsLeast ys = All (λ z. number x ≤ number z) ys
+
+  all_over : (y : ℕ) → number x ≤ number y → IsFirstOfLeast number xs y
+      → IsLeast xs
   all_over y le h =
-      subst (λ (zs : List ℕ). All (λ z. number x ≤ number z) zs) (sym h.xs_are)
-      (All-append (λ z. number x ≤ number z) h.before (y ∷ h.after)
-      (All-weaker (λ z. number y < number z) (λ z. number x ≤ number z) (λ z q. omega arith) h.before h.least_before)
-      (All-cons (λ z. number x ≤ number z) y h.after le
-      (All-weaker (λ z. number y ≤ number z) (λ z. number x ≤ number z) (λ z q. omega arith) h.after h.least_after)))
+      let over : ℕ → Type 0 = λ z. number x ≤ number z in
+      let before =
+      All-weaker (λ z. number y < number z) over (λ z q. omega arith) h.before h.least_before in
+      let after =
+      All-weaker (λ z. number y ≤ number z) over (λ z q. omega arith) h.after h.least_after in
+      subst IsLeast (sym h.xs_are)
+      (All-append over h.before (y ∷ h.after) before (All-cons over y h.after le after))
 
-  keeps : All (λ z. number x ≤ number z) xs → IsFirstOfLeast number (x ∷ xs) x
-  keeps all = record { before = []; after = xs; xs_are = refl; least_before = All-nil (λ z. number x < number z); least_after = all }
+  keeps : IsLeast xs → IsFirstOfLeast number (x ∷ xs) x
+  keeps all = record {
+    before = [];
+    after = xs;
+    xs_are = refl;
+    least_before = All-nil (λ z. number x < number z);
+    least_after = all;
+  }
 
-  chooses : (y : ℕ) → IsFirstOfLeast number xs y → (b : Bool) → nat_lt (number y) (number x) ≡ b → IsFirstOfLeast number (x ∷ xs) (cond b y x)
+  chooses : (y : ℕ) → IsFirstOfLeast number xs y → (b : Bool) → nat_lt (number y) (number x) ≡ b
+      → IsFirstOfLeast number (x ∷ xs) (cond b y x)
   chooses y h true e = record {
     before = x ∷ h.before;
     after = h.after;
@@ -29,11 +43,13 @@ module _ (number : ℕ → ℕ) (x : ℕ) (xs : List ℕ) where
   }
   chooses y h false e = keeps (all_over y (ltb-false _ _ e) h)
 
-  one_more : (o : Option ℕ) → MatchOption o (xs ≡ []) (IsFirstOfLeast number xs) → IsFirstOfLeast number (x ∷ xs) (better number x o)
+  one_more : (o : Option ℕ) → MatchOption o (xs ≡ []) (IsFirstOfLeast number xs)
+      → IsFirstOfLeast number (x ∷ xs) (better number x o)
   one_more None e =
-      keeps (subst (λ (zs : List ℕ). All (λ z. number x ≤ number z) zs) (sym e) (All-nil (λ z. number x ≤ number z)))
+      keeps (subst IsLeast (sym e) (All-nil (λ z. number x ≤ number z)))
   one_more (Some y) h = chooses y h (nat_lt (number y) (number x)) refl
 
-pub best_is_first : (number : ℕ → ℕ) (xs : List ℕ) → MatchOption (best number xs) (xs ≡ []) (IsFirstOfLeast number xs)
+pub best_is_first : (number : ℕ → ℕ) (xs : List ℕ)
+    → MatchOption (best number xs) (xs ≡ []) (IsFirstOfLeast number xs)
 best_is_first number [] = refl
 best_is_first number (x ∷ xs) = one_more number x xs (best number xs) (best_is_first number xs)

@@ -1,3 +1,4 @@
 pub mod ChoosingLemmas
 pub mod Giving
+pub mod Lists
 pub mod Memory

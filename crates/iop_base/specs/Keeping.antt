@@ -1,8 +1,8 @@
--- What becomes of a module after its return (ps2sdk: the results of a module's entry). That 3 is as 1 is
--- this project's profile.
+-- What becomes of a module after its return (ps2sdk: the results of a module's entry). That 3 is as
+-- 1 is this project's profile.
 use Rattle.std.specs.Prelude.{ℕ, ◌%◌, ◌==◌, if◌then◌else◌}
-use Rattle.iop_base.specs.declared.outcomes.Kept.{Kept}
-use Rattle.iop_base.specs.declared.outcomes.Kept.TheVariants.{Resident, Removed, Removable}
+use Rattle.iop_base.specs.declared.kept.Kept.{Kept}
+use Rattle.iop_base.specs.declared.kept.Kept.TheVariants.{Resident, Removed, Removable}
 
 -- by the low two bits of what it returned
 abbrev pub kept_of : ℕ → Kept

@@ -13,7 +13,9 @@ pub record IsFirstOfLeast (number : ℕ → ℕ) (xs : List ℕ) (x : ℕ) : Typ
   pub least_after : All (λ y. number x ≤ number y) after
 
 abbrev pub BestIsTheFirstOfTheLeast : Type 0
-BestIsTheFirstOfTheLeast = (number : ℕ → ℕ) (xs : List ℕ) → MatchOption (best number xs) (xs ≡ []) (IsFirstOfLeast number xs)
+BestIsTheFirstOfTheLeast =
+    (number : ℕ → ℕ) (xs : List ℕ)
+    → MatchOption (best number xs) (xs ≡ []) (IsFirstOfLeast number xs)
 
 abbrev pub PlacesAreInside : Type 0
 PlacesAreInside = (size at len : ℕ) → IfSome (range_at size at len) (λ p. p + len ≤ size)

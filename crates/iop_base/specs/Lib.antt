@@ -1,9 +1,11 @@
 pub mod Numbers
 pub mod Places
+pub mod BlockSizes
+pub mod Strings
 pub mod Choosing
 pub mod Keeping
 pub mod Counts
 pub mod Piece
-pub mod Seen
+pub mod Output
 pub mod Text
 pub mod Laws

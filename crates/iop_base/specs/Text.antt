@@ -1,16 +1,18 @@
--- The text of a trace line: its moment, what happened, a line feed. Addresses and lengths have eight
--- lower-case hexadecimal digits, other numbers are decimal.
-use Rattle.std.specs.Prelude.{ℕ, zero, suc, ◌+◌, ◌/◌, ◌%◌, ℤ, pos, negsuc, nat_lt, if◌then◌else◌, List, [], ◌∷◌, ◌++◌, codes, decimal, slice_index_or}
+-- The text of a trace line: its moment, what happened, a line feed. Addresses and lengths have
+-- eight lower-case hexadecimal digits, other numbers are decimal.
+use Rattle.std.specs.Prelude.{ℕ, zero, suc, ◌+◌, ◌/◌, ◌%◌, nat_lt, if◌then◌else◌, List, [], ◌∷◌, ◌++◌, codes, decimal, slice_index_or, map}
 use Rattle.std.specs.Fmt.{signed_decimal}
 use Rattle.iop_base.specs.Numbers.{signed}
-use Rattle.iop_base.specs.declared.outcomes.GuestFault.{GuestFault}
-use Rattle.iop_base.specs.declared.outcomes.GuestFault.TheVariants.{Address, Overflow, Reserved, Break, BranchInSlot, Service}
-use Rattle.iop_base.specs.declared.outcomes.Stop.{Stop}
-use Rattle.iop_base.specs.declared.outcomes.Stop.TheVariants.{Quiet, Budget, Fault}
-use Rattle.iop_base.specs.declared.outcomes.Kept.{Kept}
-use Rattle.iop_base.specs.declared.outcomes.Kept.TheVariants.{Resident, Removed, Removable}
-use Rattle.iop_base.specs.declared.tell.Line.{Line}
-use Rattle.iop_base.specs.declared.tell.Line.TheVariants.{Load, Returned, Run, Irq, Alarm, Due, Stub, Unlisted, End}
+use Rattle.iop_base.specs.Strings.{before_zero}
+use Rattle.iop_base.specs.declared.libraries.TheConstants.{KERNEL_LIBRARIES}
+use Rattle.iop_base.specs.declared.guest_fault.GuestFault.{GuestFault}
+use Rattle.iop_base.specs.declared.guest_fault.GuestFault.TheVariants.{Address, Overflow, Reserved, Break, BranchInSlot, Service}
+use Rattle.iop_base.specs.declared.stop.Stop.{Stop}
+use Rattle.iop_base.specs.declared.stop.Stop.TheVariants.{Quiet, Budget, Fault}
+use Rattle.iop_base.specs.declared.kept.Kept.{Kept}
+use Rattle.iop_base.specs.declared.kept.Kept.TheVariants.{Resident, Removed, Removable}
+use Rattle.iop_base.specs.declared.line.Line.{Line}
+use Rattle.iop_base.specs.declared.line.Line.TheVariants.{Load, Refused, Returned, Run, Irq, Alarm, Due, Stub, Unlisted, End}
 
 abbrev pub hex_digit : ℕ → ℕ
 hex_digit d = if nat_lt d 10 then 48 + d else 87 + d
@@ -29,11 +31,9 @@ kept_name Resident = codes "resident"
 kept_name Removed = codes "removed"
 kept_name Removable = codes "removable"
 
--- the kernel libraries, by their number
+-- the names of the kernel's libraries, by their numbers
 abbrev pub library_names : List (List ℕ)
-library_names =
-    codes "loadcore" ∷ codes "sysmem" ∷ codes "intrman" ∷ codes "thbase" ∷ codes "thsemap" ∷ codes "thevent"
-    ∷ codes "thmsgbx" ∷ codes "stdio" ∷ []
+library_names = map before_zero KERNEL_LIBRARIES
 
 -- a number that no library has stands for itself
 abbrev pub library_name : ℕ → List ℕ
@@ -52,17 +52,14 @@ stop_text Quiet = codes "quiet"
 stop_text Budget = codes "budget"
 stop_text (Fault kind pc) = codes "fault " ++ fault_name kind ++ codes " " ++ hex pc
 
--- how a load went: where the module stands and its length, or the refusal
-abbrev pub load_text : ℤ → ℕ → ℕ → List ℕ
-load_text (pos zero) base len = codes "ok " ++ hex base ++ codes " " ++ hex len
-load_text (pos (suc n)) base len = signed_decimal (pos (suc n))
-load_text (negsuc n) base len = signed_decimal (negsuc n)
-
 -- what a line says, between its moment and its end
 abbrev pub line_text : Line → List ℕ
-line_text (Load k code base len) = codes "load " ++ decimal k ++ codes " " ++ load_text code base len
+line_text (Load k base len) =
+    codes "load " ++ decimal k ++ codes " ok " ++ hex base ++ codes " " ++ hex len
+line_text (Refused k code) = codes "load " ++ decimal k ++ codes " " ++ signed_decimal code.0
 line_text (Returned k value kept) =
-    codes "result " ++ decimal k ++ codes " " ++ signed_decimal (signed 32 value) ++ codes " " ++ kept_name kept
+    codes "result " ++ decimal k ++ codes " " ++ signed_decimal (signed 32 value) ++ codes " "
+    ++ kept_name kept
 line_text (Run id) = codes "run " ++ decimal id
 line_text (Irq line) = codes "line " ++ decimal line
 line_text (Alarm number) = codes "alarm " ++ decimal number

@@ -1,13 +1,34 @@
-//! The types that every crate of the machine speaks in, and the words for numbers, places and lines.
+//! The types that every crate of the machine speaks in, and the words for numbers, places and
+//! lines.
 #![tactic(auto)]
 
-mod codes;
+mod blocks;
+mod code;
+mod guest_fault;
+mod illegal;
+mod kept;
 pub mod laws;
+mod libraries;
+mod line;
+mod lines;
 mod numbers;
-mod outcomes;
-mod tell;
+mod stop;
+mod strings;
+mod width;
+mod words;
+mod write_fault;
 
-pub use codes::Code;
+pub use blocks::{BLOCK_UNIT, block_len};
+pub use code::Code;
+pub use guest_fault::GuestFault;
+pub use illegal::Illegal;
+pub use kept::Kept;
+pub use libraries::KERNEL_LIBRARIES;
+pub use line::Line;
+pub use lines::Lines;
 pub use numbers::{half_at, sign_extended, word_at};
-pub use outcomes::{Answer, Bad, GuestFault, Illegal, Kept, Stop, WaitKind, Width, WriteFault};
-pub use tell::{Line, Lines};
+pub use stop::Stop;
+pub use strings::{before_zero, first_zero};
+pub use width::{Bad, Width};
+pub use words::{JUMP_BACK, STUB_INDEX};
+pub use write_fault::WriteFault;

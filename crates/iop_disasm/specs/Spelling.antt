@@ -1,6 +1,7 @@
--- The text of an instruction (MIPS I: the mnemonics and the order of the operands). How operands are written is
--- this project's profile: numbers in decimal, the bits of an immediate in hexadecimal, a place to go to as an
--- address of eight lower-case hexadecimal digits, and no blank between operands.
+-- The text of an instruction (MIPS I: the mnemonics and the order of the operands). How operands
+-- are written is this project's profile: numbers in decimal, the bits of an immediate in
+-- hexadecimal, a place to go to as an address of eight lower-case hexadecimal digits, and no blank
+-- between operands.
 use Rattle.std.specs.Prelude.{ℕ, Option, Some, None, List, [], ◌∷◌, ◌++◌, codes, decimal}
 use Rattle.std.specs.Fmt.{signed_decimal}
 use Rattle.std.specs.List.{flat_map}

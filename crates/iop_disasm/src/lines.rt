@@ -1,26 +1,24 @@
 //! Listings of memory.
 
-ghost use Rattle.std.specs.Prelude.{◌≡◌, ◌≤◌, Some, is_ok};
-ghost use Rattle.iop_disasm.specs.Listings.{listed, line_at, listing_bytes};
-ghost use Rattle.iop_trace.specs.Sent.{Sends};
+ghost use Rattle.std.specs.Prelude.{◌≡◌, Some, is_ok};
+ghost use Rattle.iop_disasm.specs.Listings.{line_of, line_at, listing_bytes};
+ghost use Rattle.iop_ports.specs.Sinks.{Sends};
 
 use crate::text::{Text, append_inst};
 use arrayvec::ArrayVec;
 use iop_base::WriteFault;
-use iop_ports::Sink;
+use iop_ports::{Sink, send};
 use iop_ram::Ram;
 use iop_text::{append, append_hex};
-use iop_trace::send;
 
-/// Writes a line for each of so many words from the address `from` on: its address, the word, and its text
-/// as `inst_text` gives it. Addresses go on from 0 behind the last.
+/// Writes a line for each of so many words from the address `from` on: its address, the word, and
+/// its text as `inst_text` gives it. Addresses go on from 0 behind the last.
 ///
-/// A word that is not in RAM, or whose address is not a multiple of 4, has no line. `Err` comes exactly where
-/// a write fails: then the sink has taken a front of the lines, and else all of them.
+/// A word that is not in RAM, or whose address is not a multiple of 4, has no line. `Err` comes
+/// exactly where a write fails: then the sink has taken a front of the lines, and else all of them.
 pub fn listing<S: Sink>(ram: &Ram, from: u32, words: u32, sink: &mut S) -> Result<(), WriteFault>
-    ensures sent { Sends (is_ok result) (listing_bytes ram.now from words)
-        (S.taken sink.old) (S.taken sink.new) (S.faults sink.old) (S.faults sink.new) }
-    ensures never_falls { S.faults sink.old ≤ S.faults sink.new }
+    ensures { Sends (is_ok result) (listing_bytes ram.now from words)
+        (S.told sink.old) (S.told sink.new) }
 {
     for n in 0..words {
         let at = from.wrapping_add(n.wrapping_mul(4));
@@ -34,9 +32,7 @@ pub fn listing<S: Sink>(ram: &Ram, from: u32, words: u32, sink: &mut S) -> Resul
 /// Writes the line of an address, where it has one, and says whether it is whole.
 #[tactic(auto, unfolding(crate::specs::Listings::line_at))]
 fn send_line<S: Sink>(ram: &Ram, at: u32, sink: &mut S) -> bool
-    ensures sent { Sends result (line_at ram.now at)
-        (S.taken sink.old) (S.taken sink.new) (S.faults sink.old) (S.faults sink.new) }
-    ensures never_falls { S.faults sink.old ≤ S.faults sink.new }
+    ensures { Sends result (line_at ram.now at) (S.told sink.old) (S.told sink.new) }
 {
     match ram.load32(at) {
         Ok(word) => send(sink, &line_text(word, at)),
@@ -46,7 +42,7 @@ fn send_line<S: Sink>(ram: &Ram, at: u32, sink: &mut S) -> bool
 
 /// The line of a word at an address.
 fn line_text(word: u32, at: u32) -> Text
-    ensures { result.items ≡ listed at (Some word) }
+    ensures { result.items ≡ line_of at (Some word) }
 {
     let mut text = ArrayVec::new();
     append_hex(&mut text, at);

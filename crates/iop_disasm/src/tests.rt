@@ -27,7 +27,7 @@ fn words_have_texts(rt: HostRuntime) -> Result<(), Fail> {
 
 #[test]
 fn words_in_ram_are_listed(rt: HostRuntime) -> Result<(), Fail> {
-    let mut ram = Ram::new(rt.alloc())?;
+    let mut ram = Ram::new(rt.alloc(), 0x20_0000)?;
     assert!(rt; ram.store32(0x1F_FFFC, 0x27BD_FFC0).is_ok());
     assert!(rt; ram.store32(0, 0x8FBF_003C).is_ok());
     let first = "001ffffc: 27bdffc0 addiu $29,$29,-64\n";
@@ -44,7 +44,7 @@ fn words_in_ram_are_listed(rt: HostRuntime) -> Result<(), Fail> {
 
 #[test]
 fn a_full_sink_has_a_front(rt: HostRuntime) -> Result<(), Fail> {
-    let ram = Ram::new(rt.alloc())?;
+    let ram = Ram::new(rt.alloc(), 0x20_0000)?;
     let mut sink = MemSink::new(rt.alloc(), 12, Vec::new(rt.alloc()))?;
     assert_eq!(rt; listing(&ram, 0, 1, &mut sink), Err(WriteFault));
     assert_eq!(rt; sink.bytes(), b"00000000: 00".as_slice());

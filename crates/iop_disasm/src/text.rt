@@ -15,13 +15,13 @@ const TEXT_ROOM: usize = 64;
 /// A text as far as it is written.
 pub(crate) type Text = ArrayVec<u8, TEXT_ROOM>;
 
-/// The text of a word as the instruction at the address `at`: its name, a space, and its operands with a
-/// comma between each two. It is no longer than 32 bytes.
+/// The text of a word as the instruction at the address `at`: its name, a space, and its operands
+/// with a comma between each two. It is no longer than 32 bytes.
 ///
-/// A register is `$` and its number. Signed immediates, amounts to shift by and codes are decimal, the bits
-/// of an immediate are `0x` and 4 hexadecimal digits, and the target of a branch or a jump is its address in
-/// 8 hexadecimal digits. The place of a load or a store is its offset with the register behind it in
-/// parentheses. A word that is no instruction is `.word 0x` and its 8 digits.
+/// A register is `$` and its number. Signed immediates, amounts to shift by and codes are decimal,
+/// the bits of an immediate are `0x` and 4 hexadecimal digits, and the target of a branch or a jump
+/// is its address in 8 hexadecimal digits. The place of a load or a store is its offset with the
+/// register behind it in parentheses. A word that is no instruction is `.word 0x` and its 8 digits.
 pub fn inst_text(word: u32, at: u32) -> ArrayVec<u8, 64>
     ensures bytes { result.items ≡ inst_bytes word at }
     ensures short { array_vec_len result ≤ 32 }
@@ -56,7 +56,8 @@ fn append_operands(text: &mut Text, operands: &[Operand], fields: &Fields, at: u
     requires room { array_vec_len text.old + 32 ≤ TEXT_ROOM }
     requires few { length operands.now ≤ 3 }
     ensures bytes { text.new.items ≡ text.old.items ++ operands_text at fields.now operands.now }
-    ensures short { array_vec_len text.new ≤ array_vec_len text.old + (8 + 9 * (length operands.now - 1)) }
+    ensures short { array_vec_len text.new
+        ≤ array_vec_len text.old + (8 + 9 * (length operands.now - 1)) }
 {
     if let Some((first, others)) = operands.split_first() {
         append_operand(text, *first, fields, at);

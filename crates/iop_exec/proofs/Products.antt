@@ -11,7 +11,14 @@ widened : (z : ℤ) → FitsSigned w32 z → FitsSigned w64 z
 widened z h = record { sfits = omega (arith, h.sfits) }
 
 -- what a product in 64 bits computes
-pub product_bits : (x y : ℤ) → FitsSigned w32 x → FitsSigned w32 y → cast_unsigned w64 (cast_signed w64 (cast_unsigned w64 (cast_signed w64 (cast_unsigned w64 x) *ℤ cast_signed w64 (cast_unsigned w64 y)))) ≡ cast_unsigned w64 (x *ℤ y)
+pub product_bits : (x y : ℤ)
+    → FitsSigned w32 x → FitsSigned w32 y
+    → cast_unsigned w64 (cast_signed w64 (cast_unsigned w64
+    (cast_signed w64 (cast_unsigned w64 x) *ℤ cast_signed w64 (cast_unsigned w64 y))))
+    ≡ cast_unsigned w64 (x *ℤ y)
 product_bits x y f g =
-    let fits = fits_signed_mul w64 x y (2 ^ 31) (2 ^ 31) (abs_within x f) (abs_within y g) (lit< tt) in
-    rw (to_z-of_z w64 x (widened x f), to_z-of_z w64 y (widened y g), to_z-of_z w64 (x *ℤ y) fits) refl
+    let fits =
+    fits_signed_mul w64 x y (2 ^ 31) (2 ^ 31) (abs_within x f) (abs_within y g) (lit< tt) in
+    let x_is = to_z-of_z w64 x (widened x f) in
+    let y_is = to_z-of_z w64 y (widened y g) in
+    rw (x_is, y_is, to_z-of_z w64 (x *ℤ y) fits) refl

@@ -1,26 +1,25 @@
-ghost use Rattle.iop_exec.specs.Row.{Faults, effect_of, executed, row};
+ghost use Rattle.iop_exec.specs.Row.{effect_of, inst_row, row, word_row};
 ghost use Rattle.iop_exec.specs.Stepping.{Does};
-ghost use Rattle.iop_isa.specs.Instructions.{inst_of};
-ghost use Rattle.std.specs.Prelude.{◌≡◌, ℕ, List, Some, None};
+ghost use Rattle.std.specs.Prelude.{Some};
 
 use crate::arithmetic::{
-    difference, is_less, is_negative, quotient, remainder, shifted_signed, signed, signed_product,
-    signed_quotient, signed_remainder, sum,
+    difference, is_less, is_negative, quotient, remainder, signed_product, signed_quotient,
+    signed_remainder, signed_shift, sum,
 };
 use crate::bus::Bus;
 use crate::cpu::{Cpu, Event};
 use crate::memory::{
-    loaded, lower_part, signed_byte, signed_half, store, store_lower_part, store_upper_part,
+    load_at, lower_part, signed_byte, signed_half, store, store_lower_part, store_upper_part,
     upper_part,
 };
 use iop_base::{GuestFault, Width};
-use iop_isa::{Fields, Inst, Reg, jump_target, selected, table};
+use iop_isa::{Fields, Inst, Reg, jump_target, select_row, signed_immediate, table};
 
 /// Executes the instruction at `pc`.
 ///
-/// Its faults come in this order: `Address` where `pc` is not a multiple of 4 or not in RAM, `Reserved`
-/// where its word is no instruction, `BranchInSlot` where it is a branch or a jump in a delay slot, then
-/// those of the instruction. One that faults changes nothing.
+/// Its faults come in this order: `Address` where `pc` is not a multiple of 4 or not in RAM,
+/// `Reserved` where its word is no instruction, `BranchInSlot` where it is a branch or a jump in a
+/// delay slot, then those of the instruction. One that faults changes nothing.
 #[tactic(auto, unfolding(crate::specs::Row::row))]
 pub fn step<B: Bus>(cpu: &mut Cpu, bus: &mut B) -> Event
     ensures { Does B.bytes B.stores (row (B.bytes bus.old) cpu.old)
@@ -32,31 +31,36 @@ pub fn step<B: Bus>(cpu: &mut Cpu, bus: &mut B) -> Event
     }
 }
 
-/// Executes a word as the instruction of a row, with the operands that fields hold.
-macro_rules! executed {
-    (($word:ident, $fields:ident, $cpu:ident, $bus:ident) ($name:literal $inst:ident { $($field:ident: $operand:ident),* })) => {
-        execute_as($word, Inst::$inst { $($field: $fields.$field),* }, $cpu, $bus)
+/// Executes the instruction of a row, with the operands that fields hold.
+macro_rules! execute_row {
+    (
+        ($fields:ident, $cpu:ident, $bus:ident)
+        ($name:literal $inst:ident { $($field:ident: $operand:ident),* })
+    ) => {
+        execute_as(Inst::$inst { $($field: $fields.$field),* }, $cpu, $bus)
     };
 }
 
-/// Executes a word as an instruction.
+/// Executes the instruction that a word holds: `Reserved` where it holds none.
 ///
 /// Each arm of the table executes its own instruction, so the word is looked at only once.
-#[tactic(auto, unfolding(iop_isa::specs::Instructions::inst_of, iop_isa::specs::Table::row_of))]
+#[tactic(auto, unfolding(crate::specs::Row::word_row, iop_isa::specs::Instructions::inst_of, iop_isa::specs::Table::row_of))]
 fn execute_word<B: Bus>(word: u32, cpu: &mut Cpu, bus: &mut B) -> Event
-    ensures { Does B.bytes B.stores (executed word (B.bytes bus.old) cpu.old)
+    ensures { Does B.bytes B.stores (word_row word (B.bytes bus.old) cpu.old)
         result cpu.old bus.old cpu.new bus.new }
 {
     let fields = Fields::of(word);
-    table!(selected!(word, executed!(word, fields, cpu, bus), reserved(word)))
+    table!(select_row!(
+        word,
+        execute_row!(fields, cpu, bus),
+        Event::Fault(GuestFault::Reserved)
+    ))
 }
 
-/// Executes a word as an instruction, which it is.
+/// Executes an instruction: `BranchInSlot` where it is a branch or a jump in a delay slot.
 #[inline(always)]
-#[tactic(auto, unfolding(crate::specs::Row::executed))]
-fn execute_as<B: Bus>(word: u32, inst: Inst, cpu: &mut Cpu, bus: &mut B) -> Event
-    requires { inst_of word ≡ Some inst }
-    ensures { Does B.bytes B.stores (executed word (B.bytes bus.old) cpu.old)
+fn execute_as<B: Bus>(inst: Inst, cpu: &mut Cpu, bus: &mut B) -> Event
+    ensures { Does B.bytes B.stores (inst_row (Some inst) (B.bytes bus.old) cpu.old)
         result cpu.old bus.old cpu.new bus.new }
 {
     if cpu.in_slot && inst.is_jump() {
@@ -64,16 +68,6 @@ fn execute_as<B: Bus>(word: u32, inst: Inst, cpu: &mut Cpu, bus: &mut B) -> Even
     } else {
         execute(inst, cpu, bus)
     }
-}
-
-/// What a word does that is no instruction.
-#[tactic(auto, unfolding(crate::specs::Row::executed))]
-fn reserved(word: u32) -> Event
-    requires { inst_of word ≡ None }
-    ensures event { result ≡ Event.Fault GuestFault.Reserved }
-    ensures row { (memory : List ℕ) (c : Cpu) → executed word memory c ≡ Faults GuestFault.Reserved }
-{
-    Event::Fault(GuestFault::Reserved)
 }
 
 /// Executes an instruction that may stand where it does.
@@ -86,16 +80,10 @@ fn execute<B: Bus>(inst: Inst, cpu: &mut Cpu, bus: &mut B) -> Event
     match inst {
         Inst::Sll { rd, rt, sa } => cpu.complete(rd, cpu.reg(rt) << sa.number()),
         Inst::Srl { rd, rt, sa } => cpu.complete(rd, cpu.reg(rt) >> sa.number()),
-        Inst::Sra { rd, rt, sa } => cpu.complete(
-            rd,
-            shifted_signed(cpu.reg(rt), sa.number().into()),
-        ),
+        Inst::Sra { rd, rt, sa } => cpu.complete(rd, signed_shift(cpu.reg(rt), sa.number().into())),
         Inst::Sllv { rd, rt, rs } => cpu.complete(rd, cpu.reg(rt) << (cpu.reg(rs) % 32)),
         Inst::Srlv { rd, rt, rs } => cpu.complete(rd, cpu.reg(rt) >> (cpu.reg(rs) % 32)),
-        Inst::Srav { rd, rt, rs } => cpu.complete(
-            rd,
-            shifted_signed(cpu.reg(rt), cpu.reg(rs) % 32),
-        ),
+        Inst::Srav { rd, rt, rs } => cpu.complete(rd, signed_shift(cpu.reg(rt), cpu.reg(rs) % 32)),
         Inst::Jr { rs } => cpu.jump(cpu.reg(rs)),
         Inst::Jalr { rd, rs } => cpu.jump_and_link(rd, cpu.reg(rs)),
         Inst::Syscall { n } => cpu.serve(n),
@@ -136,13 +124,19 @@ fn execute<B: Bus>(inst: Inst, cpu: &mut Cpu, bus: &mut B) -> Event
         Inst::Bne { rs, rt, imm } => cpu.branch(cpu.reg(rs) != cpu.reg(rt), imm),
         Inst::Blez { rs, imm } => cpu.branch(is_negative(cpu.reg(rs)) || cpu.reg(rs) == 0, imm),
         Inst::Bgtz { rs, imm } => cpu.branch(!(is_negative(cpu.reg(rs)) || cpu.reg(rs) == 0), imm),
-        Inst::Addi { rt, rs, imm } => cpu.complete_sum(rt, sum(cpu.reg(rs), signed(imm))),
-        Inst::Addiu { rt, rs, imm } => cpu.complete(rt, cpu.reg(rs).wrapping_add(signed(imm))),
+        Inst::Addi { rt, rs, imm } => cpu.complete_sum(rt, sum(cpu.reg(rs), signed_immediate(imm))),
+        Inst::Addiu { rt, rs, imm } => cpu.complete(
+            rt,
+            cpu.reg(rs).wrapping_add(signed_immediate(imm)),
+        ),
         Inst::Slti { rt, rs, imm } => cpu.complete(
             rt,
-            u32::from(is_less(cpu.reg(rs), signed(imm))),
+            u32::from(is_less(cpu.reg(rs), signed_immediate(imm))),
         ),
-        Inst::Sltiu { rt, rs, imm } => cpu.complete(rt, u32::from(cpu.reg(rs) < signed(imm))),
+        Inst::Sltiu { rt, rs, imm } => cpu.complete(
+            rt,
+            u32::from(cpu.reg(rs) < signed_immediate(imm)),
+        ),
         Inst::Andi { rt, rs, imm } => cpu.complete(rt, cpu.reg(rs) & u32::from(imm)),
         Inst::Ori { rt, rs, imm } => cpu.complete(rt, cpu.reg(rs) | u32::from(imm)),
         Inst::Xori { rt, rs, imm } => cpu.complete(rt, cpu.reg(rs) ^ u32::from(imm)),
@@ -150,9 +144,9 @@ fn execute<B: Bus>(inst: Inst, cpu: &mut Cpu, bus: &mut B) -> Event
         Inst::Lb { rt, imm, rs } => cpu.load(rt, signed_byte(bus, cpu.place(rs, imm))),
         Inst::Lh { rt, imm, rs } => cpu.load(rt, signed_half(bus, cpu.place(rs, imm))),
         Inst::Lwl { rt, imm, rs } => cpu.load(rt, upper_part(bus, cpu.place(rs, imm), cpu.reg(rt))),
-        Inst::Lw { rt, imm, rs } => cpu.load(rt, loaded(bus, cpu.place(rs, imm), Width::Word)),
-        Inst::Lbu { rt, imm, rs } => cpu.load(rt, loaded(bus, cpu.place(rs, imm), Width::Byte)),
-        Inst::Lhu { rt, imm, rs } => cpu.load(rt, loaded(bus, cpu.place(rs, imm), Width::Half)),
+        Inst::Lw { rt, imm, rs } => cpu.load(rt, load_at(bus, cpu.place(rs, imm), Width::Word)),
+        Inst::Lbu { rt, imm, rs } => cpu.load(rt, load_at(bus, cpu.place(rs, imm), Width::Byte)),
+        Inst::Lhu { rt, imm, rs } => cpu.load(rt, load_at(bus, cpu.place(rs, imm), Width::Half)),
         Inst::Lwr { rt, imm, rs } => cpu.load(rt, lower_part(bus, cpu.place(rs, imm), cpu.reg(rt))),
         Inst::Sb { rt, imm, rs } => store(cpu, bus, cpu.place(rs, imm), Width::Byte, cpu.reg(rt)),
         Inst::Sh { rt, imm, rs } => store(cpu, bus, cpu.place(rs, imm), Width::Half, cpu.reg(rt)),

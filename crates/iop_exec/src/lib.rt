@@ -5,10 +5,13 @@ mod arithmetic;
 mod bus;
 mod cpu;
 mod execution;
+pub mod laws;
 mod memory;
+mod position;
 #[cfg(test)]
 mod tests;
 
 pub use bus::Bus;
 pub use cpu::{Cpu, Event};
 pub use execution::step;
+pub use position::Position;

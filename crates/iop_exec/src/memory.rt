@@ -1,20 +1,20 @@
 //! Loads and stores.
 
 ghost use Rattle.iop_base.specs.Numbers.{sign_extended};
-ghost use Rattle.iop_base.specs.Places.{loaded};
-ghost use Rattle.iop_exec.specs.Arithmetic.{loaded_left, loaded_right, stored_left, stored_right};
-ghost use Rattle.iop_exec.specs.Row.{aligned, word_round, stores, stores_over};
+ghost use Rattle.iop_base.specs.Places.{load_at};
+ghost use Rattle.iop_exec.specs.Arithmetic.{left_load, right_load, left_store, right_store};
+ghost use Rattle.iop_exec.specs.Row.{word_start, word_round, stores, stores_over};
 ghost use Rattle.iop_exec.specs.Stepping.{Does};
 ghost use Rattle.std.specs.Prelude.{◌≡◌, option_map};
 
-use crate::arithmetic::{loaded_left, loaded_right, stored_left, stored_right};
+use crate::arithmetic::{left_load, left_store, right_load, right_store};
 use crate::bus::Bus;
 use crate::cpu::{Cpu, Event};
 use iop_base::{GuestFault, Width, sign_extended};
 
-/// The unsigned number at an address: `None` where there is none.
-pub(crate) fn loaded<B: Bus>(bus: &B, at: u32, width: Width) -> Option<u32>
-    ensures { result ≡ loaded (B.bytes bus.now) at width }
+/// Loads the unsigned number at an address: `None` where there is none.
+pub(crate) fn load_at<B: Bus>(bus: &B, at: u32, width: Width) -> Option<u32>
+    ensures { result ≡ load_at (B.bytes bus.now) at width }
 {
     match bus.load(at, width) {
         Ok(number) => Some(number),
@@ -22,37 +22,39 @@ pub(crate) fn loaded<B: Bus>(bus: &B, at: u32, width: Width) -> Option<u32>
     }
 }
 
-/// The signed byte at an address, as a word.
+/// Loads the signed byte at an address, as a word: `None` where there is none.
 pub(crate) fn signed_byte<B: Bus>(bus: &B, at: u32) -> Option<u32>
-    ensures { result ≡ option_map (sign_extended 8) (loaded (B.bytes bus.now) at Width.Byte) }
+    ensures { result ≡ option_map (sign_extended 8) (load_at (B.bytes bus.now) at Width.Byte) }
 {
-    Some(sign_extended(8, loaded(bus, at, Width::Byte)?))
+    Some(sign_extended(8, load_at(bus, at, Width::Byte)?))
 }
 
-/// The signed half at an address, as a word.
+/// Loads the signed half at an address, as a word: `None` where there is none.
 pub(crate) fn signed_half<B: Bus>(bus: &B, at: u32) -> Option<u32>
-    ensures { result ≡ option_map (sign_extended 16) (loaded (B.bytes bus.now) at Width.Half) }
+    ensures { result ≡ option_map (sign_extended 16) (load_at (B.bytes bus.now) at Width.Half) }
 {
-    Some(sign_extended(16, loaded(bus, at, Width::Half)?))
+    Some(sign_extended(16, load_at(bus, at, Width::Half)?))
 }
 
-/// What `lwl` loads over the old value of a register.
+/// Loads as `lwl` does over the old value of a register: `None` where there is no word.
 pub(crate) fn upper_part<B: Bus>(bus: &B, at: u32, old: u32) -> Option<u32>
-    ensures { result ≡ option_map (λ word. loaded_left at word old) (word_round (B.bytes bus.now) at) }
+    ensures { result
+        ≡ option_map (λ word. left_load at word old) (word_round (B.bytes bus.now) at) }
 {
-    let word = loaded(bus, aligned(at), Width::Word)?;
-    Some(loaded_left(at, word, old))
+    let word = load_at(bus, word_start(at), Width::Word)?;
+    Some(left_load(at, word, old))
 }
 
-/// What `lwr` loads over the old value of a register.
+/// Loads as `lwr` does over the old value of a register: `None` where there is no word.
 pub(crate) fn lower_part<B: Bus>(bus: &B, at: u32, old: u32) -> Option<u32>
-    ensures { result ≡ option_map (λ word. loaded_right at word old) (word_round (B.bytes bus.now) at) }
+    ensures { result
+        ≡ option_map (λ word. right_load at word old) (word_round (B.bytes bus.now) at) }
 {
-    let word = loaded(bus, aligned(at), Width::Word)?;
-    Some(loaded_right(at, word, old))
+    let word = load_at(bus, word_start(at), Width::Word)?;
+    Some(right_load(at, word, old))
 }
 
-/// Stores the low bytes of a value.
+/// Stores the low bytes of a value: `Address` where they have no place.
 pub(crate) fn store<B: Bus>(cpu: &mut Cpu, bus: &mut B, at: u32, width: Width, value: u32) -> Event
     ensures { Does B.bytes B.stores (stores cpu.old (B.bytes bus.old) at width value)
         result cpu.old bus.old cpu.new bus.new }
@@ -66,43 +68,45 @@ pub(crate) fn store<B: Bus>(cpu: &mut Cpu, bus: &mut B, at: u32, width: Width, v
     }
 }
 
-/// Stores as `swl` does.
+/// Stores as `swl` does: `Address` where there is no word.
 pub(crate) fn store_upper_part<B: Bus>(cpu: &mut Cpu, bus: &mut B, at: u32, value: u32) -> Event
-    ensures { Does B.bytes B.stores (stores_over cpu.old (B.bytes bus.old) at (stored_left at value))
+    ensures { Does B.bytes B.stores
+        (stores_over cpu.old (B.bytes bus.old) at (left_store at value))
         result cpu.old bus.old cpu.new bus.new }
 {
-    match loaded(bus, aligned(at), Width::Word) {
+    match load_at(bus, word_start(at), Width::Word) {
         Some(word) => store(
             cpu,
             bus,
-            aligned(at),
+            word_start(at),
             Width::Word,
-            stored_left(at, value, word),
+            left_store(at, value, word),
         ),
         None => Event::Fault(GuestFault::Address),
     }
 }
 
-/// Stores as `swr` does.
+/// Stores as `swr` does: `Address` where there is no word.
 pub(crate) fn store_lower_part<B: Bus>(cpu: &mut Cpu, bus: &mut B, at: u32, value: u32) -> Event
-    ensures { Does B.bytes B.stores (stores_over cpu.old (B.bytes bus.old) at (stored_right at value))
+    ensures { Does B.bytes B.stores
+        (stores_over cpu.old (B.bytes bus.old) at (right_store at value))
         result cpu.old bus.old cpu.new bus.new }
 {
-    match loaded(bus, aligned(at), Width::Word) {
+    match load_at(bus, word_start(at), Width::Word) {
         Some(word) => store(
             cpu,
             bus,
-            aligned(at),
+            word_start(at),
             Width::Word,
-            stored_right(at, value, word),
+            right_store(at, value, word),
         ),
         None => Event::Fault(GuestFault::Address),
     }
 }
 
-/// The place of the word in which a place stands.
-fn aligned(at: u32) -> u32
-    ensures { result ≡ aligned at }
+/// Rounds a place down to that of the word in which it stands.
+fn word_start(at: u32) -> u32
+    ensures { result ≡ word_start at }
 {
     at - at % 4
 }

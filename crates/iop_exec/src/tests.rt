@@ -62,7 +62,8 @@ impl Ram {
     /// Writes the lowest bytes of a value.
     fn put(&mut self, place: usize, count: u32, value: u32)
         requires { place + count ≤ length self.old.bytes.items }
-        ensures { self.new.bytes.items ≡ with_bytes self.old.bytes.items place (bytes_of count value) }
+        ensures { self.new.bytes.items
+            ≡ with_bytes self.old.bytes.items place (bytes_of count value) }
     {
         if count > 0 {
             self.bytes[place] = (value % 256) as u8;
@@ -85,7 +86,7 @@ fn count_of(width: Width) -> u32
 
 impl Bus for Ram {
     ghost use Rattle.std.specs.Prelude.{◌≡◌, Some};
-    ghost use Rattle.iop_base.specs.Places.{stored};
+    ghost use Rattle.iop_base.specs.Places.{store_at};
 
     ghost bytes = { λ r. r.bytes.items };
 

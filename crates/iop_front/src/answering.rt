@@ -1,84 +1,52 @@
 //! The way from a command's words to its answer.
 
-ghost use Rattle.std.specs.Prelude.{◌≡◌, ◌⊎◌, ◌≤◌, Bool, Some, map, string_bytes, length};
+ghost use Rattle.std.specs.Prelude.{◌≡◌, ◌≤◌, Some, map, string_bytes, length};
+ghost use Rattle.iop_modload.specs.Limits.{most_bytes};
+ghost use Rattle.iop_modload.specs.declared.limits.TheConstants.{LONGEST_FILE};
+ghost use Rattle.iop_ports.specs.Sinks.{SinkTold};
 ghost use Rattle.iop_trace.specs.Outs.{sinks};
-ghost use Rattle.iop_trace.specs.Sent.{Sends};
 ghost use Rattle.iop_front.specs.Answers.{outside, Answers};
-ghost use Rattle.iop_front.specs.Command.{module_named};
+ghost use Rattle.iop_front.specs.Words.{module_named};
 ghost use Rattle.iop_front.specs.Loading.{module_of_file};
-ghost use Rattle.iop_front.specs.Outcome.{Meets, outcome_of_module, outcome_of_file, cannot_read_line, too_long_line};
+ghost use Rattle.iop_front.specs.Outcome.{Meets, outcome_of_module, outcome_of_file, read_limit};
+ghost use Rattle.iop_front.specs.declared.limits.TheConstants.{MEMORY_SIZE};
 
-use crate::buffers::{buffer, buffer_or_none};
-use crate::command::module_word;
-use crate::modules::module_of_file;
+use crate::buffer::buffer;
+use crate::limits::MEMORY_SIZE;
+use crate::loading::module_of_file;
 use crate::reading::read_file;
+use crate::refusing::{cannot_read, refuse, too_long};
 use crate::running::run_to_end;
 use crate::status::Status;
-use arrayvec::ArrayVec;
-use iop_machine::{MOST_BYTES, Machine};
+use crate::words::{ModuleWord, module_word};
+use iop_machine::Machine;
+use iop_modload::{LONGEST_FILE, most_bytes};
 use iop_ports::{Files, Sink};
-use iop_trace::send;
 use std::alloc::Global;
 
-/// No file may have more bytes.
-const LONGEST_FILE: usize = 4_194_304;
-
-/// No more of a file is read, in bytes: one more shows that it is too long.
-const READ_LIMIT: usize = LONGEST_FILE + 1;
-
-/// How many bytes the line of a refusal has that names a file.
-const LONGEST_REFUSAL: usize = 283;
-
-/// Writes the line of a refusal to the trace. Where the write fails the status stays.
-fn refuse<T: Sink>(status: Status, line: &[u8], trace: &mut T) -> Status
-    ensures status { result ≡ status }
-    ensures sent { (whole : Bool) × Sends whole line.now (T.taken trace.old) (T.taken trace.new) (T.faults trace.old) (T.faults trace.new) }
-{
-    let _ = send(trace, line);
-    status
-}
-
-/// The line for a file that cannot be read.
-fn cannot_read(name: &str) -> ArrayVec<u8, LONGEST_REFUSAL>
-    requires { length name.now ≤ 255 }
-    ensures { result.items ≡ cannot_read_line name.now }
-{
-    let mut line = ArrayVec::new();
-    let _ = line.try_extend_from_slice(b"iop: cannot read ");
-    let _ = line.try_extend_from_slice(name.as_bytes());
-    let _ = line.try_extend_from_slice(b"\n");
-    line
-}
-
-/// The line for a file that is too long.
-fn too_long(name: &str) -> ArrayVec<u8, LONGEST_REFUSAL>
-    requires { length name.now ≤ 255 }
-    ensures { result.items ≡ too_long_line name.now }
-{
-    let mut line = ArrayVec::new();
-    let _ = line.try_extend_from_slice(b"iop: ");
-    let _ = line.try_extend_from_slice(name.as_bytes());
-    let _ = line.try_extend_from_slice(b" is over 4194304 bytes\n");
-    line
-}
+/// How many bytes of a file are read at most: one more than a file may have shows that it is too
+/// long.
+const READ_LIMIT: usize = LONGEST_FILE as usize + 1;
 
 /// Runs the module of a file, or lets the machine refuse it.
 fn run_module<C: Sink, T: Sink>(
     alloc: Global,
-    name: &str,
+    word: ModuleWord<'_>,
     file: &[u8],
     console: &mut C,
     trace: &mut T,
 ) -> Status
-    requires named { length name.now ≤ 255 }
-    requires short { length file.now ≤ 4194304 }
-    ensures { Meets (outcome_of_module (module_of_file name.now file.now)) result (sinks C.taken C.faults T.taken T.faults console.old trace.old) (sinks C.taken C.faults T.taken T.faults console.new trace.new) }
+    requires { length file.now ≤ LONGEST_FILE }
+    ensures { Meets (outcome_of_module
+        (module_of_file word.entry.text.now file.now (most_bytes MEMORY_SIZE))) result
+        (sinks C.told T.told console.old trace.old)
+        (sinks C.told T.told console.new trace.new) }
 {
-    let Ok(mut room) = buffer(alloc, MOST_BYTES) else {
+    let Ok(mut room) = buffer(alloc, most_bytes(MEMORY_SIZE) as usize) else {
         return Status::NoMemory;
     };
-    let given = module_of_file(name, file, &mut room);
-    let Ok(mut machine) = Machine::new(alloc, given) else {
+    let given = module_of_file(word, file, &mut room);
+    let Ok(mut machine) = Machine::new(alloc, MEMORY_SIZE, given) else {
         return Status::NoMemory;
     };
     run_to_end(&mut machine, console, trace)
@@ -87,65 +55,76 @@ fn run_module<C: Sink, T: Sink>(
 /// Answers for a file that was read.
 fn answer_file<C: Sink, T: Sink>(
     alloc: Global,
-    name: &str,
+    word: ModuleWord<'_>,
     file: &[u8],
     console: &mut C,
     trace: &mut T,
 ) -> Status
-    requires { length name.now ≤ 255 }
-    ensures { Meets (outcome_of_file name.now file.now) result (sinks C.taken C.faults T.taken T.faults console.old trace.old) (sinks C.taken C.faults T.taken T.faults console.new trace.new) }
+    ensures { Meets (outcome_of_file word.entry.text.now file.now) result
+        (sinks C.told T.told console.old trace.old)
+        (sinks C.told T.told console.new trace.new) }
 {
-    if LONGEST_FILE < file.len() {
-        refuse(Status::TooLong, &too_long(name), trace)
+    if file.len() > LONGEST_FILE as usize {
+        refuse(Status::TooLong, &too_long(word), trace)
     } else {
-        run_module(alloc, name, file, console, trace)
+        run_module(alloc, word, file, console, trace)
     }
 }
 
-/// Answers for the module of this name, whose file is read into `buf`. The file is opened also where there
-/// was no memory for its bytes, so that memory does not change what is asked of the files.
-fn answer_from<F: Files, C: Sink, T: Sink>(
+/// Answers for a module whose file is read into `bytes`.
+fn answer_reading<F: Files, C: Sink, T: Sink>(
     alloc: Global,
-    name: &str,
-    buf: &mut [u8],
+    word: ModuleWord<'_>,
+    bytes: &mut [u8],
     files: &mut F,
     console: &mut C,
     trace: &mut T,
 ) -> Status
-    requires named { length name.now ≤ 255 }
-    requires room { (length buf.old ≡ 4194305) ⊎ (length buf.old ≡ 0) }
-    ensures { Answers (Some name.now) result
-        (outside F.told F.faults C.taken C.faults T.taken T.faults files.old console.old trace.old)
-        (outside F.told F.faults C.taken C.faults T.taken T.faults files.new console.new trace.new) }
+    requires { length bytes.old ≡ read_limit }
+    ensures { Answers (Some word.entry.text.now) result
+        (outside F.told F.faults C.told T.told files.old console.old trace.old)
+        (outside F.told F.faults C.told T.told files.new console.new trace.new) }
 {
-    let is_starved = buf.is_empty();
-    match read_file(files, name, buf) {
-        Ok(len) => {
-            if is_starved {
-                Status::NoMemory
-            } else {
-                answer_file(alloc, name, &buf[..len], console, trace)
-            }
-        }
-        Err(_) => refuse(Status::CannotRead, &cannot_read(name), trace),
+    match read_file(files, word.text, bytes) {
+        Ok(len) => answer_file(alloc, word, &bytes[..len], console, trace),
+        Err(_) => refuse(Status::CannotRead, &cannot_read(word), trace),
     }
 }
 
-/// Answers for the module of this name.
+/// Answers for a module for whose file there is no memory: opens the file and reads nothing of it,
+/// so that memory does not change which file is asked for, nor what is answered where it cannot be
+/// opened.
+fn answer_without_memory<F: Files, T: Sink>(
+    word: ModuleWord<'_>,
+    files: &mut F,
+    trace: &mut T,
+) -> Status
+    ensures { (console : SinkTold) → Answers (Some word.entry.text.now) result
+        (outside F.told F.faults (λ told. told) T.told files.old console trace.old)
+        (outside F.told F.faults (λ told. told) T.told files.new console trace.new) }
+{
+    match files.open_file(word.text) {
+        Ok(()) => Status::NoMemory,
+        Err(_) => refuse(Status::CannotRead, &cannot_read(word), trace),
+    }
+}
+
+/// Answers for a module, by the word that names its file.
 fn answer_named<F: Files, C: Sink, T: Sink>(
     alloc: Global,
-    name: &str,
+    word: ModuleWord<'_>,
     files: &mut F,
     console: &mut C,
     trace: &mut T,
 ) -> Status
-    requires { length name.now ≤ 255 }
-    ensures { Answers (Some name.now) result
-        (outside F.told F.faults C.taken C.faults T.taken T.faults files.old console.old trace.old)
-        (outside F.told F.faults C.taken C.faults T.taken T.faults files.new console.new trace.new) }
+    ensures { Answers (Some word.entry.text.now) result
+        (outside F.told F.faults C.told T.told files.old console.old trace.old)
+        (outside F.told F.faults C.told T.told files.new console.new trace.new) }
 {
-    let mut buf = buffer_or_none(alloc, READ_LIMIT);
-    answer_from(alloc, name, &mut buf, files, console, trace)
+    match buffer(alloc, READ_LIMIT) {
+        Ok(mut bytes) => answer_reading(alloc, word, &mut bytes, files, console, trace),
+        Err(_) => answer_without_memory(word, files, trace),
+    }
 }
 
 /// Answers for a command.
@@ -157,12 +136,12 @@ pub(crate) fn answer<F: Files, C: Sink, T: Sink>(
     trace: &mut T,
 ) -> Status
     ensures answers { Answers (module_named (map string_bytes words.now)) result
-        (outside F.told F.faults C.taken C.faults T.taken T.faults files.old console.old trace.old)
-        (outside F.told F.faults C.taken C.faults T.taken T.faults files.new console.new trace.new) }
+        (outside F.told F.faults C.told T.told files.old console.old trace.old)
+        (outside F.told F.faults C.told T.told files.new console.new trace.new) }
     ensures untouched { result ≡ Status.BadWords → files.new ≡ files.old }
 {
     match module_word(words) {
-        Some(name) => answer_named(alloc, name, files, console, trace),
+        Some(word) => answer_named(alloc, word, files, console, trace),
         None => refuse(Status::BadWords, b"iop: bad words\n", trace),
     }
 }

@@ -2,17 +2,19 @@
 #![tactic(auto)]
 
 mod answering;
-mod buffers;
+mod buffer;
 mod command;
-mod modules;
+mod limits;
+mod loading;
 mod reading;
+mod refusing;
 mod running;
 mod status;
 #[cfg(test)]
 mod test_files;
 #[cfg(test)]
 mod tests;
-mod top;
+mod words;
 
+pub use command::iop_main;
 pub use status::Status;
-pub use top::iop_main;

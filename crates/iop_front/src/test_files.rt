@@ -23,8 +23,8 @@ fn push_words(bytes: &mut Vec<u8>, words: &[u32]) -> Result<(), AllocError> {
     Ok(())
 }
 
-/// The IRX file of a module of version 1.1: two headers, the module information at 0x74, text and data,
-/// and where there are entries, these and two section headers.
+/// The IRX file of a module of version 1.1: two headers, the module information at 0x74, text and
+/// data, and where there are entries, these and two section headers.
 pub fn irx_file(rt: &impl Abort, alloc: Global, source: &Source<'_>) -> Result<Vec<u8>, Fail> {
     assert!(rt; source.name.len() < 1000 && source.text.len() < 1000);
     assert!(rt; source.data.len() < 1000 && source.bss < 1000 && source.entries.len() < 1000);
@@ -72,3 +72,84 @@ pub fn irx_file(rt: &impl Abort, alloc: Global, source: &Source<'_>) -> Result<V
     }
     Ok(file)
 }
+
+/// `jr $ra`.
+pub const RETURN: u32 = 0x03E0_0008;
+
+/// A module of these words, which begins with the first.
+pub fn of_words(text: &[u32]) -> Source<'_> {
+    Source {
+        name: b"t",
+        entry: 0,
+        text,
+        data: &[],
+        bss: 0,
+        entries: &[],
+    }
+}
+
+/// The words of the smallest module: `jr $ra`, `addu $v0,$0,$0`.
+pub const PLAIN: [u32; 2] = [RETURN, 0x0000_1021];
+
+/// The words of a module that prints `hi` by function `index` of `sysmem`, version `version`, and
+/// returns what its last word leaves in `$v0`.
+pub fn hello(version: u32, index: u16, last: u32) -> [u32; 15] {
+    [
+        0x41E0_0000,
+        0,
+        version,
+        0x6D73_7973,
+        0x0000_6D65,
+        RETURN,
+        0x2400_0000 + u32::from(index),
+        0,
+        0,
+        0x03E0_8021,
+        0x3C04_0000,
+        0x0C00_0005,
+        0x2484_003C,
+        0x0200_0008,
+        last,
+    ]
+}
+
+/// That module.
+pub fn hello_of(text: &[u32]) -> Source<'_> {
+    Source {
+        name: b"hello",
+        entry: 0x24,
+        text,
+        data: &[0x000A_6968],
+        bss: 0,
+        entries: &[[0x28, 5], [0x2C, 4], [0x30, 6]],
+    }
+}
+
+/// A module that stores `jr $ra` over its stub's first word and then calls the stub.
+pub const STORES_OVER_ITS_STUB: Source<'static> = Source {
+    name: b"over",
+    entry: 0x24,
+    text: &[
+        0x41E0_0000,
+        0,
+        0x0000_0101,
+        0x6D73_7973,
+        0x0000_6D65,
+        RETURN,
+        0x2400_000E,
+        0,
+        0,
+        0x03E0_8021,
+        0x3C05_0000,
+        0x3C08_03E0,
+        0x3508_0008,
+        0xACA8_0014,
+        0x0C00_0005,
+        0,
+        0x0200_0008,
+        0x0000_1021,
+    ],
+    data: &[],
+    bss: 0,
+    entries: &[[0x28, 5], [0x34, 6], [0x38, 4]],
+};

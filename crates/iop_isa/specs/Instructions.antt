@@ -1,5 +1,5 @@
--- The instruction that a word holds, and the word that holds an instruction, by the table. The bits of fields that
--- an instruction does not use are ignored.
+-- The instruction that a word holds, and the word that holds an instruction, by the table. The bits
+-- of fields that an instruction does not use are ignored.
 use Rattle.std.specs.Prelude.{◌≡◌, ℕ, ◌+◌, ◌*◌, ◌^◌, Bool, true, false, Option, option_map, List, [], ◌∷◌}
 use Rattle.iop_isa.specs.declared.fields.Fields.{Fields}
 use Rattle.iop_isa.specs.declared.instruction.Inst.{Inst}
@@ -23,17 +23,17 @@ number Target f = f.target
 number Base f = f.rs
 
 -- an instruction with the numbers of its operands
-abbrev pub applied : (operands : List Operand) → Takes operands → Fields → Inst
-applied [] inst f = inst
-applied (operand ∷ operands) inst f = applied operands (inst (number operand f)) f
+abbrev pub inst_with : (operands : List Operand) → Takes operands → Fields → Inst
+inst_with [] inst f = inst
+inst_with (operand ∷ operands) inst f = inst_with operands (inst (number operand f)) f
 
 -- the instruction of a row with the operands that fields hold
-abbrev pub filled : Fields → Row → Inst
-filled f r = applied r.operands r.inst f
+abbrev pub row_inst : Fields → Row → Inst
+row_inst f r = inst_with r.operands r.inst f
 
 -- the instruction that a word holds
 unfoldable pub inst_of : ℕ → Option Inst
-inst_of word = option_map (filled (fields_of word)) (row_of word)
+inst_of word = option_map (row_inst (fields_of word)) (row_of word)
 
 -- fields with the number of an operand
 abbrev pub with_number : Operand → ℕ → Fields → Fields
@@ -48,29 +48,32 @@ with_number Label n f = record f { imm = n }
 with_number Target n f = record f { target = n }
 with_number Base n f = record f { rs = n }
 
--- the fields in which operands stand, and 0 in all others
-abbrev pub kept : List Operand → Fields → Fields
-kept [] f = zeros
-kept (operand ∷ operands) f = with_number operand (number operand f) (kept operands f)
+-- fields with the numbers of some operands, and 0 in all others
+abbrev pub operand_fields : List Operand → Fields → Fields
+operand_fields [] f = zeros
+operand_fields (operand ∷ operands) f =
+    with_number operand (number operand f) (operand_fields operands f)
 
 -- the word of an opcode with fields, of which it has only some
 abbrev pub word_with : Opcode → Fields → ℕ
-word_with (Special function) f = f.rs * 2 ^ 21 + f.rt * 2 ^ 16 + f.rd * 2 ^ 11 + f.sa * 2 ^ 6 + f.n * 2 ^ 6 + function
+word_with (Special function) f =
+    f.rs * 2 ^ 21 + f.rt * 2 ^ 16 + f.rd * 2 ^ 11 + f.sa * 2 ^ 6 + f.n * 2 ^ 6 + function
 word_with (Regimm rt) f = 2 ^ 26 + f.rs * 2 ^ 21 + rt * 2 ^ 16 + f.imm
 word_with (Primary opcode) f = opcode * 2 ^ 26 + f.rs * 2 ^ 21 + f.rt * 2 ^ 16 + f.imm + f.target
 
 -- the word of a row with the operands that fields hold
-abbrev pub plain : Fields → Row → ℕ
-plain f r = word_with r.opcode (kept r.operands f)
+abbrev pub row_word : Fields → Row → ℕ
+row_word f r = word_with r.opcode (operand_fields r.operands f)
 
 -- the word with 0 in the fields that its instruction does not use
 unfoldable pub plain_word : ℕ → Option ℕ
-plain_word word = option_map (plain (fields_of word)) (row_of word)
+plain_word word = option_map (row_word (fields_of word)) (row_of word)
 
 -- a word holds the instruction of an opcode, with the operands that fields hold
 abbrev pub Holds : (word : ℕ) → Opcode → Fields → Type 0
 Holds word opcode f =
-    (inst_of word ≡ option_map (filled f) (found rows opcode)) × (plain_word word ≡ option_map (plain f) (found rows opcode))
+    (inst_of word ≡ option_map (row_inst f) (found rows opcode))
+    × (plain_word word ≡ option_map (row_word f) (found rows opcode))
 
 -- a branch or a jump: it has a delay slot
 abbrev pub is_jump : Inst → Bool

@@ -6,7 +6,8 @@ use Rattle.iop_isa.specs.declared.table.Operand.{Operand}
 use Rattle.iop_isa.specs.declared.table.Operand.TheVariants.{Rd, Rs, Rt, Sa, Code, Signed, Bits, Label, Target, Base}
 use Rattle.iop_isa.specs.Words.{opcode_of, function_of, rt_of}
 
--- what tells the instruction of a word: its opcode, or the function where the opcode is 0, or rt where it is 1
+-- what tells the instruction of a word: its opcode, or the function where the opcode is 0, or rt
+-- where it is 1
 pub data Opcode : Type 0 where
   Special : (function : ℕ) → Opcode
   Regimm : (rt : ℕ) → Opcode
@@ -25,7 +26,8 @@ pub record Row : Type 0 where
   pub inst : Takes operands
 
 abbrev pub row : Opcode → List ℕ → (operands : List Operand) → Takes operands → Row
-row opcode name operands inst = record { opcode = opcode; name = name; operands = operands; inst = inst }
+row opcode name operands inst =
+    record { opcode = opcode; name = name; operands = operands; inst = inst }
 
 abbrev pub rows : List Row
 rows =

@@ -12,8 +12,8 @@ pub record Written : Type 0 where
 unfoldable pub written : ℕ → Option Written
 written word = option_map (λ r. record { name = r.name; operands = r.operands }) (row_of word)
 
-abbrev pub seen : Spelling → Written
-seen s = record { name = s.name.now; operands = s.operands.now }
+abbrev pub name_and_operands : Spelling → Written
+name_and_operands s = record { name = s.name.now; operands = s.operands.now }
 
 abbrev pub IsShort : Option Spelling → Type 0
 IsShort None = Unit {0}

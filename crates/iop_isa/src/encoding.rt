@@ -9,8 +9,8 @@ use crate::fields::Fields;
 use crate::instruction::Inst;
 use crate::table;
 
-/// The word of an instruction, by the format and the code of its row.
-macro_rules! encoded {
+/// Encodes an instruction, by the format and the code of its row.
+macro_rules! encode_rows {
     (
         ($given:ident, $zeros:ident)
         $($format:ident {
@@ -23,21 +23,22 @@ macro_rules! encoded {
     };
 }
 
-/// The word that holds an instruction; the bits of fields that it does not use are 0.
+/// Encodes an instruction into the word that holds it, with 0 in the fields that it does not use.
 pub fn encode(inst: Inst) -> u32
     ensures decoded { inst_of result ≡ Some inst }
     ensures plain { plain_word result ≡ Some result }
 {
     let zeros = Fields::zeros();
-    table!(encoded!(inst, zeros))
+    table!(encode_rows!(inst, zeros))
 }
 
 impl Fields {
-    /// The word of opcode 0 with registers.
+    /// Makes the word of a function of opcode 0 with registers and an amount to shift by.
     fn registers(self, function: u32) -> u32
         requires { function < 64 }
         ensures word { result ≡ word_with (Special function) (record self { n = 0 }) }
-        ensures holds { Holds result (Special function) (record (fields_of result) { rs = self.rs; rt = self.rt; rd = self.rd; sa = self.sa }) }
+        ensures holds { Holds result (Special function)
+            (record (fields_of result) { rs = self.rs; rt = self.rt; rd = self.rd; sa = self.sa }) }
     {
         (u32::from(self.rs.number()) << 21)
             + (u32::from(self.rt.number()) << 16)
@@ -46,7 +47,7 @@ impl Fields {
             + function
     }
 
-    /// The word of opcode 0 with a code.
+    /// Makes the word of a function of opcode 0 with a code.
     fn code(self, function: u32) -> u32
         requires { function < 64 }
         ensures word { result ≡ word_with (Special function) (record zeros { n = self.n }) }
@@ -55,31 +56,35 @@ impl Fields {
         (self.n.number() << 6) + function
     }
 
-    /// The word of opcode 1 with an immediate.
+    /// Makes the word of opcode 1 with `rt`, which tells its instructions apart, and an immediate.
     fn regimm(self, rt: u32) -> u32
         requires { rt < 32 }
         ensures word { result ≡ word_with (Regimm rt) self }
-        ensures holds { Holds result (Regimm rt) (record (fields_of result) { rs = self.rs; imm = self.imm }) }
+        ensures holds { Holds result (Regimm rt)
+            (record (fields_of result) { rs = self.rs; imm = self.imm }) }
     {
         (1 << 26) + (u32::from(self.rs.number()) << 21) + (rt << 16) + u32::from(self.imm)
     }
 
-    /// The word of another opcode with a target.
+    /// Makes the word of another opcode with a target.
     fn jump(self, opcode: u32) -> u32
         requires above { 1 < opcode }
         requires below { opcode < 64 }
-        ensures word { result ≡ word_with (Primary opcode) (record zeros { target = self.target }) }
-        ensures holds { Holds result (Primary opcode) (record (fields_of result) { target = self.target }) }
+        ensures word { result ≡ word_with (Primary opcode)
+            (record zeros { target = self.target }) }
+        ensures holds { Holds result (Primary opcode)
+            (record (fields_of result) { target = self.target }) }
     {
         (opcode << 26) + self.target.number()
     }
 
-    /// The word of another opcode with an immediate.
+    /// Makes the word of another opcode with registers and an immediate.
     fn immediate(self, opcode: u32) -> u32
         requires above { 1 < opcode }
         requires below { opcode < 64 }
         ensures word { result ≡ word_with (Primary opcode) (record self { target = 0 }) }
-        ensures holds { Holds result (Primary opcode) (record (fields_of result) { rs = self.rs; rt = self.rt; imm = self.imm }) }
+        ensures holds { Holds result (Primary opcode)
+            (record (fields_of result) { rs = self.rs; rt = self.rt; imm = self.imm }) }
     {
         (opcode << 26)
             + (u32::from(self.rs.number()) << 21)

@@ -3,19 +3,20 @@
 ghost use Rattle.std.specs.Prelude.{◌≡◌, ◌<◌};
 ghost use Rattle.iop_isa.specs.Words.{field, fields_of, zeros};
 
-use crate::operands::{Code20, Reg, Target26};
+use crate::operands::{Code20, Reg, Shift5, Target26};
 
 /// The fields of a word that hold operands. They overlap, and no instruction has them all.
 #[derive(Clone, Copy)]
 pub struct Fields {
     /// Bits 21 to 25: mostly the first source register.
     pub rs: Reg,
-    /// Bits 16 to 20: the second source register, or the target of an instruction with an immediate.
+    /// Bits 16 to 20: the second source register, or the target of an instruction with an
+    /// immediate.
     pub rt: Reg,
     /// Bits 11 to 15: the target register.
     pub rd: Reg,
     /// Bits 6 to 10: the amount to shift by.
-    pub sa: Reg,
+    pub sa: Shift5,
     /// Bits 6 to 25: the code of a `syscall` or a `break`.
     pub n: Code20,
     /// Bits 0 to 15: the immediate.
@@ -25,7 +26,7 @@ pub struct Fields {
 }
 
 impl Fields {
-    /// The fields of a word.
+    /// Reads all fields of a word.
     pub fn of(word: u32) -> Self
         ensures { result ≡ fields_of word }
     {
@@ -33,14 +34,14 @@ impl Fields {
             rs: register(word, 21),
             rt: register(word, 16),
             rd: register(word, 11),
-            sa: register(word, 6),
+            sa: Shift5::new(field(word, 6, 5) as u8),
             n: Code20::new(field(word, 6, 20)),
             imm: field(word, 0, 16) as u16,
             target: Target26::new(field(word, 0, 26)),
         }
     }
 
-    /// Fields of zeros.
+    /// Makes fields of zeros.
     pub(crate) fn zeros() -> Self
         ensures { result ≡ zeros }
     {
@@ -48,7 +49,7 @@ impl Fields {
             rs: Reg::new(0),
             rt: Reg::new(0),
             rd: Reg::new(0),
-            sa: Reg::new(0),
+            sa: Shift5::new(0),
             n: Code20::new(0),
             imm: 0,
             target: Target26::new(0),
@@ -56,7 +57,7 @@ impl Fields {
     }
 }
 
-/// The register whose number, or the amount to shift by that, stands from a bit on.
+/// Reads the register whose number stands in the five bits from the bit `from` on.
 fn register(word: u32, from: u32) -> Reg
     requires { from < 32 }
     ensures { result ≡ field word from 5 }
@@ -64,7 +65,9 @@ fn register(word: u32, from: u32) -> Reg
     Reg::new(field(word, from, 5) as u8)
 }
 
-/// So many bits of a word, from a bit on.
+/// Reads so many bits of a word, from the bit `from` on: `from` and `bits` are below 32.
+///
+/// It is public because `select_row!` calls it where another crate expands the table.
 pub fn field(word: u32, from: u32, bits: u32) -> u32
     requires from { from < 32 }
     requires bits { bits < 32 }

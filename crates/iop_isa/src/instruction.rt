@@ -3,21 +3,21 @@
 ghost use Rattle.std.specs.Prelude.{◌≡◌};
 ghost use Rattle.iop_isa.specs.Instructions.{is_jump};
 
-use crate::operands::{Code20, Reg, Target26};
+use crate::operands::{Code20, Reg, Shift5, Target26};
 
 /// An instruction, by its mnemonic, with its operands in the order of the assembler.
 ///
-/// `rs` and `rt` are mostly read and `rd` is written; `rt` is written where there is an immediate and no
-/// branch. `imm` is the immediate's bits, and a branch counts it in instructions from its delay slot on.
-/// A load or a store is at `rs` plus the signed immediate.
+/// `rs` and `rt` are mostly read and `rd` is written; `rt` is written where there is an immediate
+/// and no branch. `imm` is the immediate's bits, and a branch counts it in instructions from its
+/// delay slot on. A load or a store is at `rs` plus the signed immediate.
 #[derive(Clone, Copy, Debug, PartialEq, Eq)]
 pub enum Inst {
     /// Shifts left by a constant.
-    Sll { rd: Reg, rt: Reg, sa: Reg },
+    Sll { rd: Reg, rt: Reg, sa: Shift5 },
     /// Shifts right by a constant; zeros come in.
-    Srl { rd: Reg, rt: Reg, sa: Reg },
+    Srl { rd: Reg, rt: Reg, sa: Shift5 },
     /// Shifts right by a constant; copies of the sign come in.
-    Sra { rd: Reg, rt: Reg, sa: Reg },
+    Sra { rd: Reg, rt: Reg, sa: Shift5 },
     /// Shifts left by a register.
     Sllv { rd: Reg, rt: Reg, rs: Reg },
     /// Shifts right by a register; zeros come in.
@@ -56,13 +56,13 @@ pub enum Inst {
     Sub { rd: Reg, rs: Reg, rt: Reg },
     /// Subtracts, modulo 2^32.
     Subu { rd: Reg, rs: Reg, rt: Reg },
-    /// The bits that both registers have.
+    /// Computes the bits that both registers have.
     And { rd: Reg, rs: Reg, rt: Reg },
-    /// The bits that one of the registers has.
+    /// Computes the bits that one of the registers has.
     Or { rd: Reg, rs: Reg, rt: Reg },
-    /// The bits in which the registers differ.
+    /// Computes the bits in which the registers differ.
     Xor { rd: Reg, rs: Reg, rt: Reg },
-    /// The bits that neither register has.
+    /// Computes the bits that neither register has.
     Nor { rd: Reg, rs: Reg, rt: Reg },
     /// Sets to 1 where `rs` is less, as signed numbers, else to 0.
     Slt { rd: Reg, rs: Reg, rt: Reg },
@@ -96,11 +96,11 @@ pub enum Inst {
     Slti { rt: Reg, rs: Reg, imm: u16 },
     /// Sets to 1 where `rs` is less than a signed immediate modulo 2^32, else to 0.
     Sltiu { rt: Reg, rs: Reg, imm: u16 },
-    /// The bits that a register and an immediate both have.
+    /// Computes the bits that a register and an immediate both have.
     Andi { rt: Reg, rs: Reg, imm: u16 },
-    /// The bits that a register or an immediate has.
+    /// Computes the bits that a register or an immediate has.
     Ori { rt: Reg, rs: Reg, imm: u16 },
-    /// The bits in which a register and an immediate differ.
+    /// Computes the bits in which a register and an immediate differ.
     Xori { rt: Reg, rs: Reg, imm: u16 },
     /// Loads an immediate into the upper half.
     Lui { rt: Reg, imm: u16 },
@@ -131,7 +131,7 @@ pub enum Inst {
 }
 
 impl Inst {
-    /// Whether it is a branch or a jump: one that has a delay slot.
+    /// Tests whether it is a branch or a jump: one that has a delay slot.
     pub fn is_jump(&self) -> bool
         ensures { result ≡ is_jump self.now }
     {

@@ -1,9 +1,14 @@
 //! The instructions of the R3000, and the words that hold them.
+//!
+//! Two macros are exported beside the items below. `table!` hands the rows of the table of
+//! instructions to a macro, and `select_row!` expands them to the choice of a word's row: a crate
+//! that has something to do for each instruction writes what one row does.
 #![tactic(auto)]
 
 mod decoding;
 mod encoding;
 mod fields;
+mod immediate;
 mod instruction;
 mod operands;
 mod spelling;
@@ -15,8 +20,9 @@ mod tests;
 pub use decoding::decode;
 pub use encoding::encode;
 pub use fields::{Fields, field};
+pub use immediate::signed_immediate;
 pub use instruction::Inst;
-pub use operands::{Code20, Reg, Target26};
+pub use operands::{Code20, Reg, Shift5, Target26};
 pub use spelling::{Spelling, spelling_of};
 pub use table::Operand;
 pub use targets::{branch_target, jump_target};

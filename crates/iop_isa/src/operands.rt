@@ -4,7 +4,7 @@ ghost use Rattle.std.specs.Prelude.{◌≡◌, ◌<◌, ◌^◌};
 
 use std::marker::Model;
 
-/// The number of a register, or an amount to shift by: below 32.
+/// The number of a register: below 32.
 #[derive(Clone, Copy, Debug, PartialEq, Eq)]
 pub struct Reg {
     n: u8,
@@ -23,7 +23,7 @@ impl Model for Reg {
 }
 
 impl Reg {
-    /// The register of a number below 32.
+    /// Makes the register of a number below 32.
     pub fn new(n: u8) -> Self
         requires { n < 32 }
         ensures { result ≡ n }
@@ -31,7 +31,43 @@ impl Reg {
         Reg { n }
     }
 
-    /// The number: below 32.
+    /// Reads the number: below 32.
+    pub fn number(self) -> u8
+        ensures same { result ≡ self }
+        ensures below { result < 32 }
+    {
+        self.n
+    }
+}
+
+/// An amount to shift by: below 32.
+#[derive(Clone, Copy, Debug, PartialEq, Eq)]
+pub struct Shift5 {
+    n: u8,
+}
+
+impl Model for Shift5 {
+    ghost use Rattle.std.specs.Prelude.{ℕ, ◌<◌};
+
+    ghost Value = { ℕ };
+
+    ghost view = { λ s. s.n };
+
+    ghost invariant = { λ s. s.n < 32 };
+
+    ghost inverse = { λ n. record { n = n } };
+}
+
+impl Shift5 {
+    /// Makes the amount of a number below 32.
+    pub fn new(n: u8) -> Self
+        requires { n < 32 }
+        ensures { result ≡ n }
+    {
+        Shift5 { n }
+    }
+
+    /// Reads the number: below 32.
     pub fn number(self) -> u8
         ensures same { result ≡ self }
         ensures below { result < 32 }
@@ -59,7 +95,7 @@ impl Model for Code20 {
 }
 
 impl Code20 {
-    /// The code of a number below 2^20.
+    /// Makes the code of a number below 2^20.
     pub fn new(n: u32) -> Self
         requires { n < 2 ^ 20 }
         ensures { result ≡ n }
@@ -67,7 +103,7 @@ impl Code20 {
         Code20 { n }
     }
 
-    /// The number: below 2^20.
+    /// Reads the number: below 2^20.
     pub fn number(self) -> u32
         ensures same { result ≡ self }
         ensures below { result < 2 ^ 20 }
@@ -95,7 +131,7 @@ impl Model for Target26 {
 }
 
 impl Target26 {
-    /// The target of a number below 2^26.
+    /// Makes the target of a number below 2^26.
     pub fn new(n: u32) -> Self
         requires { n < 2 ^ 26 }
         ensures { result ≡ n }
@@ -103,7 +139,7 @@ impl Target26 {
         Target26 { n }
     }
 
-    /// The number: below 2^26.
+    /// Reads the number: below 2^26.
     pub fn number(self) -> u32
         ensures same { result ≡ self }
         ensures below { result < 2 ^ 26 }

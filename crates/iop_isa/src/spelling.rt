@@ -1,10 +1,10 @@
 //! How instructions are written.
 
 ghost use Rattle.std.specs.Prelude.{◌≡◌, ◌≤◌, length, option_map, Option, Some};
-ghost use Rattle.iop_isa.specs.Writing.{seen, written, IsShort};
+ghost use Rattle.iop_isa.specs.Writing.{name_and_operands, written, IsShort};
 
 use crate::table::Operand;
-use crate::{selected, table};
+use crate::{select_row, table};
 
 /// How an instruction is written: its name, and its operands in their order.
 #[derive(Clone, Copy)]
@@ -15,18 +15,18 @@ pub struct Spelling {
     pub operands: &'static [Operand],
 }
 
-/// How a row is written.
-macro_rules! spelled {
+/// Spells the instruction of a row.
+macro_rules! spell_row {
     (() ($name:literal $inst:ident { $($field:ident: $operand:ident),* })) => {
         Some(Spelling { name: $name, operands: &[$(Operand::$operand),*] })
     };
 }
 
-/// How the instruction that a word holds is written: `None` where it holds none.
+/// Spells the instruction that a word holds: `None` where it holds none.
 #[tactic(auto, unfolding(crate::specs::Writing::written, crate::specs::Table::row_of))]
 pub fn spelling_of(word: u32) -> Option<Spelling>
-    ensures written { option_map seen result ≡ written word }
+    ensures written { option_map name_and_operands result ≡ written word }
     ensures short { IsShort result }
 {
-    table!(selected!(word, spelled!(), None))
+    table!(select_row!(word, spell_row!(), None))
 }

@@ -27,9 +27,10 @@ pub enum Operand {
 
 /// Hands the rows of the table to the macro `$expand`, behind what it is given.
 ///
-/// The rows stand by their format. A row has a code, and then the instruction's name, its variant, and for each
-/// field of the variant the operand that it is. The code is the function under opcode 0, which has the formats
-/// `registers` and `code`; it is `rt` under opcode 1, whose format is `regimm`; and else it is the opcode.
+/// The rows stand by their format. A row has a code, and then the instruction's name, its variant,
+/// and for each field of the variant the operand that it is. The code is the function under opcode
+/// 0, which has the formats `registers` and `code`; it is `rt` under opcode 1, whose format is
+/// `regimm`; and else it is the opcode.
 #[macro_export]
 macro_rules! table {
     ($expand:ident!($($given:tt)*)) => {
@@ -107,9 +108,14 @@ macro_rules! table {
     };
 }
 
-/// What the macro `$found` makes of the row of a word, behind what it is given: `$none` for a word of no row.
+/// Selects the row of a word, and writes what the macro `$found` makes of it: `$none` for a word of
+/// no row. It is called as `table!(select_row!(word, found!(given), none))`.
+///
+/// Each row calls `$found!($given (name Variant { field: operand, … }))`. The call is all of that
+/// row's arm of a `match`, a tail expression wherever `table!` is one: so a function that executes
+/// an arm has nothing left to do behind it.
 #[macro_export]
-macro_rules! selected {
+macro_rules! select_row {
     (
         ($word:ident, $found:ident! $given:tt, $none:expr)
         registers { $($registers:literal $registers_row:tt)* }

@@ -1,6 +1,6 @@
 //! Words and their instructions.
 
-use crate::{Code20, Inst, Operand, Reg, Target26, decode, encode, spelling_of};
+use crate::{Code20, Inst, Operand, Reg, Shift5, Target26, decode, encode, spelling_of};
 use std::test::Fail;
 
 /// Whether a word holds an instruction.
@@ -51,7 +51,7 @@ fn instructions_have_words(rt: HostRuntime) -> Result<(), Fail> {
             Inst::Sll {
                 rd: v0,
                 rt: ra,
-                sa: Reg::new(4),
+                sa: Shift5::new(4),
             },
         ),
         (0x0451_0001, Inst::Bgezal { rs: v0, imm: 1 }),

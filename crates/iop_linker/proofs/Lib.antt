@@ -5,3 +5,4 @@ pub mod Tables
 pub mod Counted
 pub mod Linked
 pub mod Living
+pub mod Soundness

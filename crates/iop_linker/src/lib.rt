@@ -1,4 +1,5 @@
-//! Linking: the import stubs in a module's text become jumps to the functions of registered libraries.
+//! Linking: the import stubs in a module's text become jumps to the functions of registered
+//! libraries.
 #![tactic(auto)]
 
 mod binding;

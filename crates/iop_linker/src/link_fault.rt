@@ -1,3 +1,8 @@
+ghost use Rattle.std.specs.Prelude.{◌≡◌};
+ghost use Rattle.iop_linker.specs.Linking.{code_of};
+
+use iop_base::Code;
+
 /// Why a text is not linked. Places are physical addresses.
 #[derive(Clone, Copy, Debug, PartialEq, Eq)]
 pub enum LinkFault {
@@ -15,6 +20,20 @@ pub enum LinkFault {
         /// The major version that the table asks for.
         major: u8,
     },
-    /// More than 65,536 stubs would be live.
+    /// More than `Stub::MOST_LIVE` stubs would be live.
     Room,
+}
+
+impl From<LinkFault> for Code {
+    ghost from_gives = { λ fault code. code ≡ code_of fault };
+
+    /// Gives the code of a refusal (ps2sdk's kerr.h): `ILLEGAL_OBJECT` for a bad table,
+    /// `LINK_ERROR` for a library that is not registered, `NO_MEMORY` for too many stubs.
+    fn from(fault: LinkFault) -> Code {
+        match fault {
+            LinkFault::Table { .. } => Code::ILLEGAL_OBJECT,
+            LinkFault::NoLibrary { .. } => Code::LINK_ERROR,
+            LinkFault::Room => Code::NO_MEMORY,
+        }
+    }
 }

@@ -1,9 +1,9 @@
 //! Texts and libraries put together by hand in memory.
 
-ghost use Rattle.std.specs.Prelude.{◌+◌, ◌*◌, ◌≤◌, length};
+ghost use Rattle.std.specs.Prelude.{◌≤◌};
 
 use crate::{LinkFault, link};
-use iop_base::{Code, Line, Lines, Width};
+use iop_base::{Code, JUMP_BACK, Line, Lines, Width};
 use iop_registry::Registry;
 use iop_stubs::Guest;
 use std::alloc::Global;
@@ -13,9 +13,6 @@ use std::test::Fail;
 /// Where the texts stand.
 const TEXT: u32 = 0x1_0000;
 
-/// The first word of a stub that is not bound.
-const JUMP_BACK: u32 = 0x03E0_0008;
-
 /// Gives no lines to anyone.
 #[derive(Drop)]
 struct Silent;
@@ -23,7 +20,14 @@ struct Silent;
 impl Lines for Silent {
     ghost use Rattle.std.specs.Prelude.{None, false, []};
 
-    ghost seen = { λ silent. record { console = None; trace = None; failed = false; console_faults = 0; trace_faults = 0; names = [] } };
+    ghost output = { λ silent. record {
+      console = None;
+      trace = None;
+      failed = false;
+      console_faults = 0;
+      trace_faults = 0;
+      names = [];
+    } };
 
     fn line(&mut self, _t: u64, _line: Line) {}
 
@@ -31,9 +35,7 @@ impl Lines for Silent {
 }
 
 /// Stores words from a place on.
-fn put(rt: &impl Abort, guest: &mut Guest, from: u32, words: &[u32])
-    requires { from + 4 * length words.now ≤ 0x200000 }
-{
+fn put(rt: &impl Abort, guest: &mut Guest, from: u32, words: &[u32]) {
     let mut at = from;
     for word in words {
         assert_eq!(rt; guest.store(at, Width::Word, *word, 0, &mut Silent), Ok(()));
@@ -43,7 +45,7 @@ fn put(rt: &impl Abort, guest: &mut Guest, from: u32, words: &[u32])
 
 /// Memory with the library `sysmem` 1.1 of 64 functions at 0x1200. Function 14 is this word.
 fn with_sysmem(rt: &impl Abort, alloc: Global, function: u32) -> Result<Guest, Fail> {
-    let mut guest = Guest::new(alloc)?;
+    let mut guest = Guest::new(alloc, 0x20_0000)?;
     put(
         rt,
         &mut guest,
@@ -58,11 +60,17 @@ fn with_sysmem(rt: &impl Abort, alloc: Global, function: u32) -> Result<Guest, F
 }
 
 /// Links a text where no stub is live.
-fn link_first(rt: &impl Abort, guest: &mut Guest, reg: &Registry, len: u32) -> Result<(), LinkFault>
+fn link_first(
+    rt: &impl Abort,
+    guest: &mut Guest,
+    registry: &Registry,
+    len: u32,
+) -> Result<(), LinkFault>
     requires { len ≤ 0x1F0000 }
 {
+    assert_eq!(rt; guest.ram().size(), 0x20_0000);
     assert_eq!(rt; guest.room(), 65_536);
-    link(guest, reg, TEXT, len)
+    link(guest, registry, TEXT, len)
 }
 
 /// An import table of `sysmem` with one stub.
@@ -84,7 +92,7 @@ fn sysmem(version: u32, index: u32) -> [u32; 9]
 
 #[test]
 fn one_table(rt: HostRuntime) -> Result<(), Fail> {
-    let reg = Registry::new(rt.alloc())?;
+    let registry = Registry::new(rt.alloc())?;
     let missing = LinkFault::NoLibrary {
         table: TEXT,
         name: *b"sysmem\0\0",
@@ -102,10 +110,13 @@ fn one_table(rt: HostRuntime) -> Result<(), Fail> {
         (0x0201, 14, 0x44E0, 32, Err(bad), JUMP_BACK),
         (0x0101, 14, 0x44E0, 4, Ok(()), JUMP_BACK),
     ];
+    assert_eq!(rt; Code::from(bad), Code::ILLEGAL_OBJECT);
+    assert_eq!(rt; Code::from(missing), Code::LINK_ERROR);
+    assert_eq!(rt; Code::from(LinkFault::Room), Code::NO_MEMORY);
     for (version, index, function, len, result, first) in rows {
         let mut guest = with_sysmem(&rt, rt.alloc(), function)?;
         put(&rt, &mut guest, TEXT, &sysmem(version, index));
-        assert_eq!(rt; link_first(&rt, &mut guest, &reg, len), result);
+        assert_eq!(rt; link_first(&rt, &mut guest, &registry, len), result);
         assert_eq!(rt; guest.ram().load32(0x1_0014), Ok(first));
         assert_eq!(rt; guest.ram().load32(0x1_0018), Ok(0x2400_0000 + index));
         assert_eq!(rt; guest.at(0x1_0014).is_some(), first != JUMP_BACK);
@@ -115,7 +126,7 @@ fn one_table(rt: HostRuntime) -> Result<(), Fail> {
 
 #[test]
 fn a_later_refusal_binds_nothing(rt: HostRuntime) -> Result<(), Fail> {
-    let reg = Registry::new(rt.alloc())?;
+    let registry = Registry::new(rt.alloc())?;
     for (version, end, result) in [
         (0x0101, 0, Ok(())),
         (
@@ -134,7 +145,7 @@ fn a_later_refusal_binds_nothing(rt: HostRuntime) -> Result<(), Fail> {
         put(&rt, &mut guest, TEXT, &sysmem(0x0101, 14));
         put(&rt, &mut guest, 0x1_0024, &sysmem(version, 0));
         put(&rt, &mut guest, 0x1_0040, &[end]);
-        assert_eq!(rt; link_first(&rt, &mut guest, &reg, 72), result);
+        assert_eq!(rt; link_first(&rt, &mut guest, &registry, 72), result);
         let (first, second) = match result {
             Ok(()) => (0x0800_1138, 0x0800_1100),
             Err(_) => (JUMP_BACK, JUMP_BACK),
@@ -147,9 +158,9 @@ fn a_later_refusal_binds_nothing(rt: HostRuntime) -> Result<(), Fail> {
 
 #[test]
 fn functions_in_the_text_are_read_as_they_were(rt: HostRuntime) -> Result<(), Fail> {
-    let mut reg = Registry::new(rt.alloc())?;
-    assert_eq!(rt; reg.register(*b"vbcount\0", 1, TEXT), Code::OK);
-    let mut guest = Guest::new(rt.alloc())?;
+    let mut registry = Registry::new(rt.alloc())?;
+    assert_eq!(rt; registry.register(*b"vbcount\0", 1, TEXT), Code::OK);
+    let mut guest = Guest::new(rt.alloc(), 0x20_0000)?;
     put(
         &rt,
         &mut guest,
@@ -164,7 +175,7 @@ fn functions_in_the_text_are_read_as_they_were(rt: HostRuntime) -> Result<(), Fa
             &[JUMP_BACK, 0x2400_0000],
         );
     }
-    assert_eq!(rt; link_first(&rt, &mut guest, &reg, 52), Ok(()));
+    assert_eq!(rt; link_first(&rt, &mut guest, &registry, 52), Ok(()));
     for index in 0..3 {
         assert_eq!(rt; guest.ram().load32(0x1_0014 + 8 * index), Ok(0x08F8_0002));
     }
@@ -174,7 +185,7 @@ fn functions_in_the_text_are_read_as_they_were(rt: HostRuntime) -> Result<(), Fa
 
 #[test]
 fn one_stub_too_many(rt: HostRuntime) -> Result<(), Fail> {
-    let reg = Registry::new(rt.alloc())?;
+    let registry = Registry::new(rt.alloc())?;
     let mut guest = with_sysmem(&rt, rt.alloc(), 0x44E0)?;
     put(&rt, &mut guest, TEXT, &sysmem(0x0101, 0));
     for index in 0..65_537 {
@@ -186,7 +197,7 @@ fn one_stub_too_many(rt: HostRuntime) -> Result<(), Fail> {
         );
     }
     assert_eq!(rt;
-        link_first(&rt, &mut guest, &reg, 0x8_0100),
+        link_first(&rt, &mut guest, &registry, 0x8_0100),
         Err(LinkFault::Room)
     );
     assert_eq!(rt; guest.room(), 65_536);

@@ -1,164 +1,236 @@
--- What stays of live stubs and of memory over the steps of a run.
-use Rattle.std.proofs.Common.{◌≡◌, ℕ, zero, suc, ◌+◌, ◌≤◌, nat_le, Bool, true, false, cond, Option, Some, None, List, length, refl, ap, sym, ◌∙◌, subst, arith, not}
-use Rattle.std.specs.Prelude.{All, Contains}
+-- What each step keeps: one record, and one lemma a case.
+use Rattle.std.proofs.Common.{◌≡◌, ℕ, ◌+◌, ◌≤◌, nat_le, Bool, true, false, cond, Option, Some, None, List, [], ◌++◌, length, refl, sym, ◌∙◌, arith, not, inl, inr}
+use Rattle.std.specs.Prelude.{◌⊎◌, Contains, replicate}
 use Rattle.std.proofs.lemmas.Bool.Decides.{nat_tests}
-use Rattle.std.proofs.lemmas.List.Elements.{All-filter, All-contains_itself}
+use Rattle.std.proofs.lemmas.List.Elements.{All-filter, All-contains, All-contains_itself, Contains-append_left, Contains-append_right}
 use Rattle.iop_base.specs.Keeping.{kept_of}
 use Rattle.iop_base.specs.Numbers.{width_bytes, bytes_of}
+use Rattle.iop_base.specs.Piece.{Piece}
 use Rattle.iop_base.specs.Places.{phys, range_at}
-use Rattle.iop_base.specs.declared.outcomes.Kept as fates
-use Rattle.iop_base.specs.declared.outcomes.Kept.TheVariants.{Resident, Removed, Removable}
-use Rattle.iop_base.specs.declared.outcomes.Stop.{Stop}
+use Rattle.iop_base.specs.declared.kept.Kept.{Kept}
+use Rattle.iop_base.specs.declared.kept.Kept.TheVariants.{Resident, Removed, Removable}
+use Rattle.iop_base.proofs.Memory.{length-with_bytes}
 use Rattle.iop_exec.specs.declared.cpu.Cpu.{Cpu}
-use Rattle.iop_exec.specs.Row.{Row, Goes, Serves, Faults, Storing, moved, reg, row}
+use Rattle.iop_exec.specs.Laws.{cpu_after}
+use Rattle.iop_exec.specs.Positions.{IsStraight}
+use Rattle.iop_exec.proofs.Following.{row_follows}
+use Rattle.iop_exec.specs.Row.{Row, Goes, Serves, Faults, Storing, at_next, reg, row}
 use Rattle.iop_stubs.specs.Binding.{IsSound}
-use Rattle.iop_stubs.specs.Stubs.{Memory, after_store, meets}
+use Rattle.iop_stubs.specs.Stubs.{access_place, Memory, after_store, meets, stub_line, store_lines}
 use Rattle.iop_stubs.specs.declared.live_stub.Stub.{Stub}
-use Rattle.iop_stubs.proofs.Storing.{store_sound, length-bytes_of}
+use Rattle.iop_base.proofs.Lists.{length-bytes_of}
+use Rattle.iop_stubs.proofs.Storing.{store_sound}
 use Rattle.iop_machine.specs.declared.loader.Loaded.{Loaded}
 use Rattle.iop_machine.specs.declared.loader.Loader.{Loader}
 use Rattle.iop_machine.specs.declared.loader.Loader.TheVariants.{Dormant, Ready, Running}
 use Rattle.iop_machine.specs.declared.service.Service.{Service}
 use Rattle.iop_machine.specs.declared.service.Service.TheVariants.{Kprintf, ThreadReturn, ModuleReturn}
-use Rattle.iop_machine.specs.Laws.{KeepsStubs, RunsKeepStubs}
 use Rattle.iop_machine.specs.Services.{service_of, calls, returns, keeps}
-use Rattle.iop_machine.specs.Stepping.{performs, stores_it, step, steps}
-use Rattle.iop_machine.specs.Storing.{place_of}
-use Rattle.iop_machine.specs.World.{World, Stepped}
-use Rattle.iop_machine.proofs.Reaching.{steps_zero, steps_suc}
-use Rattle.iop_machine.proofs.Stepping.{step_over, step_by}
+use Rattle.iop_machine.specs.Stepping.{performs, stores_it, goes_by, executes_by, one_if}
+use Rattle.iop_machine.specs.Storing.{stores_bytes}
+use Rattle.iop_base.specs.declared.line.Line.TheVariants.{Returned}
+use Rattle.iop_machine.specs.Iop.{Iop, Transition, tells}
+use Rattle.iop_machine.proofs.Elements.{fails_or_passes}
 
--- what stays of one memory in another
-record Stays (P : Stub → Type 0) (old new : Memory) : Type 0 where
-  live : All P old.live → All P new.live
-  sound : IsSound old → IsSound new
+-- no module waits to begin
+abbrev pub HasBegun : Loader → Type 0
+HasBegun (Ready m) = ⊥
+HasBegun (Running m) = Unit {0}
+HasBegun Dormant = Unit {0}
 
-same : (P : Stub → Type 0) (old new : Memory) → new ≡ old → Stays P old new
-same P old new e = record { live = subst (λ (m : Memory). All P m.live) (sym e); sound = subst IsSound (sym e) }
+-- what stays of memory, where these pieces were given at this moment
+pub record Stays (clock : ℕ) (old new : Memory) (pieces : List Piece) : Type 0 where
+  pub size : length new.ram ≡ length old.ram
+  pub sound : IsSound old → IsSound new
+  -- no stub becomes live
+  pub live : (stub : Stub) → Contains new.live stub → Contains old.live stub
+  -- and one that is no longer live has its line
+  pub line : (stub : Stub) → Contains old.live stub
+      → Contains new.live stub ⊎ Contains pieces (stub_line clock stub)
+
+-- what stays of the core
+pub record Keeps (ticks : ℕ) (s : Iop) (t : Transition Iop) : Type 0 where
+  pub clock : t.state.clock ≤ s.clock + ticks
+  pub begun : HasBegun s.loader → HasBegun t.state.loader
+  pub straight : IsStraight s.cpu → IsStraight t.state.cpu
+  pub memory : Stays s.clock s.memory t.state.memory t.pieces
+
+same : (clock : ℕ) (memory : Memory) (pieces : List Piece) → Stays clock memory memory pieces
+same clock memory pieces =
+    record { size = refl; sound = λ h. h; live = λ stub h. h; line = λ stub h. inl h }
 
 -- a range that has a place lies in memory
-in_range : (b : Bool) (p size len q : ℕ) → nat_le (p + len) size ≡ b → cond b (Some p) None ≡ Some q → q + len ≤ size
+in_range : (b : Bool) (p size len q : ℕ) → nat_le (p + len) size ≡ b → cond b (Some p) None ≡ Some q
+    → q + len ≤ size
 in_range true p size len q t e =
     let fits : p + len ≤ size = grind (arith, nat_tests, t) in
     let is : p ≡ q = cc e in
     omega (arith, fits, is)
 in_range false p size len q t e = absurd (cc e)
 
-range_by : (o : Option ℕ) (size at len q : ℕ) → phys size at ≡ o → range_at size at len ≡ Some q → q + len ≤ size
-range_by None size at len q f e = let none : range_at size at len ≡ None = rw f refl in absurd (cc (none, e))
+pub range_by : (o : Option ℕ) (size at len q : ℕ) → phys size at ≡ o → range_at size at len ≡ Some q
+    → q + len ≤ size
+range_by None size at len q f e = let none : range_at size at len ≡ None =
+    rw f refl in absurd (cc (none, e))
 range_by (Some p) size at len q f e =
     let is : range_at size at len ≡ cond (nat_le (p + len) size) (Some p) None = rw f refl in
     in_range (nat_le (p + len) size) p size len q refl (sym is ∙ e)
 
-access_by : (b : Bool) (size at width q : ℕ) → cond b (range_at size at width) None ≡ Some q → q + width ≤ size
+access_by : (b : Bool) (size at width q : ℕ) → cond b (range_at size at width) None ≡ Some q
+    → q + width ≤ size
 access_by true size at width q e = range_by (phys size at) size at width q refl e
 access_by false size at width q e = absurd (cc e)
 
--- a store
-stored : (P : Stub → Type 0) (old : Memory) (place : Option ℕ) (bytes : List ℕ) → ((p : ℕ) → place ≡ Some p → p + length bytes ≤ length old.ram) → Stays P old (after_store old place bytes)
-stored P old None bytes inside = same P old old refl
-stored P old (Some p) bytes inside = record {
-  live = All-filter (λ stub. not (meets p (length bytes) stub)) P old.live;
-  sound = store_sound old _ _ p (length bytes) bytes refl refl refl (inside p refl);
+-- a store at a place, where its bytes lie in memory
+stays_store : (clock : ℕ) (old : Memory) (place : Option ℕ) (bytes : List ℕ)
+    → ((p : ℕ) → place ≡ Some p → p + length bytes ≤ length old.ram)
+    → Stays clock old (after_store old place bytes) (store_lines clock old place (length bytes))
+stays_store clock old None bytes inside = same clock old []
+stays_store clock old (Some p) bytes inside =
+    let test = meets p (length bytes) in
+    record {
+      size = length-with_bytes old.ram p bytes (inside p refl);
+      sound = store_sound old _ _ p (length bytes) bytes refl refl refl (inside p refl);
+      live = λ stub h. All-contains (Contains old.live) _ stub
+          (All-filter (λ x. not (test x)) (Contains old.live) old.live
+          (All-contains_itself old.live)) h;
+      line = fails_or_passes test (stub_line clock) old.live;
+    }
+
+-- bytes that the kernel stores at an address
+pub stays_stores : (s : Iop) (at : ℕ) (bytes : List ℕ)
+    → Stays s.clock s.memory (stores_bytes s at bytes).state.memory (stores_bytes s at bytes).pieces
+stays_stores s at bytes =
+    let size = length s.memory.ram in
+    stays_store s.clock s.memory _ bytes
+    (λ p e. range_by (phys size at) size at (length bytes) p refl e)
+
+stays_number : (s : Iop) (storing : Storing)
+    → Stays s.clock s.memory (stores_it s (Some storing)).state.memory
+    (stores_it s (Some storing)).pieces
+stays_number s storing =
+    let n = width_bytes storing.width in
+    stays_store s.clock s.memory (access_place s.memory storing.at storing.width)
+    (bytes_of n storing.value)
+    (λ p e. let fits = access_by _ (length s.memory.ram) storing.at n p e in omega
+    (arith, fits, length-bytes_of n storing.value))
+
+-- one change of memory and then another
+pub stays_then : {clock : ℕ} {a b c : Memory} {first second : List Piece}
+    → Stays clock a b first → Stays clock b c second → Stays clock a c (first ++ second)
+stays_then {clock} {a} {b} {c} {first} {second} g h = record {
+  size = h.size ∙ g.size;
+  sound = λ x. h.sound (g.sound x);
+  live = λ stub x. g.live stub (h.live stub x);
+  line = λ stub x. elim (g.line stub x) [
+    | inl stays ↦ elim (h.line stub stays) [
+      | inl all ↦ inl all
+      | inr told ↦ inr (Contains-append_right first second _ told)
+    ]
+    | inr told ↦ inr (Contains-append_left first second _ told)
+  ];
 }
 
-module _ (P : Stub → Type 0) where
-  -- the memory that a step leaves
-  abbrev Kept : World → World → Type 0
-  Kept w v = Stays P w.memory v.memory
+-- what becomes of a module
+keeps_keep : (s : Iop) (m : Loaded) (k : Kept) → Keeps 0 s (keeps s m k)
+keeps_keep s m Resident =
+    record {
+      clock = omega arith;
+      begun = λ h. h;
+      straight = λ h. h;
+      memory =
+          same s.clock s.memory [];
+    }
+keeps_keep s m Removable =
+    record {
+      clock = omega arith;
+      begun = λ h. h;
+      straight = λ h. h;
+      memory =
+          same s.clock s.memory [];
+    }
+keeps_keep s m Removed = record {
+  clock = omega arith;
+  begun = λ h. h;
+  straight = λ h. h;
+  memory = stays_stores s m.base (replicate m.size 0);
+}
 
-  kept_stores : (w : World) (s : Option Storing) → Kept w (stores_it w s).world
-  kept_stores w None = same P w.memory w.memory refl
-  kept_stores w (Some s) =
-      let size = length w.memory.ram in
-      let n = width_bytes s.width in
-      stored P w.memory (place_of w.memory s.at s.width) (bytes_of n s.value)
-      (λ p e. let fits = access_by _ size s.at n p e in omega (arith, fits, length-bytes_of n s.value))
-
-  kept_keeps : (w : World) (m : Loaded) (k : fates.Kept) → Kept w (keeps w m k).world
-  kept_keeps w m Resident = same P w.memory w.memory refl
-  kept_keeps w m Removable = same P w.memory w.memory refl
-  kept_keeps w m Removed =
-      stored P w.memory _ _ (λ p e. range_by (phys (length w.memory.ram) m.base) (length w.memory.ram) m.base _ p refl e)
-
-  kept_returns : (w : World) (m : Loaded) (value : ℕ) → Kept w (returns w m value).world
-  unfolding returns
-  kept_returns w m value = kept_keeps w m (kept_of value)
-
-  kept_calls : (w : World) (m : Loaded) (after : Cpu) (s : Option Service) → Kept w (calls w m after s).world
-  kept_calls w m after None = same P w.memory w.memory refl
-  kept_calls w m after (Some Kprintf) = same P w.memory w.memory refl
-  kept_calls w m after (Some ThreadReturn) = kept_returns (record w { cpu = after }) m 0
-  kept_calls w m after (Some ModuleReturn) = kept_returns (record w { cpu = after }) m (reg after 2)
-
-  kept_performs : (w : World) (m : Loaded) (r : Row) → Kept w (performs w m r).world
-  kept_performs w m (Goes after storing) = kept_stores (record w { cpu = after }) storing
-  kept_performs w m (Serves code) = kept_calls w m (moved w.cpu) (service_of code)
-  kept_performs w m (Faults kind) = same P w.memory w.memory refl
-
-  as_stepped : (w : World) (d : Stepped) → step w ≡ d → Kept w d.world → Kept w (step w).world
-  as_stepped w d e h = subst (λ (x : Stepped). Kept w x.world) (sym e) h
-
-  kept_by : (w : World) (o : Option Stop) (l : Loader) → w.waiting ≡ None → w.over ≡ o → w.loader ≡ l → Kept w (step w).world
-  kept_by w (Some stop) l f e g = as_stepped w _ (step_over w stop e) (same P w.memory w.memory refl)
-  kept_by w None (Ready m) f e g = as_stepped w _ (step_by w (Ready m) e f g) (same P w.memory w.memory refl)
-  kept_by w None (Running m) f e g = as_stepped w _ (step_by w (Running m) e f g) (kept_performs w m (row w.memory.ram w.cpu))
-  kept_by w None Dormant f e g = as_stepped w _ (step_by w Dormant e f g) (same P w.memory w.memory refl)
-
--- no module waits
-none_stores : (w : World) (s : Option Storing) → (stores_it w s).world.waiting ≡ w.waiting
-none_stores w None = refl
-none_stores w (Some s) = refl
-
-none_keeps : (w : World) (m : Loaded) (k : fates.Kept) → (keeps w m k).world.waiting ≡ w.waiting
-none_keeps w m Resident = refl
-none_keeps w m Removed = refl
-none_keeps w m Removable = refl
-
-none_returns : (w : World) (m : Loaded) (value : ℕ) → (returns w m value).world.waiting ≡ w.waiting
+returns_keeps : (s : Iop) (m : Loaded) (value : ℕ) → Keeps 1 s (returns s m value)
 unfolding returns
-none_returns w m value = none_keeps w m (kept_of value)
-
-none_calls : (w : World) (m : Loaded) (after : Cpu) (s : Option Service) → (calls w m after s).world.waiting ≡ w.waiting
-none_calls w m after None = refl
-none_calls w m after (Some Kprintf) = refl
-none_calls w m after (Some ThreadReturn) = none_returns (record w { cpu = after }) m 0
-none_calls w m after (Some ModuleReturn) = none_returns (record w { cpu = after }) m (reg after 2)
-
-none_performs : (w : World) (m : Loaded) (r : Row) → (performs w m r).world.waiting ≡ w.waiting
-none_performs w m (Goes after storing) = none_stores (record w { cpu = after }) storing
-none_performs w m (Serves code) = none_calls w m (moved w.cpu) (service_of code)
-none_performs w m (Faults kind) = refl
-
-none_by : (w : World) (o : Option Stop) (l : Loader) → w.waiting ≡ None → w.over ≡ o → w.loader ≡ l → (step w).world.waiting ≡ None
-none_by w (Some stop) l f e g = ap (λ (d : Stepped). d.world.waiting) (step_over w stop e) ∙ f
-none_by w None (Ready m) f e g = ap (λ (d : Stepped). d.world.waiting) (step_by w (Ready m) e f g) ∙ f
-none_by w None (Running m) f e g =
-    ap (λ (d : Stepped). d.world.waiting) (step_by w (Running m) e f g) ∙ none_performs w m (row w.memory.ram w.cpu) ∙ f
-none_by w None Dormant f e g = ap (λ (d : Stepped). d.world.waiting) (step_by w Dormant e f g) ∙ f
-
-none_waits : (w : World) (k : ℕ) → w.waiting ≡ None → (steps k w).world.waiting ≡ None
-none_waits w zero f = ap (λ (d : Stepped). d.world.waiting) (steps_zero w) ∙ f
-none_waits w (suc k) f =
-    let v = (steps k w).world in
-    ap (λ (d : Stepped). d.world.waiting) (steps_suc k w) ∙ none_by v v.over v.loader (none_waits w k f) refl refl
-
-kept_steps : (w : World) (k : ℕ) → w.waiting ≡ None → KeepsStubs w k
-kept_steps w zero f =
-    let same = sym (ap (λ (d : Stepped). d.world.memory) (steps_zero w)) in
+returns_keeps s m value =
+    let line = (tells s (Returned m.number value (kept_of value))).pieces in
+    let kept = keeps_keep s m (kept_of value) in
     record {
-      live = subst (λ (m : Memory). All (Contains w.memory.live) m.live) same (All-contains_itself w.memory.live);
-      sound = λ h. subst IsSound same h;
-    }
-kept_steps w (suc k) f =
-    let v = (steps k w).world in
-    let so_far = kept_steps w k f in
-    let next = kept_by (Contains w.memory.live) v v.over v.loader (none_waits w k f) refl refl in
-    let same = sym (ap (λ (d : Stepped). d.world.memory) (steps_suc k w)) in
-    record {
-      live = subst (λ (m : Memory). All (Contains w.memory.live) m.live) same (next.live so_far.live);
-      sound = λ h. subst IsSound same (next.sound (so_far.sound h));
+      clock = let clock = kept.clock in omega (arith, clock);
+      begun = λ h. tt;
+      straight = kept.straight;
+      memory = stays_then (same s.clock s.memory line) kept.memory;
     }
 
-pub runs_keep_stubs : RunsKeepStubs
-runs_keep_stubs = λ w k f. kept_steps w k f
+-- the processor moved on before
+by_cpu : {ticks : ℕ} {t : Transition Iop} (s : Iop) (after : Cpu)
+    → (IsStraight s.cpu → IsStraight after)
+    → Keeps ticks (record s { cpu = after }) t → Keeps ticks s t
+by_cpu s after f h = record
+    { clock = h.clock; begun = h.begun; straight = λ x. h.straight (f x); memory = h.memory }
+
+calls_keep : (s : Iop) (m : Loaded) (after : Cpu) (o : Option Service)
+    → (IsStraight s.cpu → IsStraight after) → Keeps 1 s (calls s m after o)
+calls_keep s m after None f =
+    record {
+      clock = omega arith;
+      begun = λ h. h;
+      straight = λ h. h;
+      memory =
+          same s.clock s.memory [];
+    }
+calls_keep s m after (Some Kprintf) f =
+    record {
+      clock = omega arith;
+      begun = λ h. h;
+      straight = λ h. f h;
+      memory =
+          same s.clock s.memory _;
+    }
+calls_keep s m after (Some ThreadReturn) f =
+    by_cpu s after f (returns_keeps (record s { cpu = after }) m 0)
+calls_keep s m after (Some ModuleReturn) f =
+    by_cpu s after f (returns_keeps (record s { cpu = after }) m (reg after 2))
+
+performs_keeps : (s : Iop) (m : Loaded) (r : Row)
+    → (IsStraight s.cpu → IsStraight (cpu_after s.cpu r)) → Keeps 1 s (performs s m r)
+performs_keeps s m (Goes after None) f =
+    record {
+      clock = omega arith;
+      begun = λ h. h;
+      straight = λ h. f h;
+      memory =
+          same s.clock s.memory [];
+    }
+performs_keeps s m (Goes after (Some storing)) f =
+    record {
+      clock = omega arith;
+      begun = λ h. h;
+      straight = λ h. f h;
+      memory =
+          stays_number (record s { cpu = after }) storing;
+    }
+performs_keeps s m (Serves code) f = calls_keep s m (at_next s.cpu) (service_of code) f
+performs_keeps s m (Faults kind) f =
+    record {
+      clock = omega arith;
+      begun = λ h. h;
+      straight = λ h. h;
+      memory =
+          same s.clock s.memory [];
+    }
+
+-- a step of the core
+pub goes_keep : (s : Iop) (l : Loader) → Keeps (one_if (executes_by None None l)) s (goes_by s l)
+goes_keep s (Ready m) = record
+    { clock = omega arith; begun = λ h. tt; straight = λ h. h; memory = same s.clock s.memory _ }
+goes_keep s (Running m) =
+    performs_keeps s m (row s.memory.ram s.cpu) (row_follows s.memory.ram s.cpu).straight
+goes_keep s Dormant = record
+    { clock = omega arith; begun = λ h. h; straight = λ h. h; memory = same s.clock s.memory [] }

@@ -1,12 +1,20 @@
-pub mod Area
-pub mod StringLemmas
-pub mod Performing
-pub mod Storing
-pub mod Stepping
+mod Elements
+mod Taking
+mod Stepping
 pub mod Reaching
-pub mod Bursting
+mod Keeping
+mod Resting
 pub mod Lasting
 pub mod Advancing
-pub mod LoadingLemmas
-pub mod StubLemmas
-pub mod Keeping
+mod Bursting
+mod Performing
+mod Storing
+mod StringLemmas
+mod StubLemmas
+mod StubSteps
+mod LoadingLemmas
+mod Landing
+mod Area
+mod AreaLemmas
+mod AreaReading
+mod AreaLanding

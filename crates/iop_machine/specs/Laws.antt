@@ -1,35 +1,52 @@
 -- What the laws on runs and on live stubs say.
-use Rattle.std.specs.Prelude.{◌≡◌, ℕ, ◌+◌, ◌/◌, ◌*◌, ◌^◌, ◌≤◌, true, false, Some, None, ◌++◌, length, Contains, All}
+use Rattle.std.specs.Prelude.{◌≡◌, ℕ, ◌+◌, ◌/◌, ◌*◌, ◌^◌, ◌≤◌, true, ◌⊎◌, false, if◌then◌else◌, Option, Some, None, Result, Ok, Err, List, [], ◌++◌, length, Contains, IfOk, IfSome}
 use Rattle.iop_base.specs.Numbers.{wrapped}
-use Rattle.iop_base.specs.Places.{phys}
-use Rattle.iop_base.specs.declared.outcomes.Stop.{Stop}
+use Rattle.iop_base.specs.Places.{IsRamSize, phys}
+use Rattle.iop_base.specs.declared.code.Code.{Code}
+use Rattle.iop_base.specs.declared.guest_fault.GuestFault.TheVariants.{BranchInSlot}
+use Rattle.iop_base.specs.declared.stop.Stop.{Stop}
 use Rattle.iop_exec.specs.declared.cpu.Cpu.{Cpu}
-use Rattle.iop_exec.specs.Row.{Goes, row}
+use Rattle.iop_exec.specs.Positions.{IsStraight}
+use Rattle.iop_exec.specs.Row.{Row, Goes, Faults, Storing, row}
 use Rattle.iop_stubs.specs.Binding.{IsSound}
-use Rattle.iop_stubs.specs.Stubs.{Memory}
+use Rattle.iop_linker.specs.Linking.{linking}
+use Rattle.iop_linker.specs.declared.link_fault.LinkFault.{LinkFault}
+use Rattle.iop_modload.specs.declared.limits.TheConstants.{FIRST_BASE}
+use Rattle.iop_stubs.specs.Stubs.{Memory, stub_line}
 use Rattle.iop_stubs.specs.declared.live_stub.Stub.{Stub}
-use Rattle.iop_machine.specs.Running.{Ends}
-use Rattle.iop_machine.specs.Stepping.{steps, run_of}
-use Rattle.iop_machine.specs.World.{World, silent}
+use Rattle.iop_machine.specs.Running.{Ends, Runs}
+use Rattle.iop_machine.specs.Stepping.{step, steps, run_of}
+use Rattle.iop_machine.specs.World.{World, booted, reset, beginning}
+use Rattle.iop_machine.specs.declared.loader.Loaded.{Loaded}
+use Rattle.iop_machine.specs.Iop.{Iop, silent}
+use Rattle.iop_machine.specs.Loading.{with_kernel, copies}
+use Rattle.iop_machine.specs.Modules.{Module, Fits}
 
 -- the steps of a run are those of its first part and then those of the rest
 abbrev pub StepsCompose : Type 0
 StepsCompose =
-    (w : World) (k j : ℕ) → steps (k + j) w ≡ record { world = (steps j (steps k w).world).world; pieces = (steps k w).pieces ++ (steps j (steps k w).world).pieces }
+    (w : World) (k j : ℕ) → steps (k + j) w ≡ record {
+      state = (steps j (steps k w).state).state;
+      pieces =
+          (steps k w).pieces ++ (steps j (steps k w).state).pieces;
+    }
 
 -- a run by n instructions and then one by m is one by n + m
 abbrev pub RunsCompose : Type 0
 RunsCompose =
-    (w : World) (n m k j : ℕ) (first second : Stop) → Ends w n k first → Ends (steps k w).world m j second → Ends w (n + m) (k + j) second
+    (w : World) (n m k j : ℕ) (first second : Stop) → Ends w n k first
+    → Ends (steps k w).state m j second → Ends w (n + m) (k + j) second
 
 -- a run has one end
 abbrev pub RunsAreDetermined : Type 0
 RunsAreDetermined =
-    (w : World) (n k j : ℕ) (first second : Stop) → Ends w n k first → Ends w n j second → (k ≡ j) × (first ≡ second)
+    (w : World) (n k j : ℕ) (first second : Stop) → Ends w n k first → Ends w n j second → (k ≡ j)
+    × (first ≡ second)
 
 -- what is stopped stays as it is
 abbrev pub OverStays : Type 0
-OverStays = (w : World) (n k : ℕ) (stop : Stop) → w.over ≡ Some stop → Ends w n 0 stop × (steps k w ≡ silent w)
+OverStays = (w : World) (n k : ℕ) (stop : Stop) → w.iop.over ≡ Some stop → Ends w n 0 stop
+    × (steps k w ≡ silent w)
 
 -- each run ends
 abbrev pub RunsEnd : Type 0
@@ -38,22 +55,100 @@ RunsEnd = (w : World) (n : ℕ) → (k : ℕ) × (stop : Stop) × (k ≤ n + 3) 
 -- and is what the function gives
 abbrev pub RunsAreComputed : Type 0
 RunsAreComputed =
-    (w : World) (n k : ℕ) (stop : Stop) → Ends w n k stop → run_of n w ≡ record { world = (steps k w).world; pieces = (steps k w).pieces; stop = stop }
+    (w : World) (n k : ℕ) (stop : Stop) → Ends w n k stop
+    → run_of n w ≡ record {
+      world = (steps k w).state;
+      pieces = (steps k w).pieces;
+      stop =
+          stop;
+    }
 
 -- the address that a stub's jump at an address goes to: the target of its function, in the segment of the stub
 abbrev pub stub_target : ℕ → Stub → ℕ
 stub_target at stub = wrapped (at + 4) / 2 ^ 28 * 2 ^ 28 + stub.target
 
+-- what a live stub does: in a delay slot it faults; else its jump is taken after the instruction behind it
+abbrev pub stub_row : Cpu → Stub → Row
+stub_row c stub =
+    if c.in_slot then Faults BranchInSlot
+    else Goes (record c { pc = c.next; next = stub_target c.pc stub; in_slot = true }) None
+
 -- a live stub that is executed goes to its function: after it and the instruction in its delay slot
 abbrev pub StubsReachTheirFunctions : Type 0
 StubsReachTheirFunctions =
-    (memory : Memory) (stub : Stub) (c : Cpu) → IsSound memory → Contains memory.live stub → phys (length memory.ram) c.pc ≡ Some stub.at → c.in_slot ≡ false
-    → row memory.ram c ≡ Goes (record c { pc = c.next; next = stub_target c.pc stub; in_slot = true }) None
+    (memory : Memory) (stub : Stub) (c : Cpu) → IsSound memory → Contains memory.live stub
+    → phys (length memory.ram) c.pc ≡ Some stub.at → row memory.ram c ≡ stub_row c stub
 
--- once no module waits, no stub becomes live: those that are live were live before, and memory stays sound
+-- the stubs that a linking binds
+abbrev pub stubs_of : Result (List Stub) LinkFault → List Stub
+stubs_of (Ok stubs) = stubs
+stubs_of (Err fault) = []
+
+-- the stubs that the loading of a module binds
+abbrev pub loading_binds : Iop → Result Module Code → List Stub
+loading_binds s (Err code) = []
+loading_binds s (Ok m) =
+    let v = (copies (with_kernel s) m).state in
+    stubs_of (linking v.memory v.libraries FIRST_BASE m.image.text)
+
+-- the module fits into a memory of this size, and its text is no longer than its image
+pub record CanBeLoaded (size : ℕ) (m : Module) : Type 0 where
+  pub fits : Fits size m
+  pub text : m.image.text ≤ length m.image.bytes
+
+-- what holds in each state that a machine with these new stubs reaches
+pub record StaysSound (stubs : List Stub) (s : Iop) : Type 0 where
+  pub memory : IsSound s.memory
+  -- each live stub is one that loading has bound
+  pub live : (stub : Stub) → Contains s.memory.live stub → Contains stubs stub
+  -- outside a delay slot the next instruction is the one behind
+  pub straight : IsStraight s.cpu
+
+abbrev pub RunsStaySound : Type 0
+RunsStaySound =
+    (size : ℕ) (m : Result Module Code) (k : ℕ) → IsRamSize size → IfOk m (CanBeLoaded size)
+    → StaysSound (loading_binds (reset size) m) (steps k (beginning size m)).state.iop
+
+-- a stub that was live before a step is live after it, or its line is one of the step's pieces
+abbrev pub StubsLeaveWithTheirLine : Type 0
+StubsLeaveWithTheirLine =
+    (w : World) (stub : Stub) → IfSome w.waiting (λ m. w.iop.memory.live ≡ [])
+    → Contains w.iop.memory.live stub
+    → Contains (step w).state.iop.memory.live stub
+    ⊎ Contains (step w).pieces (stub_line w.iop.clock stub)
+
+-- once no module waits, no stub becomes live, and memory stays sound
 pub record KeepsStubs (w : World) (k : ℕ) : Type 0 where
-  pub live : All (Contains w.memory.live) (steps k w).world.memory.live
-  pub sound : IsSound w.memory → IsSound (steps k w).world.memory
+  pub live : (stub : Stub) → Contains (steps k w).state.iop.memory.live stub
+      → Contains w.iop.memory.live stub
+  pub sound : IsSound w.iop.memory → IsSound (steps k w).state.iop.memory
 
 abbrev pub RunsKeepStubs : Type 0
 RunsKeepStubs = (w : World) (k : ℕ) → w.waiting ≡ None → KeepsStubs w k
+
+-- each stub that loading binds is live after the first step, or its line is one of that step's pieces
+abbrev pub LoadingLeavesItsStubs : Type 0
+LoadingLeavesItsStubs =
+    (size : ℕ) (m : Result Module Code) (stub : Stub) → Contains (loading_binds (reset size) m) stub
+    → Contains (step (beginning size m)).state.iop.memory.live stub
+    ⊎ Contains (step (beginning size m)).pieces (stub_line 0 stub)
+
+-- after a live stub, which is not executed in a delay slot, the instruction behind it is executed
+abbrev pub behind_stub : Iop → Stub → Iop
+behind_stub s stub = record s {
+  clock = s.clock + 1;
+  cpu = record s.cpu { pc = s.cpu.next; next = stub_target s.cpu.pc stub; in_slot = true };
+}
+
+-- first that one, and after it, if it goes on, the one at the target of the stub's function
+pub record IsFollowed (s : Iop) (stub : Stub) : Type 0 where
+  pub slot : (step (booted s)).state ≡ booted (behind_stub s stub)
+  pub target : (after : Cpu) (storing : Option Storing)
+      → row s.memory.ram (behind_stub s stub).cpu ≡ Goes after storing
+      → (steps 2 (booted s)).state.iop.cpu.pc ≡ stub_target s.cpu.pc stub
+
+abbrev pub StubsAreFollowed : Type 0
+StubsAreFollowed =
+    (s : Iop) (m : Loaded) (stub : Stub) → Runs s m → IsSound s.memory
+    → Contains s.memory.live stub → phys (length s.memory.ram) s.cpu.pc ≡ Some stub.at
+    → s.cpu.in_slot ≡ false → IsFollowed s stub

@@ -1,5 +1,6 @@
 pub mod KernelArea
-pub mod Images
+pub mod Modules
+pub mod Iop
 pub mod World
 pub mod Strings
 pub mod Storing
@@ -9,3 +10,4 @@ pub mod Stepping
 pub mod Running
 pub mod Advancing
 pub mod Laws
+pub mod AreaLaws

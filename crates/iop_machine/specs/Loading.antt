@@ -1,70 +1,74 @@
 -- How a module is loaded. That the first module stands behind the kernel's area, and how it is begun, is this
 -- project's own profile; the codes are those of ps2sdk's kerr.h.
-use Rattle.std.specs.Prelude.{None, Result, Ok, Err, List, [], ◌∷◌, length, pos}
+use Rattle.std.specs.Prelude.{Result, Ok, Err, List, [], ◌∷◌, length}
+use Rattle.iop_base.specs.BlockSizes.{block_len}
 use Rattle.iop_base.specs.Numbers.{with_bytes}
-use Rattle.iop_base.specs.declared.codes.Code.{Code}
-use Rattle.iop_base.specs.declared.codes.TheConstants.Code.{ILLEGAL_OBJECT, LINK_ERROR, NO_MEMORY}
-use Rattle.iop_base.specs.declared.tell.Line.TheVariants.{Load}
-use Rattle.iop_linker.specs.Linking.{links, linked_memory}
+use Rattle.iop_base.specs.declared.code.Code.{Code}
+use Rattle.iop_base.specs.declared.line.Line.TheVariants.{Load, Refused}
+use Rattle.iop_linker.specs.Linking.{links, linked_memory, code_of}
 use Rattle.iop_linker.specs.declared.link_fault.LinkFault.{LinkFault}
-use Rattle.iop_linker.specs.declared.link_fault.LinkFault.TheVariants.{Table, NoLibrary, Room}
 use Rattle.iop_stubs.specs.declared.live_stub.Stub.{Stub}
+use Rattle.iop_modload.specs.declared.limits.TheConstants.{FIRST_BASE}
+use Rattle.iop_machine.specs.declared.arguments.TheConstants.{ARGUMENTS, ARGUMENTS_LEN}
 use Rattle.iop_machine.specs.declared.loader.Loaded.{Loaded}
 use Rattle.iop_machine.specs.declared.loader.Loader.TheVariants.{Ready}
 use Rattle.iop_machine.specs.KernelArea.{kernel_area}
-use Rattle.iop_machine.specs.Images.{Image, first_base, arguments_at, argument_block, module_start}
-use Rattle.iop_machine.specs.Storing.{stores, fills}
-use Rattle.iop_machine.specs.World.{World, Stepped, tells, and_then, changed}
+use Rattle.iop_machine.specs.Modules.{Module, argument_block, module_start}
+use Rattle.iop_machine.specs.Storing.{stores_bytes, fills}
+use Rattle.iop_machine.specs.Iop.{Iop, Transition, tells, and_then, with_state}
 
 -- the kernel's area is written
-abbrev pub with_kernel : World → World
-with_kernel w = record w { memory = record w.memory { ram = with_bytes w.memory.ram 0 kernel_area } }
+abbrev pub with_kernel : Iop → Iop
+with_kernel s = record s {
+  memory =
+      record s.memory { ram = with_bytes s.memory.ram 0 kernel_area };
+}
 
 -- a module's image is copied to where it is loaded
-abbrev pub copies : World → Image → Stepped
-copies w m = stores w first_base m.bytes
+abbrev pub copies : Iop → Module → Transition Iop
+copies s m = stores_bytes s FIRST_BASE m.image.bytes
 
--- the code of a refused linking
-abbrev pub code_of : LinkFault → Code
-code_of (Table at) = ILLEGAL_OBJECT
-code_of (NoLibrary table name major) = LINK_ERROR
-code_of Room = NO_MEMORY
-
-abbrev pub loaded_of : Image → Loaded
-loaded_of m = record { number = 1; base = first_base; len = length m.bytes }
+abbrev pub loaded_of : Module → Loaded
+loaded_of m = record { number = 1; base = FIRST_BASE; size = block_len (length m.image.bytes) }
 
 -- the argument block is written: zeros, and then the words, which are the module's own alone
-abbrev pub passes_arguments : World → Image → Stepped
-passes_arguments w m =
-    and_then (fills w arguments_at 0x1000) (λ v. stores v arguments_at (argument_block (m.name ∷ [])))
+abbrev pub passes_arguments : Iop → Module → Transition Iop
+passes_arguments s m =
+    and_then (fills s ARGUMENTS ARGUMENTS_LEN)
+    (λ v. stores_bytes v ARGUMENTS (argument_block (m.name ∷ [])))
 
 -- the loader's thread is ready to begin the module
-abbrev pub begins : World → Image → World
-begins w m = record w { loader = Ready (loaded_of m); cpu = module_start first_base m.entry_offset m.gp_offset }
+abbrev pub begins : Iop → Module → Iop
+begins s m = record s {
+  loader = Ready (loaded_of m);
+  cpu =
+      module_start FIRST_BASE m.image.entry_offset m.image.gp_offset;
+}
 
 -- a module that was linked is told, and is ready to begin
-abbrev pub enters_it : World → Image → Stepped
-enters_it w m =
-    and_then (tells w (Load 1 (pos 0) first_base (length m.bytes)))
-    (λ v. changed (passes_arguments v m) (λ u. begins u m))
+abbrev pub enters_it : Iop → Module → Transition Iop
+enters_it s m =
+    and_then (tells s (Load 1 FIRST_BASE (length m.image.bytes)))
+    (λ v. with_state (λ u. begins u m) (passes_arguments v m))
 
 -- a module is refused with a code
-abbrev pub refuses : World → Code → Stepped
-refuses w code = tells w (Load 1 code.0 0 0)
+abbrev pub refuses : Iop → Code → Transition Iop
+refuses s code = tells s (Refused 1 code)
 
 -- it was linked, or is refused
-abbrev pub enters : World → Image → Result (List Stub) LinkFault → Stepped
-enters w m (Err fault) = refuses w (code_of fault)
-enters w m (Ok stubs) = enters_it (record w { memory = linked_memory w.memory stubs }) m
+abbrev pub enters : Iop → Module → Result (List Stub) LinkFault → Transition Iop
+enters s m (Err fault) = refuses s (code_of fault)
+enters s m (Ok stubs) = enters_it (record s { memory = linked_memory s.memory stubs }) m
 
 -- its text is linked
-abbrev pub links_text : World → Image → Stepped
-links_text w m = enters w m (links w.memory.ram w.libraries (length w.memory.live) first_base m.text)
+abbrev pub links_text : Iop → Module → Transition Iop
+links_text s m = enters s m
+    (links s.memory.ram s.libraries (length s.memory.live) FIRST_BASE m.image.text)
 
-abbrev pub loads : World → Result Image Code → Stepped
-loads w (Ok m) = and_then (copies w m) (λ v. links_text v m)
-loads w (Err code) = refuses w code
+abbrev pub loads : Iop → Result Module Code → Transition Iop
+loads s (Ok m) = and_then (copies s m) (λ v. links_text v m)
+loads s (Err code) = refuses s code
 
 -- the kernel's area is written, and the module is loaded or refused
-unfoldable pub boots : World → Result Image Code → Stepped
-boots w m = loads (with_kernel (record w { waiting = None })) m
+unfoldable pub boots : Iop → Result Module Code → Transition Iop
+boots s m = loads (with_kernel s) m

@@ -1,51 +1,52 @@
 -- The steps of the machine, and its whole runs: this project's profile.
 use Rattle.std.specs.Prelude.{ℕ, zero, suc, ◌+◌, ◌-◌, Bool, true, false, Option, Some, None, Result, List, [], ◌++◌}
 use Rattle.iop_base.specs.Piece.{Piece}
-use Rattle.iop_base.specs.declared.codes.Code.{Code}
-use Rattle.iop_base.specs.declared.outcomes.Stop.{Stop}
-use Rattle.iop_base.specs.declared.outcomes.Stop.TheVariants.{Quiet, Budget}
-use Rattle.iop_base.specs.declared.tell.Line.TheVariants.{Run}
-use Rattle.iop_exec.specs.Row.{Row, Goes, Serves, Faults, Storing, moved, row}
+use Rattle.iop_base.specs.declared.code.Code.{Code}
+use Rattle.iop_base.specs.declared.stop.Stop.{Stop}
+use Rattle.iop_base.specs.declared.stop.Stop.TheVariants.{Quiet, Budget}
+use Rattle.iop_base.specs.declared.line.Line.TheVariants.{Run}
+use Rattle.iop_exec.specs.Row.{Row, Goes, Serves, Faults, Storing, at_next, row}
 use Rattle.iop_machine.specs.declared.loader.Loaded.{Loaded}
 use Rattle.iop_machine.specs.declared.loader.Loader.{Loader}
 use Rattle.iop_machine.specs.declared.loader.Loader.TheVariants.{Dormant, Ready, Running}
 use Rattle.iop_machine.specs.Loading.{boots}
-use Rattle.iop_machine.specs.Images.{Image}
+use Rattle.iop_machine.specs.Modules.{Module}
 use Rattle.iop_machine.specs.Services.{service_of, calls, faults_with}
 use Rattle.iop_machine.specs.Storing.{stores_number}
-use Rattle.iop_machine.specs.World.{World, Stepped, silent, tells, and_then, changed, ticked}
+use Rattle.iop_machine.specs.Iop.{Iop, Transition, silent, tells, and_then, with_state, later}
+use Rattle.iop_machine.specs.World.{World, booted}
 
 -- the store that an instruction makes
-abbrev pub stores_it : World → Option Storing → Stepped
-stores_it w None = silent w
-stores_it w (Some s) = stores_number w s.at s.width s.value
+abbrev pub stores_it : Iop → Option Storing → Transition Iop
+stores_it s None = silent s
+stores_it s (Some storing) = stores_number s storing.at storing.width storing.value
 
 -- an instruction of the module that runs
-abbrev pub performs : World → Loaded → Row → Stepped
-performs w m (Goes after storing) = changed (stores_it (record w { cpu = after }) storing) ticked
-performs w m (Serves code) = calls w m (moved w.cpu) (service_of code)
-performs w m (Faults kind) = silent (faults_with w kind)
+abbrev pub performs : Iop → Loaded → Row → Transition Iop
+performs s m (Goes after storing) = with_state later (stores_it (record s { cpu = after }) storing)
+performs s m (Serves code) = calls s m (at_next s.cpu) (service_of code)
+performs s m (Faults kind) = silent (faults_with s kind)
 
 -- by the loader's thread: it is taken to run, it runs, or nothing is left to do
-abbrev pub steps_by : World → Loader → Stepped
-steps_by w (Ready m) = tells (record w { loader = Running m }) (Run 1)
-steps_by w (Running m) = performs w m (row w.memory.ram w.cpu)
-steps_by w Dormant = silent (record w { over = Some Quiet })
+abbrev pub goes_by : Iop → Loader → Transition Iop
+goes_by s (Ready m) = tells (record s { loader = Running m }) (Run 1)
+goes_by s (Running m) = performs s m (row s.memory.ram s.cpu)
+goes_by s Dormant = silent (record s { over = Some Quiet })
 
 -- first the module is loaded, or refused
-abbrev pub steps_from : World → Option (Result Image Code) → Stepped
-steps_from w (Some m) = boots w m
-steps_from w None = steps_by w w.loader
+abbrev pub begins_by : Iop → Option (Result Module Code) → Transition Iop
+begins_by s (Some m) = boots s m
+begins_by s None = goes_by s s.loader
 
 -- where it is stopped nothing more happens
-abbrev pub steps_unless : World → Option Stop → Stepped
-steps_unless w (Some stop) = silent w
-steps_unless w None = steps_from w w.waiting
+abbrev pub steps_by : World → Option Stop → Transition World
+steps_by w (Some stop) = silent w
+steps_by w None = with_state booted (begins_by w.iop w.waiting)
 
-unfoldable pub step : World → Stepped
-step w = steps_unless w w.over
+unfoldable pub step : World → Transition World
+step w = steps_by w w.iop.over
 
-abbrev pub executes_by : Option Stop → Option (Result Image Code) → Loader → Bool
+abbrev pub executes_by : Option Stop → Option (Result Module Code) → Loader → Bool
 executes_by (Some stop) waiting loader = false
 executes_by None (Some m) loader = false
 executes_by None None (Ready m) = false
@@ -54,7 +55,7 @@ executes_by None None Dormant = false
 
 -- whether the next step executes an instruction, or faults at one
 unfoldable pub executes : World → Bool
-executes w = executes_by w.over w.waiting w.loader
+executes w = executes_by w.iop.over w.waiting w.iop.loader
 
 -- whether a run stops here with so many instructions left, and why
 abbrev pub stops_by : Option Stop → Bool → ℕ → Option Stop
@@ -64,10 +65,10 @@ stops_by None true (suc left) = None
 stops_by None false left = None
 
 abbrev pub stop_at : World → ℕ → Option Stop
-stop_at w left = stops_by w.over (executes w) left
+stop_at w left = stops_by w.iop.over (executes w) left
 
 -- so many steps
-unfoldable pub steps : ℕ → World → Stepped
+unfoldable pub steps : ℕ → World → Transition World
 steps zero w = silent w
 steps (suc k) w = and_then (steps k w) step
 
@@ -78,7 +79,7 @@ one_if false = 0
 -- how many instructions so many steps execute
 unfoldable pub executed : ℕ → World → ℕ
 executed zero w = 0
-executed (suc k) w = executed k w + one_if (executes (steps k w).world)
+executed (suc k) w = executed k w + one_if (executes (steps k w).state)
 
 -- what a run leaves, the pieces that it gives, and why it stops
 pub record Ran : Type 0 where
@@ -88,13 +89,14 @@ pub record Ran : Type 0 where
 
 abbrev pub ran_by : Option Stop → World → Ran → Ran
 ran_by (Some stop) w later = record { world = w; pieces = []; stop = stop }
-ran_by None w later = record { world = later.world; pieces = (step w).pieces ++ later.pieces; stop = later.stop }
+ran_by None w later = record
+    { world = later.world; pieces = (step w).pieces ++ later.pieces; stop = later.stop }
 
 -- a run of at most so many steps
 unfoldable pub run_within : (most budget : ℕ) → World → Ran
 run_within zero budget w = record { world = w; pieces = []; stop = Budget }
 run_within (suc most) budget w =
-    ran_by (stop_at w budget) w (run_within most (budget - one_if (executes w)) (step w).world)
+    ran_by (stop_at w budget) w (run_within most (budget - one_if (executes w)) (step w).state)
 
 -- the whole run: besides the instructions it takes three steps at most, which load the module, begin it, and
 -- find that nothing is left to do

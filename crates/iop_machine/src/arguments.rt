@@ -2,7 +2,7 @@
 
 ghost use Rattle.std.specs.Prelude.{◌≡◌, ◌+◌, ◌≤◌, [], ◌∷◌, length};
 ghost use Rattle.arrayvec.specs.ArrayVec.{array_vec_len};
-ghost use Rattle.iop_machine.specs.Images.{argument_block, module_start};
+ghost use Rattle.iop_machine.specs.Modules.{argument_block, module_start};
 
 use arrayvec::ArrayVec;
 use iop_exec::Cpu;
@@ -14,14 +14,14 @@ pub(crate) const ARGUMENTS: u32 = 0x2000;
 pub(crate) const ARGUMENTS_LEN: u32 = 0x1000;
 
 /// The instruction to which a module returns.
-const MODULE_RETURN: u32 = 0x3020;
+pub(crate) const MODULE_RETURN: u32 = 0x3020;
 
 /// The top of the loader's stack.
-const LOADER_STACK: u32 = 0xFFF0;
+pub(crate) const LOADER_STACK: u32 = 0xFFF0;
 
 /// The argument block of a module whose only word is its name: the name's address, a word 0, and the name,
 /// which a zero byte ends.
-#[tactic(auto, unfolding(crate::specs::Images::argument_block))]
+#[tactic(auto, unfolding(crate::specs::Modules::argument_block))]
 pub(crate) fn argument_block(name: &[u8]) -> ArrayVec<u8, 264>
     requires { length name.now ≤ 255 }
     ensures block { result.items ≡ argument_block (name.now ∷ []) }
@@ -36,7 +36,7 @@ pub(crate) fn argument_block(name: &[u8]) -> ArrayVec<u8, 264>
 }
 
 /// The registers of the loader's thread as a module begins that was loaded at `base`.
-#[tactic(auto, unfolding(crate::specs::Images::module_start))]
+#[tactic(auto, unfolding(crate::specs::Modules::module_start))]
 pub(crate) fn module_start(base: u32, entry: u32, gp: u32) -> Cpu
     ensures { result ≡ module_start base entry gp }
 {

@@ -2,21 +2,15 @@
 
 ghost use Rattle.std.specs.Prelude.{◌≡◌, ◌<◌, ◌≤◌, []};
 ghost use Rattle.iop_base.specs.Numbers.{with_bytes};
-ghost use Rattle.iop_base.specs.Seen.{Gives};
-ghost use Rattle.iop_machine.specs.KernelArea.{syscall_word, name_word, table_word, service_word, kernel_word, kernel_area};
+ghost use Rattle.iop_base.specs.Output.{Gives};
+ghost use Rattle.iop_machine.specs.KernelArea.{syscall_word, name_word, service_at, table_word, service_word, kernel_word, kernel_area};
 
-use iop_base::{Lines, Width};
-use iop_registry::KERNEL_NAMES;
+use iop_base::{JUMP_BACK, KERNEL_LIBRARIES, Lines, Width};
 use iop_stubs::Guest;
-
-/// The magic of an export table.
-const EXPORT_MAGIC: u32 = 0x41C0_0000;
+use irx_tables::EXPORT_MAGIC;
 
 /// The version of the kernel's libraries, and mode 0.
 const VERSION: u32 = 0x0101;
-
-/// `jr $ra`.
-const JUMP_BACK: u32 = 0x03E0_0008;
 
 /// How many words the kernel's area has.
 const WORDS: u32 = 0x4000;
@@ -35,8 +29,17 @@ fn name_word(library: u32, at: usize) -> u32
     requires inside { at ≤ 4 }
     ensures { result ≡ name_word library at }
 {
-    let name = KERNEL_NAMES[library as usize];
+    let name = KERNEL_LIBRARIES[library as usize];
     u32::from_le_bytes([name[at], name[at + 1], name[at + 2], name[at + 3]])
+}
+
+/// The place of a service of a kernel library.
+fn service_at(library: u32, number: u32) -> u32
+    requires library { library < 8 }
+    requires number { number < 64 }
+    ensures { result ≡ service_at library number }
+{
+    0x4000 + library * 0x400 + number * 0x10
 }
 
 /// A word of the export table of a kernel library.
@@ -49,7 +52,7 @@ fn table_word(library: u32, index: u32) -> u32
         2 => VERSION,
         3 => name_word(library, 0),
         4 => name_word(library, 4),
-        5..=68 => 0x4000 + library * 0x400 + (index - 5) * 0x10,
+        5..=68 => service_at(library, index - 5),
         _ => 0,
     }
 }
@@ -91,7 +94,7 @@ fn kernel_word(place: u32) -> u32
 pub(crate) fn write_kernel_area<L: Lines>(guest: &mut Guest, lines: &mut L)
     requires { guest.old.live ≡ [] }
     ensures memory { guest.new ≡ record guest.old { ram = with_bytes guest.old.ram 0 kernel_area } }
-    ensures lines { Gives (L.seen lines.old) (L.seen lines.new) [] }
+    ensures lines { Gives (L.output lines.old) (L.output lines.new) [] }
 {
     for index in 0..WORDS {
         let place = 4 * index;

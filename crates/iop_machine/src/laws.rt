@@ -1,7 +1,8 @@
 //! Facts about the definitions that no call computes. Each is the contract of a function that does
 //! nothing.
 
-ghost use Rattle.iop_machine.specs.Laws.{StepsCompose, RunsCompose, RunsAreDetermined, OverStays, RunsEnd, RunsAreComputed, StubsReachTheirFunctions, RunsKeepStubs};
+ghost use Rattle.iop_machine.specs.AreaLaws.{KernelAreaIsRead, LoadingKeepsKernel};
+ghost use Rattle.iop_machine.specs.Laws.{StepsCompose, RunsCompose, RunsAreDetermined, OverStays, RunsEnd, RunsAreComputed, StubsReachTheirFunctions, RunsStaySound, StubsLeaveWithTheirLine, RunsKeepStubs, LoadingLeavesItsStubs, StubsAreFollowed};
 
 /// The steps of a run are those of its first part, and then those of the rest.
 pub fn steps_compose()
@@ -33,12 +34,47 @@ pub fn runs_are_computed()
     ensures { RunsAreComputed }
 {}
 
-/// A live stub that is executed goes to its function, after the instruction in its delay slot.
+/// A live stub that is executed goes to its function, after the instruction in its delay slot. In a
+/// delay slot itself it faults.
 pub fn stubs_reach_their_functions()
     ensures { StubsReachTheirFunctions }
 {}
 
-/// Once the module that waits was loaded, no stub becomes live, and memory stays sound.
+/// The kernel's area is read as it is meant, whatever else stands in memory: where the registry has
+/// the table of a library of the kernel, an export table stands with its name, version 1.1 and 64
+/// functions. Each function is a call of the kernel with its own code, and so is each return.
+pub fn kernel_area_is_read()
+    ensures { KernelAreaIsRead }
+{}
+
+/// The first step, which loads a module, leaves the kernel's area so.
+pub fn loading_keeps_kernel()
+    ensures { LoadingKeepsKernel }
+{}
+
+/// In each state that the machine reaches from its beginning memory is sound, each live stub is one that loading has
+/// bound, and outside a delay slot the next instruction is the one behind.
+pub fn runs_stay_sound()
+    ensures { RunsStaySound }
+{}
+
+/// A stub is no longer live only after a step whose pieces have its line.
+pub fn stubs_leave_with_their_line()
+    ensures { StubsLeaveWithTheirLine }
+{}
+
+/// Once no module waits, no stub becomes live, and memory stays sound.
 pub fn runs_keep_stubs()
     ensures { RunsKeepStubs }
+{}
+
+/// Each stub that loading binds is live after the first step, or that step's pieces have its line.
+pub fn loading_leaves_its_stubs()
+    ensures { LoadingLeavesItsStubs }
+{}
+
+/// After a live stub that the module executes, the instruction behind it is executed, and then the one
+/// at the target of the stub's function.
+pub fn stubs_are_followed()
+    ensures { StubsAreFollowed }
 {}

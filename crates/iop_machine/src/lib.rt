@@ -2,17 +2,21 @@
 #![tactic(auto)]
 
 mod arguments;
-mod board;
-mod image;
+mod burst;
+mod guest_bus;
+mod iop;
 mod kernel_area;
 pub mod laws;
 mod loader;
+mod loading;
 mod machine;
-mod position;
+mod module;
+mod progress;
 mod service;
+mod services;
 mod strings;
 #[cfg(test)]
 mod tests;
 
-pub use image::{FIRST_BASE, Image, MOST_BYTES};
-pub use machine::{Machine, WriteFault};
+pub use machine::Machine;
+pub use module::Module;

@@ -7,8 +7,8 @@ pub(crate) struct Loaded {
     pub number: u32,
     /// The physical place of its image.
     pub base: u32,
-    /// How many bytes its image has.
-    pub len: u32,
+    /// How many bytes its block has.
+    pub size: u32,
 }
 
 /// What the loader's thread does.

@@ -1,8 +1,8 @@
-ghost use Rattle.std.specs.Prelude.{IfOk};
-ghost use Rattle.iop_machine.specs.Images.{Fits, module_of};
+ghost use Rattle.iop_machine.specs.Modules.{Fits, module_of};
 
-use crate::{Image, Machine, laws};
-use iop_base::{Code, Stop};
+use crate::{Machine, Module, laws};
+use iop_base::Stop;
+use iop_modload::Image;
 use iop_ports::MemSink;
 use std::alloc::Global;
 use std::test::Fail;
@@ -20,23 +20,25 @@ const PRINTS_ITS_NAME: [u8; 56] = [
     0x21, 0x10, 0x00, 0x00,
 ];
 
-/// That module, as it is handed to a machine.
-fn prints_its_name() -> Result<Image<'static>, Code>
-    ensures { IfOk (module_of result) Fits }
+/// That module.
+fn prints_its_name() -> Module<'static>
+    ensures { Fits 0x200000 (module_of result) }
 {
-    Ok(Image {
+    Module {
         name: b"m.irx",
-        bytes: &PRINTS_ITS_NAME,
-        text: 56,
-        entry_offset: 0x24,
-        gp_offset: 0,
-    })
+        image: Image {
+            bytes: &PRINTS_ITS_NAME,
+            text: 56,
+            entry_offset: 0x24,
+            gp_offset: 0,
+        },
+    }
 }
 
 #[test]
 fn runs_in_parts(rt: HostRuntime) -> Result<(), Fail> {
     let alloc: Global = rt.alloc();
-    let mut machine = Machine::new(alloc, prints_its_name())?;
+    let mut machine = Machine::new(alloc, 0x20_0000, Ok(prints_its_name()))?;
     let mut console = MemSink::new(alloc, 100, Vec::new(alloc))?;
     let mut trace = MemSink::new(alloc, 200, Vec::new(alloc))?;
     for (budget, stop, now) in [
@@ -70,5 +72,11 @@ fn laws_hold() {
     laws::runs_end();
     laws::runs_are_computed();
     laws::stubs_reach_their_functions();
+    laws::kernel_area_is_read();
+    laws::loading_keeps_kernel();
+    laws::runs_stay_sound();
+    laws::stubs_leave_with_their_line();
     laws::runs_keep_stubs();
+    laws::loading_leaves_its_stubs();
+    laws::stubs_are_followed();
 }

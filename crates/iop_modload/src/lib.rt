@@ -1,10 +1,12 @@
 //! Loading a module: the relocated image of its file.
 #![tactic(auto)]
 
-mod loadable;
+mod image;
+mod limits;
 mod relocating;
 #[cfg(test)]
 mod tests;
 
-pub use loadable::Loadable;
+pub use image::Image;
+pub use limits::{FIRST_BASE, LONGEST_FILE, most_bytes};
 pub use relocating::relocate_file;

@@ -153,11 +153,11 @@ fn answers(
     assert!(rt; file.len() <= 4096);
     let mut room = Vec::new(alloc);
     room.resize(size, 0xFF)?;
-    let mut image = Vec::new(alloc);
+    let mut bytes = Vec::new(alloc);
     match (relocate_file(file, base, &mut room), wanted) {
-        (Ok(loadable), Ok(words)) => {
-            push_words(&mut image, words)?;
-            assert_eq!(rt; loadable.image, image.as_slice());
+        (Ok(image), Ok(words)) => {
+            push_words(&mut bytes, words)?;
+            assert_eq!(rt; image.bytes, bytes.as_slice());
         }
         (Err(code), Err(wanted)) => assert_eq!(rt; code, wanted),
         _ => return Err("another answer".into()),

@@ -1,4 +1,5 @@
--- Calls of which those with a listed number fail. The numbers go from 1 on. This project's own profile.
+-- Calls of which those with a listed number fail. The numbers go from 1 on. This project's own
+-- profile.
 use Rattle.std.specs.Prelude.{ℕ, Bool, if◌then◌else◌, ◌==◌, List}
 use Rattle.std.specs.List.{list_any}
 use Rattle.iop_base.specs.Counts.{risen}

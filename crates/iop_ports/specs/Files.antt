@@ -2,8 +2,8 @@
 use Rattle.std.specs.Prelude.{◌≡◌, ℕ, ◌<◌, ◌≤◌, Bool, is_some, if◌then◌else◌, Option, Some, None, unwrap_or, List, [], length, take, drop}
 use Rattle.iop_base.specs.Counts.{risen}
 
--- the name of the last opening: none before any opening and after one of a name that the content does
--- not have; some files do not tell it
+-- the name of the last opening: none before any opening and after one of a name that the content
+-- does not have; some files do not tell it
 pub data Asked : Type 0 where
   Untold : Asked
   NoName : Asked
@@ -32,8 +32,8 @@ asked_next NoName name file = name_found name file
 asked_next (Named other) name file = name_found name file
 
 -- after an opening of this name that succeeded or failed, before which so many faults stood
-abbrev pub opened : List ℕ → Bool → ℕ → FilesTold → FilesTold
-opened name succeeded faults files = record {
+abbrev pub after_opening : List ℕ → Bool → ℕ → FilesTold → FilesTold
+after_opening name succeeded faults files = record {
   content = files.content;
   asked = asked_next files.asked name (files.content name);
   left = if succeeded then unwrap_or (files.content name) [] else [];
@@ -42,8 +42,8 @@ opened name succeeded faults files = record {
 }
 
 -- after a read of so many bytes
-abbrev pub read_on : ℕ → FilesTold → FilesTold
-read_on n files = record files { left = drop n files.left }
+abbrev pub after_reading : ℕ → FilesTold → FilesTold
+after_reading n files = record files { left = drop n files.left }
 
 -- the n bytes that a read put into the front of a buffer are the next ones, and they are none in a
 -- buffer that has room only where none is left

@@ -1,9 +1,10 @@
 pub use Rattle.iop_base.specs.Counts
-pub use Rattle.iop_base.specs.Seen
+pub use Rattle.iop_base.specs.Output
 pub mod Files
 pub mod Calls
 pub mod Shelf
 pub mod MemFiles
 pub mod SureFiles
+pub mod Sinks
 pub mod MemSink
 pub mod Places

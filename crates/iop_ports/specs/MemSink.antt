@@ -1,4 +1,5 @@
--- A sink in memory with room for a number of bytes, whose listed writes fail. This project's own profile.
+-- A sink in memory with room for a number of bytes, whose listed writes fail. This project's own
+-- profile.
 use Rattle.std.specs.Prelude.{ℕ, Bool, false, ◌||◌, if◌then◌else◌, ◌-◌, nat_le, min, List, [], ◌∷◌, ◌++◌, length, take}
 use Rattle.iop_ports.specs.Calls.{Calls, no_calls, is_listed, with_call}
 
@@ -12,7 +13,8 @@ pub record MemSink : Type 0 where
 abbrev pub empty_sink : ℕ → List ℕ → MemSink
 empty_sink room fail = record { bytes = []; room = room; calls = no_calls fail }
 
--- the write of an empty piece does not fail; another does where its number is listed or no room is left
+-- the write of an empty piece does not fail; another does where its number is listed or no room is
+-- left
 abbrev pub write_fails : List ℕ → MemSink → Bool
 write_fails [] sink = false
 write_fails (byte ∷ piece) sink = is_listed sink.calls || nat_le sink.room (length sink.bytes)
@@ -25,6 +27,8 @@ taken_count piece sink = min (length piece) (sink.room - length sink.bytes)
 abbrev pub after_write : List ℕ → MemSink → MemSink
 after_write [] sink = sink
 after_write (byte ∷ piece) sink = record sink {
-  bytes = if write_fails (byte ∷ piece) sink then sink.bytes else sink.bytes ++ take (taken_count (byte ∷ piece) sink) (byte ∷ piece);
+  bytes =
+      if write_fails (byte ∷ piece) sink
+      then sink.bytes else sink.bytes ++ take (taken_count (byte ∷ piece) sink) (byte ∷ piece);
   calls = with_call (write_fails (byte ∷ piece) sink) sink.calls;
 }

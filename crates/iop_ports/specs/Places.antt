@@ -18,6 +18,7 @@ pub record IsInside (files : List (List ℕ × List ℕ)) (place : Place) : Type
   pub file : place.file < length files
   pub position : place.position ≤ length (file_at files place.file).1
 
-pub record AreInside (files : List (List ℕ × List ℕ)) (asked : Option ℕ) (place : Option Place) : Type 0 where
+pub record AreInside (files : List (List ℕ × List ℕ)) (asked : Option ℕ) (place : Option Place)
+    : Type 0 where
   pub asked_in : (index : ℕ) → asked ≡ Some index → index < length files
   pub place_in : (at : Place) → place ≡ Some at → IsInside files at

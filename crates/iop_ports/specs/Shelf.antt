@@ -39,8 +39,8 @@ after_open name shelf = record shelf {
 }
 
 -- with no file open
-abbrev pub closed : Shelf → Shelf
-closed shelf = record shelf { left = [] }
+abbrev pub after_close : Shelf → Shelf
+after_close shelf = record shelf { left = [] }
 
 -- how many bytes a read into a buffer of this length gives
 abbrev pub read_count : ℕ → Shelf → ℕ

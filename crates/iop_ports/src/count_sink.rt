@@ -19,9 +19,7 @@ impl CountSink {
 }
 
 impl Sink for CountSink {
-    ghost taken = { λ _. None };
-
-    ghost faults = { λ _. 0 };
+    ghost told = { λ _. record { taken = None; faults = 0 } };
 
     /// Counts the whole piece. It never fails.
     fn write(&mut self, piece: &[u8]) -> Result<usize, Failed>

@@ -44,8 +44,8 @@ impl<R: HostFiles + Drop> Files for DiskFiles<R> {
 
     ghost faults = { λ files. files.faults };
 
-    /// Opens the file of this name, given as it is, for reading. It fails with each error of the host, and
-    /// then no file is open.
+    /// Opens the file of this name, given as it is, for reading. It fails with each error of the
+    /// host, and then no file is open.
     fn open_file(&mut self, name: &str) -> Result<(), Failed>
         ensures open { is_some self.new.file ≡ is_ok result }
         ensures no_fault { OnOk result (self.new.faults ≡ self.old.faults) }
@@ -62,8 +62,8 @@ impl<R: HostFiles + Drop> Files for DiskFiles<R> {
         }
     }
 
-    /// Reads the next bytes of the open file into the front of `buf` and answers how many: 0 where no file
-    /// is open. It fails with each error of the host.
+    /// Reads the next bytes of the open file into the front of `buf` and answers how many: 0 where
+    /// no file is open. It fails with each error of the host.
     fn read(&mut self, buf: &mut [u8]) -> Result<usize, Failed>
         ensures within { IfOk result (λ n. n ≤ length buf.old) }
         ensures none_open { IsNone self.old.file → result ≡ Ok 0 }

@@ -1,8 +1,7 @@
 ghost use Rattle.std.specs.Prelude.{◌≡◌, ◌≤◌, ◌++◌, Some, IfOk, OnOk, OnErr, IsErr, is_err, length, take, drop};
-ghost use Rattle.iop_base.specs.Counts.{risen};
-ghost use Rattle.iop_ports.specs.Calls.{no_calls, is_listed};
-ghost use Rattle.iop_ports.specs.Shelf.{empty_shelf, after_add, closed, read_count};
-ghost use Rattle.iop_ports.specs.MemFiles.{opening_fails, after_open, after_read, told_of};
+ghost use Rattle.iop_ports.specs.Calls.{is_listed};
+ghost use Rattle.iop_ports.specs.Shelf.{read_count};
+ghost use Rattle.iop_ports.specs.MemFiles.{no_files, with_file, opening_fails, after_open, after_failed_opening, after_read, told_of};
 
 use crate::calls::Calls;
 use crate::ports::{Failed, Files};
@@ -26,13 +25,18 @@ impl Model for MemFiles {
 
     ghost Value = { MemFiles };
 
-    ghost view = { λ f. record { shelf = f.shelf; calls = f.calls; strays = f.strays; faults_before = f.faults_before } };
+    ghost view = { λ f. record {
+      shelf = f.shelf;
+      calls = f.calls;
+      strays = f.strays;
+      faults_before = f.faults_before;
+    } };
 }
 
 impl MemFiles {
     /// No files. `fail` lists the numbers of the calls that fail, from 1 on.
     pub fn new(alloc: Global, fail: Vec<u64>) -> Self
-        ensures { result ≡ record { shelf = empty_shelf; calls = no_calls fail.items; strays = 0; faults_before = 0 } }
+        ensures { result ≡ no_files fail.items }
     {
         MemFiles {
             shelf: Shelf::new(alloc),
@@ -42,10 +46,10 @@ impl MemFiles {
         }
     }
 
-    /// Adds a file, or replaces the one of the same name, and closes the open file. Where no memory is
-    /// left the files are unchanged.
+    /// Adds a file, or replaces the one of the same name, and closes the open file. Where no memory
+    /// is left the files are unchanged.
     pub fn add(&mut self, name: &str, bytes: Vec<u8>) -> Result<(), AllocError>
-        ensures added { OnOk result (self.new ≡ record self.old { shelf = after_add name.now bytes.items self.old.shelf }) }
+        ensures added { OnOk result (self.new ≡ with_file name.now bytes.items self.old) }
         ensures unchanged { OnErr result (self.new ≡ self.old) }
     {
         self.shelf.add(name, bytes)
@@ -75,7 +79,7 @@ impl MemFiles {
     /// Counts the fault of an opening, which leaves no file open.
     fn fail_opening(&mut self) -> Result<(), Failed>
         ensures fails { IsErr result }
-        ensures exact { self.new ≡ record self.old { shelf = closed self.old.shelf; calls = record self.old.calls { faults = risen self.old.calls.faults } } }
+        ensures exact { self.new ≡ after_failed_opening self.old }
         ensures never_falls { self.old.calls.faults ≤ self.new.calls.faults }
     {
         self.shelf.close();
@@ -89,7 +93,8 @@ impl Files for MemFiles {
 
     ghost faults = { λ files. files.calls.faults };
 
-    /// Opens the file of this name. It fails where the call's number is listed or no file has the name.
+    /// Opens the file of this name. It fails where the call's number is listed or no file has the
+    /// name.
     fn open_file(&mut self, name: &str) -> Result<(), Failed>
         ensures fails { is_err result ≡ opening_fails name.now self.old }
         ensures exact { self.new ≡ after_open name.now self.old }
@@ -107,8 +112,8 @@ impl Files for MemFiles {
         Ok(())
     }
 
-    /// Reads the next bytes of the open file into the front of `buf`. It fails where the call's number is
-    /// listed.
+    /// Reads the next bytes of the open file into the front of `buf`. It fails where the call's
+    /// number is listed.
     fn read(&mut self, buf: &mut [u8]) -> Result<usize, Failed>
         ensures fails { is_err result ≡ is_listed self.old.calls }
         ensures exact { self.new ≡ after_read (length buf.old) self.old }

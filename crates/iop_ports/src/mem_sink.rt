@@ -6,7 +6,8 @@ use crate::ports::{Failed, Sink};
 use std::alloc::{AllocError, Global};
 use std::marker::Model;
 
-/// A sink in memory with room for a number of bytes, of whose writes those with a listed number fail.
+/// A sink in memory with room for a number of bytes, of whose writes those with a listed number
+/// fail.
 ///
 /// Each write of a piece that is not empty is a call. It tells its bytes.
 #[derive(Drop)]
@@ -28,8 +29,8 @@ impl Model for MemSink {
 }
 
 impl MemSink {
-    /// A sink with room for `room` bytes, for which it takes memory. `fail` lists the numbers of the
-    /// calls that fail, from 1 on.
+    /// A sink with room for `room` bytes, for which it takes memory. `fail` lists the numbers of
+    /// the calls that fail, from 1 on.
     pub fn new(alloc: Global, room: u32, fail: Vec<u64>) -> Result<Self, AllocError>
         ensures { IfOk result (λ sink. sink ≡ empty_sink room fail.items) }
     {
@@ -64,12 +65,10 @@ impl MemSink {
 }
 
 impl Sink for MemSink {
-    ghost taken = { λ sink. Some sink.bytes };
+    ghost told = { λ sink. record { taken = Some sink.bytes; faults = sink.calls.faults } };
 
-    ghost faults = { λ sink. sink.calls.faults };
-
-    /// Takes as much of the front of `piece` as the room that is left holds. It fails where the call's
-    /// number is listed or no room is left.
+    /// Takes as much of the front of `piece` as the room that is left holds. It fails where the
+    /// call's number is listed or no room is left.
     fn write(&mut self, piece: &[u8]) -> Result<usize, Failed>
         ensures fails { is_err result ≡ write_fails piece.now self.old }
         ensures count { IfOk result (λ n. n ≡ taken_count piece.now self.old) }

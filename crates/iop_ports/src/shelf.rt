@@ -1,7 +1,7 @@
 ghost use Rattle.std.specs.Prelude.{◌≡◌, ◌++◌, IfOk, OnOk, OnErr, take, drop, length, string_bytes};
 ghost use Rattle.std.specs.List.{position};
 ghost use Rattle.std.specs.Str.{bytes_eq};
-ghost use Rattle.iop_ports.specs.Shelf.{with_file, empty_shelf, after_add, is_there, after_open, closed, read_count, after_read};
+ghost use Rattle.iop_ports.specs.Shelf.{with_file, empty_shelf, after_add, is_there, after_open, after_close, read_count, after_read};
 
 use std::alloc::{AllocError, Global};
 use std::marker::Model;
@@ -57,7 +57,8 @@ fn index_of(files: &[NamedFile], name: &str) -> Option<usize>
     files.iter().position(|file| file.has_name(name))
 }
 
-/// Replaces the bytes of the file with this name, or adds a file. On an error the files are unchanged.
+/// Replaces the bytes of the file with this name, or adds a file. On an error the files are
+/// unchanged.
 fn add_file(files: &mut Vec<NamedFile>, name: &str, bytes: Vec<u8>) -> Result<(), AllocError>
     ensures added { OnOk result (files.new.items ≡ with_file files.old.items name.now bytes.items) }
     ensures unchanged { OnErr result (files.new.items ≡ files.old.items) }
@@ -96,7 +97,11 @@ impl Model for Shelf {
 
     ghost use Rattle.iop_ports.specs.Places.{name_at, left_at, AreInside};
 
-    ghost view = { λ s. record { files = s.files.items; asked = name_at s.files.items s.asked; left = left_at s.files.items s.place } };
+    ghost view = { λ s. record {
+      files = s.files.items;
+      asked = name_at s.files.items s.asked;
+      left = left_at s.files.items s.place;
+    } };
 
     ghost invariant = { λ s. AreInside s.files.items s.asked s.place };
 }
@@ -145,13 +150,13 @@ impl Shelf {
 
     /// Closes the open file.
     pub fn close(&mut self)
-        ensures { self.new ≡ closed self.old }
+        ensures { self.new ≡ after_close self.old }
     {
         self.place = None;
     }
 
-    /// Reads the next bytes of the open file into the front of `buf` and answers how many: 0 where no
-    /// file is open.
+    /// Reads the next bytes of the open file into the front of `buf` and answers how many: 0 where
+    /// no file is open.
     pub fn read(&mut self, buf: &mut [u8]) -> usize
         ensures count { result ≡ read_count (length buf.old) self.old }
         ensures bytes { buf.new ≡ take result self.old.left ++ drop result buf.old }

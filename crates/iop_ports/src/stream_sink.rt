@@ -23,12 +23,10 @@ impl<W: Write + Drop> StreamSink<W> {
 }
 
 impl<W: Write + Drop> Sink for StreamSink<W> {
-    ghost taken = { λ _. None };
+    ghost told = { λ sink. record { taken = None; faults = sink.faults } };
 
-    ghost faults = { λ sink. sink.faults };
-
-    /// Writes once. It fails with each error of the writer, and where the writer takes nothing. The write of
-    /// an empty piece does not reach the writer.
+    /// Writes once. It fails with each error of the writer, and where the writer takes nothing. The
+    /// write of an empty piece does not reach the writer.
     fn write(&mut self, piece: &[u8]) -> Result<usize, Failed> {
         if piece.is_empty() {
             return Ok(0);

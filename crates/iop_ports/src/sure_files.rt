@@ -33,8 +33,8 @@ impl SureFiles {
         }
     }
 
-    /// Adds a file, or replaces the one of the same name, and closes the open file. Where no memory is
-    /// left the files are unchanged.
+    /// Adds a file, or replaces the one of the same name, and closes the open file. Where no memory
+    /// is left the files are unchanged.
     pub fn add(&mut self, name: &str, bytes: Vec<u8>) -> Result<(), AllocError>
         ensures added { OnOk result (self.new ≡ after_add name.now bytes.items self.old) }
         ensures unchanged { OnErr result (self.new ≡ self.old) }

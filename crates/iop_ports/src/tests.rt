@@ -1,4 +1,6 @@
-use crate::{CountSink, DiskFiles, Failed, Files, MemFiles, MemSink, Sink, StreamSink, SureFiles};
+use crate::{
+    CountSink, DiskFiles, Failed, Files, MemFiles, MemSink, Sink, StreamSink, SureFiles, send,
+};
 use std::alloc::{AllocError, Global};
 use std::fs;
 use std::process::Abort;
@@ -77,6 +79,19 @@ fn mem_sinks_take_what_they_have_room_for(rt: HostRuntime) -> Result<(), Fail> {
     assert_eq!(rt; sink.bytes(), b"abcde".as_slice());
     assert_eq!(rt; sink.calls(), 4);
     assert_eq!(rt; sink.faults(), 2);
+    Ok(())
+}
+
+#[test]
+fn pieces_are_sent_whole_or_fail(rt: HostRuntime) -> Result<(), Fail> {
+    let alloc = rt.alloc();
+    let mut sink = MemSink::new(alloc, 5, vec![in alloc; 2]?)?;
+    assert!(rt; send(&mut sink, b"ab"));
+    assert!(rt; send(&mut sink, b""));
+    assert!(rt; !send(&mut sink, b"cd"));
+    assert!(rt; !send(&mut sink, b"cdef"));
+    assert_eq!(rt; sink.bytes(), b"abcde".as_slice());
+    assert_eq!(rt; sink.calls(), 4);
     Ok(())
 }
 

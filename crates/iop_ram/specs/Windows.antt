@@ -9,6 +9,6 @@ abbrev pub window_of : List ℕ → ℕ → ℕ → Option (List ℕ)
 window_of memory at len = option_map (λ p. take len (drop p memory)) (range_at (length memory) at len)
 
 -- the memory that a store of bytes leaves
-abbrev pub stored_bytes : List ℕ → ℕ → List ℕ → Option (List ℕ)
-stored_bytes memory at bytes =
+abbrev pub store_bytes_at : List ℕ → ℕ → List ℕ → Option (List ℕ)
+store_bytes_at memory at bytes =
     option_map (λ p. with_bytes memory p bytes) (range_at (length memory) at (length bytes))

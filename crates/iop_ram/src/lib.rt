@@ -1,4 +1,4 @@
-//! The memory of the machine: 2 MiB of RAM.
+//! The memory of the machine.
 #![tactic(auto)]
 
 mod memory;

@@ -4,7 +4,7 @@ use std::test::Fail;
 
 #[test]
 fn numbers_and_places(rt: HostRuntime) -> Result<(), Fail> {
-    let mut ram = Ram::new(rt.alloc())?;
+    let mut ram = Ram::new(rt.alloc(), 0x20_0000)?;
     assert_eq!(rt; ram.size(), 0x20_0000);
     assert_eq!(rt; ram.store32(0x100, 0x8001_2340), Ok(()));
     for at in [0x8000_0100, 0xA000_0100] {
@@ -28,14 +28,14 @@ fn numbers_and_places(rt: HostRuntime) -> Result<(), Fail> {
     for (at, len, wanted) in rows {
         assert_eq!(rt; ram.window(at, len).map(|bytes| bytes.len()), wanted);
     }
-    assert_eq!(rt; physical(0x8001_2340), Some(0x1_2340));
-    assert_eq!(rt; physical(0x2000_0000), None);
+    assert_eq!(rt; physical(0x8001_2340, 0x20_0000), Some(0x1_2340));
+    assert_eq!(rt; physical(0x2000_0000, 0x20_0000), None);
     Ok(())
 }
 
 #[test]
 fn stores_of_bytes(rt: HostRuntime) -> Result<(), Fail> {
-    let mut ram = Ram::new(rt.alloc())?;
+    let mut ram = Ram::new(rt.alloc(), 0x20_0000)?;
     let bytes = [0x34, 0x12, 0x78, 0x56];
     let rows = [
         (0x101, 4, Ok(())),

@@ -1,17 +1,20 @@
--- The kernel's own libraries, which are registered from the start: their order and their places are this
--- project's own profile. A name of fewer than eight bytes is filled up with zeros (ps2sdk's irx.h).
-use Rattle.std.specs.Prelude.{ℕ, ◌+◌, ◌*◌, List, ◌++◌, map, take, replicate}
+-- The kernel's own libraries, which are registered from the start: their order and their places are
+-- this project's own profile. A name of fewer than eight bytes is filled up with zeros (ps2sdk's
+-- irx.h).
+use Rattle.std.specs.Prelude.{ℕ, ◌+◌, ◌*◌, List, map}
 use Rattle.std.specs.List.{enumerate_from}
-use Rattle.iop_base.specs.Text.{library_names}
+use Rattle.iop_base.specs.declared.libraries.TheConstants.{KERNEL_LIBRARIES}
 use Rattle.iop_registry.specs.declared.registry.Entry.{Entry}
+use Rattle.iop_registry.specs.declared.registry.TheConstants.{KERNEL_TABLES_AT, KERNEL_TABLE_LEN}
 
--- a name's eight bytes
-abbrev pub padded : List ℕ → List ℕ
-padded text = take 8 (text ++ replicate 8 0)
-
--- a library by its number and its name: version 1, and 0x200 bytes for each table from 0x1000 on
+-- a library by its number and its name: version 1, and its table behind those of the libraries
+-- before
 abbrev pub kernel_library : ℕ × List ℕ → Entry
-kernel_library (number, text) = record { name = padded text; major = 1; table = 0x1000 + number * 0x200 }
+kernel_library (number, name) = record {
+  name = name;
+  major = 1;
+  table = KERNEL_TABLES_AT + number * KERNEL_TABLE_LEN;
+}
 
 abbrev pub kernel_libraries : List Entry
-kernel_libraries = map kernel_library (enumerate_from 0 library_names)
+kernel_libraries = map kernel_library (enumerate_from 0 KERNEL_LIBRARIES)

@@ -5,4 +5,4 @@ mod registry;
 #[cfg(test)]
 mod tests;
 
-pub use registry::{KERNEL_NAMES, Registry};
+pub use registry::{KERNEL_TABLE_LEN, KERNEL_TABLES_AT, MOST_LIBRARIES, Registry};

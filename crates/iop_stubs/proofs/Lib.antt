@@ -1,4 +1,6 @@
-pub mod Reporting
+pub mod StubLines
 pub mod Storing
 pub mod Searching
 pub mod Binding
+pub mod FirstWords
+pub mod LayersLemmas

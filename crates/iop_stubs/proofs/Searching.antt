@@ -1,14 +1,11 @@
 -- What the first stub behind a place tells of all of them, where they stand in order.
-use Rattle.std.proofs.Common.{◌≡◌, ℕ, suc, ◌+◌, ◌-◌, ◌≤◌, ◌||◌, Bool, true, false, cond, not, Option, Some, None, List, [], ◌∷◌, get_or, inl, inr, Bor, refl, ap, sym, ◌∙◌, arith}
+use Rattle.std.proofs.Common.{◌≡◌, ℕ, suc, ◌+◌, ◌-◌, ◌≤◌, ◌||◌, Bool, true, false, cond, not, Option, Some, None, List, [], ◌∷◌, get_or, inl, inr, refl, ap, sym, ◌∙◌, arith}
 use Rattle.std.specs.List.Sorted.{IsNonDecreasingBy}
-use Rattle.std.specs.List.{All, find, filter, list_any, prefix_len, slice_get}
+use Rattle.std.specs.List.{All, find, list_any}
 use Rattle.std.specs.Bool.{then_some}
-use Rattle.std.specs.Option.{option_copied}
-use Rattle.std.specs.Slice.{IsItemAt}
-use Rattle.std.proofs.lemmas.Option.{slice_get-get_or, slice_get_past}
 use Rattle.std.proofs.lemmas.Bool.{ltb-true, ltb-false, le-ltb, ne_eqb, cases_lt}
-use Rattle.std.proofs.lemmas.List.Elements.{All-head, All-tail}
 use Rattle.std.proofs.lemmas.List.Folds.{list_any_none}
+use Rattle.iop_base.proofs.Lists.{find-none}
 use Rattle.iop_stubs.specs.Stubs.{stands_at, stands_before, stands_from, meets}
 use Rattle.iop_stubs.specs.Binding.{IsInOrder, IsWithin}
 use Rattle.iop_stubs.specs.declared.live_stub.Stub.{Stub}
@@ -16,51 +13,19 @@ use Rattle.iop_stubs.specs.declared.live_stub.Stub.{Stub}
 in_order-tail : (first : Stub) (rest : List Stub) → IsInOrder (first ∷ rest) → IsInOrder rest
 in_order-tail first rest h = λ i j d lt below. h (suc i) (suc j) d (omega arith) (omega arith)
 
-in_order-behind : (first : Stub) (rest : List Stub) → IsInOrder (first ∷ rest) → All (λ s. first.at + 8 ≤ s.at) rest
+in_order-behind : (first : Stub) (rest : List Stub) → IsInOrder (first ∷ rest) →
+    All (λ s. first.at + 8 ≤ s.at) rest
 in_order-behind first rest h = λ k d below. h 0 (suc k) d (omega arith) (omega arith)
 
 -- what a search by halving asks for
-pub places_rise : (stubs : List Stub) → IsInOrder stubs → IsNonDecreasingBy (λ (s : Stub). s.at) stubs
-places_rise stubs h i j d le below = elim (cases_lt i j) [ inl lt ↦ omega (arith, h i j d lt below) | inr ge ↦ let same : i ≡ j = omega arith in omega (arith, ap (λ k. (get_or stubs k d).at) same) ]
-
--- what a read by index lends
-pub item_is : {X : Type 0} (xs : List X) (i : ℕ) (r : Option (Bor X)) → IsItemAt xs i r → option_copied r ≡ slice_get xs i
-item_is xs i None h = sym (slice_get_past xs i h.3)
-item_is xs i (Some x) h = sym (slice_get-get_or xs i x.now h.3.0 ∙ ap Some (sym h.1))
-
-module _ {X : Type 0} (p : X → Bool) where
-  get_by : (b : Bool) (x : X) (xs : List X) (n m : ℕ) → m ≡ suc n → slice_get xs n ≡ find (λ y. not (p y)) xs → slice_get (x ∷ xs) (cond b m 0) ≡ cond (not b) (Some x) (find (λ y. not (p y)) xs)
-  get_by true x xs n m next e = ap (slice_get (x ∷ xs)) next ∙ e
-  get_by false x xs n m next e = refl
-
-  -- behind those at the front that pass stands the first that does not
-  pub get_is : (xs : List X) → slice_get xs (prefix_len p xs) ≡ find (λ y. not (p y)) xs
-  get_is [] = refl
-  get_is (x ∷ xs) =
-      let n = prefix_len p xs in get_by (p x) x xs n (1 + n) (omega arith) (get_is xs)
-
-  find_none : (xs : List X) → All (λ x. p x ≡ false) xs → find p xs ≡ None
-  find_none [] h = refl
-  find_none (x ∷ xs) h =
-      ap (λ b. cond b (Some x) (find p xs)) (All-head (λ y. p y ≡ false) x xs h) ∙ find_none xs (All-tail (λ y. p y ≡ false) x xs h)
-
-  kept_by : (b c : Bool) (x : X) (xs ys : List X) → (b || c) ≡ false → (c ≡ false → ys ≡ xs) → cond (not b) (x ∷ ys) ys ≡ x ∷ xs
-  kept_by true c x xs ys e later = cc
-  kept_by false c x xs ys e later = ap (λ l. x ∷ l) (later e)
-
-  -- where none passes all stay
-  pub all_kept : (xs : List X) → list_any p xs ≡ false → filter (λ x. not (p x)) xs ≡ xs
-  all_kept [] e = refl
-  all_kept (x ∷ xs) e =
-      kept_by (p x) (list_any p xs) x xs (filter (λ y. not (p y)) xs) e (all_kept xs)
-
-  none_by : (b c : Bool) (x : X) (ys : List X) → (b || c) ≡ false → (c ≡ false → ys ≡ []) → cond b (x ∷ ys) ys ≡ []
-  none_by true c x ys e later = cc
-  none_by false c x ys e later = later e
-
-  pub none_passes : (xs : List X) → list_any p xs ≡ false → filter p xs ≡ []
-  none_passes [] e = refl
-  none_passes (x ∷ xs) e = none_by (p x) (list_any p xs) x (filter p xs) e (none_passes xs)
+pub places_rise : (stubs : List Stub) → IsInOrder stubs →
+    IsNonDecreasingBy (λ (s : Stub). s.at) stubs
+places_rise stubs h i j d le below =
+    elim (cases_lt i j) [
+      | inl lt ↦ omega (arith, h i j d lt below)
+      | inr ge ↦ let same : i ≡ j =
+          omega arith in omega (arith, ap (λ k. (get_or stubs k d).at) same)
+    ]
 
 -- the stub, if it stands at the place
 abbrev pub if_at : ℕ → Option Stub → Option Stub
@@ -73,45 +38,70 @@ is_met place len None = false
 is_met place len (Some stub) = meets place len stub
 
 module _ (place : ℕ) where
-  at_by : (b c : Bool) (first : Stub) (rest : List Stub) → (b ≡ true → c ≡ false) → (b ≡ false → find (stands_at place) rest ≡ None) → find (stands_at place) rest ≡ if_at place (find (stands_from place) rest) → stands_at place first ≡ c → cond c (Some first) (find (stands_at place) rest) ≡ if_at place (cond (not b) (Some first) (find (stands_from place) rest))
+  at_by : (b c : Bool) (first : Stub) (rest : List Stub) → (b ≡ true → c ≡ false) →
+      (b ≡ false → find (stands_at place) rest ≡ None) →
+      find (stands_at place) rest ≡ if_at place (find (stands_from place) rest) →
+      stands_at place first ≡ c →
+      cond c (Some first) (find (stands_at place) rest)
+      ≡ if_at place (cond (not b) (Some first) (find (stands_from place) rest))
   at_by true c first rest far none later is =
       ap (λ t. cond t (Some first) (find (stands_at place) rest)) (far refl) ∙ later
   at_by false true first rest far none later is = ap (λ t. then_some t first) (sym is)
   at_by false false first rest far none later is = none refl ∙ ap (λ t. then_some t first) (sym is)
 
-  find_at_is : (stubs : List Stub) → IsInOrder stubs → find (stands_at place) stubs ≡ if_at place (find (stands_from place) stubs)
+  find_at_is : (stubs : List Stub) → IsInOrder stubs →
+      find (stands_at place) stubs ≡ if_at place (find (stands_from place) stubs)
   find_at_is [] h = refl
   find_at_is (first ∷ rest) h =
       at_by (stands_before place first) (stands_at place first) first rest
       (λ e. ne_eqb _ _ (λ same. absurd (omega (arith, same, ltb-true _ _ e))))
-      (λ e. find_none (stands_at place) rest (λ k d below. ne_eqb _ _ (λ same. absurd (omega (arith, same, ltb-false _ _ e, in_order-behind first rest h k d below)))))
+      (λ e. find-none (stands_at place) rest (λ k d below. ne_eqb _ _
+      (λ same. absurd (omega
+      (arith, same, ltb-false _ _ e, in_order-behind first rest h k d below)))))
       (find_at_is rest (in_order-tail first rest h)) refl
 
-  pub found_at : (stubs : List Stub) → IsInOrder stubs → (first : Option Stub) → first ≡ find (stands_from place) stubs → if_at place first ≡ find (stands_at place) stubs
+  pub found_at : (stubs : List Stub) → IsInOrder stubs → (first : Option Stub) →
+      first ≡ find (stands_from place) stubs → if_at place first ≡ find (stands_at place) stubs
   found_at stubs h first e = ap (if_at place) e ∙ sym (find_at_is stubs h)
 
   module _ (len : ℕ) where
-    met_by : (b c : Bool) (first : Stub) (rest : List Stub) → (b ≡ true → c ≡ false) → (b ≡ false → c ≡ false → list_any (meets place len) rest ≡ false) → list_any (meets place len) rest ≡ is_met place len (find (stands_from (place - 7)) rest) → meets place len first ≡ c → (c || list_any (meets place len) rest) ≡ is_met place len (cond (not b) (Some first) (find (stands_from (place - 7)) rest))
+    met_by : (b c : Bool) (first : Stub) (rest : List Stub) → (b ≡ true → c ≡ false) →
+        (b ≡ false → c ≡ false → list_any (meets place len) rest ≡ false) →
+        list_any (meets place len) rest ≡ is_met place len (find (stands_from (place - 7)) rest) →
+        meets place len first ≡ c →
+        (c || list_any (meets place len) rest)
+        ≡ is_met place len (cond (not b) (Some first) (find (stands_from (place - 7)) rest))
     met_by true c first rest far none later is =
         ap (λ t. t || list_any (meets place len) rest) (far refl) ∙ later
     met_by false true first rest far none later is = sym is
     met_by false false first rest far none later is = none refl refl ∙ sym is
 
     -- a range that does not meet the first stub that ends behind its place meets none
-    any_met_is : (stubs : List Stub) → IsInOrder stubs → list_any (meets place len) stubs ≡ is_met place len (find (stands_from (place - 7)) stubs)
+    any_met_is : (stubs : List Stub) → IsInOrder stubs →
+        list_any (meets place len) stubs ≡ is_met place len (find (stands_from (place - 7)) stubs)
     any_met_is [] h = refl
     any_met_is (first ∷ rest) h =
         met_by (stands_before (place - 7) first) (meets place len first) first rest
         (λ e. le-ltb _ _ (omega (arith, ltb-true _ _ e)))
-        (λ e f. list_any_none (meets place len) rest (λ k d below. le-ltb _ _ (omega (arith, ltb-false _ _ e, ltb-false _ _ f, in_order-behind first rest h k d below))))
+        (λ e f. list_any_none (meets place len) rest
+        (λ k d below. le-ltb _ _ (omega
+        (arith, ltb-false _ _ e, ltb-false _ _ f, in_order-behind first rest h k d below))))
         (any_met_is rest (in_order-tail first rest h)) refl
 
-    pub found_met : (stubs : List Stub) → IsInOrder stubs → (first : Option Stub) → first ≡ find (stands_from (place - 7)) stubs → is_met place len first ≡ list_any (meets place len) stubs
+    pub found_met : (stubs : List Stub) → IsInOrder stubs → (first : Option Stub) →
+        first ≡ find (stands_from (place - 7)) stubs →
+        is_met place len first ≡ list_any (meets place len) stubs
     found_met stubs h first e = ap (is_met place len) e ∙ sym (any_met_is stubs h)
 
     -- the bounds of all are apart from the range
-    pub none_behind : (low high : ℕ) (stubs : List Stub) → All (IsWithin low high) stubs → high ≤ place → list_any (meets place len) stubs ≡ false
-    none_behind low high stubs h le = list_any_none (meets place len) stubs (λ k d below. le-ltb _ _ (omega (arith, le, (h k d below).1)))
+    pub none_behind : (low high : ℕ) (stubs : List Stub) → All (IsWithin low high) stubs →
+        high ≤ place → list_any (meets place len) stubs ≡ false
+    none_behind low high stubs h le =
+        list_any_none (meets place len) stubs (λ k d below. le-ltb _ _
+        (omega (arith, le, (h k d below).1)))
 
-    pub none_before : (low high : ℕ) (stubs : List Stub) → All (IsWithin low high) stubs → place + len ≤ low → list_any (meets place len) stubs ≡ false
-    none_before low high stubs h le = list_any_none (meets place len) stubs (λ k d below. le-ltb _ _ (omega (arith, le, (h k d below).0)))
+    pub none_before : (low high : ℕ) (stubs : List Stub) → All (IsWithin low high) stubs →
+        place + len ≤ low → list_any (meets place len) stubs ≡ false
+    none_before low high stubs h le =
+        list_any_none (meets place len) stubs (λ k d below. le-ltb _ _
+        (omega (arith, le, (h k d below).0)))

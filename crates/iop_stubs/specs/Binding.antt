@@ -1,13 +1,16 @@
--- What binding a stub does and asks for, and what holds of every memory (ps2sdk's irx.h: the words of a
--- stub; MIPS I: j). That at most 65,536 stubs are live is this project's own profile.
-use Rattle.std.specs.Prelude.{◌≡◌, ℕ, ◌+◌, ◌/◌, ◌%◌, ◌^◌, ◌<◌, ◌≤◌, nat_lt, false, if◌then◌else◌, List, [], ◌∷◌, length, All, AllPairs}
+-- What binding a stub does and asks for, and what holds of every memory (ps2sdk's irx.h: the words
+-- of a stub; MIPS I: j). That at most 65,536 stubs are live is this project's own profile.
+use Rattle.std.specs.Prelude.{◌≡◌, ℕ, ◌+◌, ◌/◌, ◌%◌, ◌^◌, ◌<◌, ◌≤◌, nat_lt, false, if◌then◌else◌, List, [], ◌∷◌, length, take, drop, All, AllPairs}
 use Rattle.iop_base.specs.Numbers.{number_at, bytes_of, with_bytes}
+use Rattle.iop_base.specs.Places.{IsRamSize}
+use Rattle.iop_base.specs.declared.words.TheConstants.{JUMP_BACK, STUB_INDEX}
 use Rattle.iop_stubs.specs.Stubs.{Memory, meets}
 use Rattle.iop_stubs.specs.declared.live_stub.Stub.{Stub}
+use Rattle.iop_stubs.specs.declared.live_stub.TheConstants.Stub.{SIZE, JUMP_WORD, MOST_LIVE}
 
 -- j target
 abbrev pub jump_word : ℕ → ℕ
-jump_word target = 0x08000000 + target / 4
+jump_word target = JUMP_WORD + target / 4
 
 -- the stubs with one more before the first that stands behind it
 abbrev pub with_stub : Stub → List Stub → List Stub
@@ -25,37 +28,35 @@ after_bind memory stub = record {
 -- the stub may be bound in this memory
 pub record MayBind (memory : Memory) (stub : Stub) : Type 0 where
   pub aligned : stub.at % 4 ≡ 0
-  pub inside : stub.at + 8 ≤ 0x200000
-  -- jr $ra
-  pub jump_back : number_at memory.ram stub.at 4 ≡ 0x03E00008
-  -- addiu $0, $0, index
-  pub index : number_at memory.ram (stub.at + 4) 4 ≡ 0x24000000 + stub.index
+  pub inside : stub.at + SIZE ≤ length memory.ram
+  pub jump_back : number_at memory.ram stub.at 4 ≡ JUMP_BACK
+  pub index : number_at memory.ram (stub.at + 4) 4 ≡ STUB_INDEX + stub.index
   pub target_aligned : stub.target % 4 ≡ 0
   pub target_near : stub.target < 2 ^ 28
   -- no live stub overlaps it
-  pub apart : All (λ other. meets stub.at 8 other ≡ false) memory.live
-  pub room : length memory.live < 65536
+  pub apart : All (λ other. meets stub.at SIZE other ≡ false) memory.live
+  pub room : length memory.live < MOST_LIVE
 
 -- the stub's words in RAM are the jump and its index
 pub record IsBound (ram : List ℕ) (stub : Stub) : Type 0 where
   pub aligned : stub.at % 4 ≡ 0
-  pub inside : stub.at + 8 ≤ 0x200000
-  pub jump : number_at ram stub.at 4 ≡ jump_word stub.target
-  pub index : number_at ram (stub.at + 4) 4 ≡ 0x24000000 + stub.index
+  pub inside : stub.at + SIZE ≤ length ram
+  pub jump : take 4 (drop stub.at ram) ≡ bytes_of 4 (jump_word stub.target)
+  pub index : number_at ram (stub.at + 4) 4 ≡ STUB_INDEX + stub.index
   pub target_aligned : stub.target % 4 ≡ 0
   pub target_near : stub.target < 2 ^ 28
 
 -- the stubs stand in the order of their places, and no two overlap
 abbrev pub IsInOrder : List Stub → Type 0
-IsInOrder live = AllPairs (λ first second. first.at + 8 ≤ second.at) live
+IsInOrder live = AllPairs (λ first second. first.at + SIZE ≤ second.at) live
 
 -- the stub's bytes lie in these bounds
 abbrev pub IsWithin : ℕ → ℕ → Stub → Type 0
-IsWithin low high stub = (low ≤ stub.at) × (stub.at + 8 ≤ high)
+IsWithin low high stub = (low ≤ stub.at) × (stub.at + SIZE ≤ high)
 
 -- what holds of every memory
 pub record IsSound (memory : Memory) : Type 0 where
-  pub sized : length memory.ram ≡ 0x200000
-  pub few : length memory.live ≤ 65536
+  pub sized : IsRamSize (length memory.ram)
+  pub few : length memory.live ≤ MOST_LIVE
   pub bound : All (IsBound memory.ram) memory.live
   pub apart : IsInOrder memory.live

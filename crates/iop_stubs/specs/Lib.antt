@@ -1,2 +1,4 @@
 pub mod Stubs
 pub mod Binding
+pub mod Layers
+pub mod Laws

@@ -1,78 +1,22 @@
-ghost use Rattle.std.specs.Prelude.{◌≡◌, ℕ, ◌+◌, ◌%◌, ◌≤◌, IfOk, [], find, is_ok, is_some, length, OnErr, replicate, slice_index};
+ghost use Rattle.std.specs.Prelude.{◌≡◌, ℕ, ◌+◌, ◌%◌, ◌^◌, ◌≤◌, IfOk, [], find, is_ok, is_some, length, OnErr, replicate, slice_index};
 ghost use Rattle.std.specs.Option.{ok_or};
 ghost use Rattle.iop_base.specs.Numbers.{width_bytes, bytes_of, with_bytes};
-ghost use Rattle.iop_base.specs.Places.{range_at, access_at};
-ghost use Rattle.iop_base.specs.Seen.{Gives};
-ghost use Rattle.iop_stubs.specs.Stubs.{is_of, stands_at, after_store, store_lines};
+ghost use Rattle.iop_base.specs.Places.{IsRamSize, range_at, access_at};
+ghost use Rattle.iop_base.specs.Output.{Gives};
+ghost use Rattle.iop_stubs.specs.Stubs.{is_of, stands_at, access_place, range_place, after_store, store_lines};
 ghost use Rattle.iop_stubs.specs.Binding.{after_bind, MayBind, IsSound};
+ghost use Rattle.iop_stubs.specs.declared.live_stub.TheConstants.Stub.{MOST_LIVE};
 
 use crate::live_stub::Stub;
-use crate::live_stubs::{LiveStubs, ROOM};
+use crate::live_stubs::LiveStubs;
 use iop_base::{Bad, Lines, Width};
 use iop_ram::{Ram, physical};
 use std::alloc::{AllocError, Global};
 use std::marker::Model;
 
-/// `j` to place 0.
-const JUMP: u32 = 0x0800_0000;
-
-/// Stores a number of this width, and gives its place.
-fn store_number(ram: &mut Ram, at: u32, width: Width, value: u32) -> Result<u32, Bad>
-    ensures place { result ≡ ok_or (access_at (length ram.old) at (width_bytes width)) (record {}) }
-    ensures inside { IfOk result (λ place. place + width_bytes width ≤ length ram.old) }
-    ensures memory { IfOk result (λ place. ram.new ≡ with_bytes ram.old place (bytes_of (width_bytes width) value)) }
-    ensures same { OnErr result (ram.new ≡ ram.old) }
-{
-    match width {
-        Width::Byte => ram.store8(at, (value % 0x100) as u8),
-        Width::Half => ram.store16(at, (value % 0x1_0000) as u16),
-        Width::Word => ram.store32(at, value),
-    }?;
-    physical(at).ok_or(Bad)
-}
-
-/// Stores bytes, and gives their place.
-fn put_bytes(ram: &mut Ram, at: u32, bytes: &[u8]) -> Result<u32, Bad>
-    ensures place { result ≡ ok_or (range_at (length ram.old) at (length bytes.now)) (record {}) }
-    ensures inside { IfOk result (λ place. place + length bytes.now ≤ length ram.old) }
-    ensures memory { IfOk result (λ place. ram.new ≡ with_bytes ram.old place bytes.now) }
-    ensures same { OnErr result (ram.new ≡ ram.old) }
-{
-    ram.store_bytes(at, bytes)?;
-    physical(at).ok_or(Bad)
-}
-
-/// The place of a range that lies wholly in RAM.
-fn range(ram: &Ram, at: u32, len: u32) -> Result<u32, Bad>
-    ensures place { result ≡ ok_or (range_at (length ram.now) at len) (record {}) }
-    ensures inside { IfOk result (λ place. place + len ≤ length ram.now) }
-{
-    ram.window(at, len).ok_or(Bad)?;
-    physical(at).ok_or(Bad)
-}
-
-/// Stores one byte at every place of a range in RAM.
-fn fill_range(ram: &mut Ram, place: u32, len: u32, byte: u8)
-    requires inside { place + len ≤ 0x200000 }
-    requires sized { length ram.old ≡ 0x200000 }
-    ensures memory { ram.new ≡ with_bytes ram.old place (replicate len byte) }
-{
-    for offset in 0..len {
-        ram.store8(place + offset, byte).unwrap();
-    }
-}
-
-/// Stores a word.
-fn store_word(ram: &mut Ram, place: u32, word: u32)
-    requires aligned { place % 4 ≡ 0 }
-    requires inside { place + 4 ≤ 0x200000 }
-    ensures { ram.new ≡ with_bytes ram.old place (bytes_of 4 word) }
-{
-    ram.store32(place, word).unwrap();
-}
-
-/// RAM, and the live stubs in the order of their places, no two of which overlap. At each of them RAM
-/// holds the jump to its target, and behind it the word with its index.
+/// The memory of the guest: RAM, and the live stubs in the order of their places, no two of which
+/// overlap. At each of them RAM has the jump to its target, and behind it the word of its index.
+/// `laws` say what RAM is without the jumps.
 ///
 /// An address is `Bad` as it is for `Ram`.
 #[derive(Drop)]
@@ -93,18 +37,21 @@ impl Model for Guest {
 }
 
 impl Guest {
-    /// Memory that is all zero, without a live stub. It takes all the memory that will be needed.
-    pub fn new(alloc: Global) -> Result<Self, AllocError>
+    /// Makes memory of `size` bytes, 2 MiB or 8 MiB, that is all zero, without a live stub. It
+    /// takes all the host memory that will be needed.
+    pub fn new(alloc: Global, size: u32) -> Result<Self, AllocError>
+        requires { IsRamSize size }
+        ensures sized { IfOk result (λ guest. length guest.ram ≡ size) }
         ensures zero { IfOk result (λ guest. (p : ℕ) → slice_index guest.ram p ≡ 0) }
         ensures none { IfOk result (λ guest. guest.live ≡ []) }
         ensures sound { IfOk result IsSound }
     {
-        let ram = Ram::new(alloc)?;
+        let ram = Ram::new(alloc, size)?;
         let live = LiveStubs::new(alloc)?;
         Ok(Guest { ram, live })
     }
 
-    /// The memory as it stands, to be read.
+    /// Lends RAM as the guest reads it.
     pub fn ram(&self) -> &Ram
         ensures value { result.now ≡ self.now.ram }
         ensures sound { IsSound self.now }
@@ -112,11 +59,12 @@ impl Guest {
         &self.ram
     }
 
-    /// Stores the low bytes of a number. Each live stub that has one of these bytes is told of by a
-    /// line of moment `t`, in the order of their places, and lives no more.
+    /// Stores the low bytes of a number. It ends each live stub of which it meets a byte, in the
+    /// order of their places: a line of moment `t` names the stub, which lives no more. Its words
+    /// are not restored.
     ///
-    /// `Bad` exactly where the address is outside RAM or not a multiple of the width; nothing changes
-    /// then, and there is no line.
+    /// `Bad` exactly where the address is outside RAM or not a multiple of the width; nothing
+    /// changes then, and there is no line.
     pub fn store<L: Lines>(
         &mut self,
         at: u32,
@@ -125,9 +73,11 @@ impl Guest {
         t: u64,
         lines: &mut L,
     ) -> Result<(), Bad>
-        ensures accepted { is_ok result ≡ is_some (access_at (length self.old.ram) at (width_bytes width)) }
-        ensures memory { self.new ≡ after_store self.old (access_at (length self.old.ram) at (width_bytes width)) (bytes_of (width_bytes width) value) }
-        ensures lines { Gives (L.seen lines.old) (L.seen lines.new) (store_lines t self.old (access_at (length self.old.ram) at (width_bytes width)) (width_bytes width)) }
+        ensures accepted { is_ok result ≡ is_some (access_place self.old at width) }
+        ensures memory { self.new ≡ after_store self.old (access_place self.old at width)
+            (bytes_of (width_bytes width) value) }
+        ensures lines { Gives (L.output lines.old) (L.output lines.new)
+            (store_lines t self.old (access_place self.old at width) (width_bytes width)) }
         ensures untouched { OnErr result (lines.new ≡ lines.old) }
         ensures was_sound { IsSound self.old }
         ensures sound { IsSound self.new }
@@ -137,12 +87,12 @@ impl Guest {
         Ok(())
     }
 
-    /// Stores bytes from an address on; they need not be aligned. Each live stub that has one of their
-    /// places is told of by a line of moment `t`, in the order of their places, and lives no more. With
-    /// no byte nothing changes.
+    /// Stores bytes from an address on, aligned or not. It ends each live stub of which it meets a
+    /// byte, as `store` does. With no byte nothing changes.
     ///
-    /// `Bad` exactly where their range is not wholly in RAM, also for no byte: the address itself names
-    /// a place in RAM, and the end is at most its size. Nothing changes then, and there is no line.
+    /// `Bad` exactly where their range is not wholly in RAM, also for no byte: the address itself
+    /// names a place in RAM, and the end is at most its size. Nothing changes then, and there is no
+    /// line.
     pub fn store_bytes<L: Lines>(
         &mut self,
         at: u32,
@@ -150,9 +100,13 @@ impl Guest {
         t: u64,
         lines: &mut L,
     ) -> Result<(), Bad>
-        ensures accepted { is_ok result ≡ is_some (range_at (length self.old.ram) at (length bytes.now)) }
-        ensures memory { self.new ≡ after_store self.old (range_at (length self.old.ram) at (length bytes.now)) bytes.now }
-        ensures lines { Gives (L.seen lines.old) (L.seen lines.new) (store_lines t self.old (range_at (length self.old.ram) at (length bytes.now)) (length bytes.now)) }
+        ensures accepted { is_ok result ≡ is_some (range_place self.old at (length bytes.now)) }
+        ensures memory { self.new
+            ≡ after_store self.old (range_place self.old at (length bytes.now)) bytes.now }
+        ensures lines { Gives (L.output lines.old) (L.output lines.new)
+            (store_lines t self.old (range_place self.old at (length bytes.now))
+            (length bytes.now)) }
+        ensures untouched { OnErr result (lines.new ≡ lines.old) }
         ensures was_sound { IsSound self.old }
         ensures sound { IsSound self.new }
     {
@@ -161,13 +115,12 @@ impl Guest {
         Ok(())
     }
 
-    /// Stores one byte at every place of a range of `len` bytes. Each live stub that has one of these
-    /// places is told of by a line of moment `t`, in the order of their places, and lives no more. With
-    /// a `len` of 0 nothing changes.
+    /// Stores one byte at every place of a range of `len` bytes. It ends each live stub of which it
+    /// meets a byte, as `store` does. With a `len` of 0 nothing changes.
     ///
-    /// `Bad` exactly where the range is not wholly in RAM, also with a `len` of 0: the address itself
-    /// names a place in RAM, and the end is at most its size. Nothing changes then, and there is no
-    /// line.
+    /// `Bad` exactly where the range is not wholly in RAM, also with a `len` of 0: the address
+    /// itself names a place in RAM, and the end is at most its size. Nothing changes then, and
+    /// there is no line.
     pub fn fill<L: Lines>(
         &mut self,
         at: u32,
@@ -176,30 +129,33 @@ impl Guest {
         t: u64,
         lines: &mut L,
     ) -> Result<(), Bad>
-        ensures accepted { is_ok result ≡ is_some (range_at (length self.old.ram) at len) }
-        ensures memory { self.new ≡ after_store self.old (range_at (length self.old.ram) at len) (replicate len byte) }
-        ensures lines { Gives (L.seen lines.old) (L.seen lines.new) (store_lines t self.old (range_at (length self.old.ram) at len) len) }
+        ensures accepted { is_ok result ≡ is_some (range_place self.old at len) }
+        ensures memory { self.new ≡ after_store self.old (range_place self.old at len)
+            (replicate len byte) }
+        ensures lines { Gives (L.output lines.old) (L.output lines.new)
+            (store_lines t self.old (range_place self.old at len) len) }
+        ensures untouched { OnErr result (lines.new ≡ lines.old) }
         ensures was_sound { IsSound self.old }
         ensures sound { IsSound self.new }
     {
-        let place = range(&self.ram, at, len)?;
+        let place = find_range(&self.ram, at, len)?;
         self.live.end_in(place, len, t, lines);
         fill_range(&mut self.ram, place, len, byte);
         Ok(())
     }
 
-    /// How many more stubs can be bound: 65,536 less the live stubs.
+    /// Tells how many more stubs can be bound: `Stub::MOST_LIVE` less the live ones.
     pub fn room(&self) -> u32
-        ensures room { result + length self.now.live ≡ 65536 }
+        ensures room { result + length self.now.live ≡ MOST_LIVE }
         ensures sound { IsSound self.now }
     {
-        ROOM - self.live.len() as u32
+        Stub::MOST_LIVE - self.live.len() as u32
     }
 
     /// Binds a stub: its first word becomes a jump to its target, and it is live.
     ///
-    /// There is room for it. Its place is a multiple of 4 with its 8 bytes in RAM, where the words
-    /// 0x03E00008 and 0x24000000 + its index stand, and no live stub overlaps it. Its target is a
+    /// There is room for it. Its place, a multiple of 4, has its 8 bytes in RAM, where `JUMP_BACK`
+    /// and `STUB_INDEX` + its index stand, and no live stub overlaps it. Its target is a
     /// multiple of 4 below 2^28.
     pub fn bind(&mut self, stub: Stub)
         requires { MayBind self.old stub }
@@ -208,10 +164,10 @@ impl Guest {
         ensures sound { IsSound self.new }
     {
         self.live.insert(stub);
-        store_word(&mut self.ram, stub.at, JUMP + stub.target / 4);
+        store_word(&mut self.ram, stub.at, Stub::JUMP_WORD + stub.target / 4);
     }
 
-    /// The live stub at a physical place. None exactly where none begins there.
+    /// Finds the live stub at a physical place. None exactly where none begins there.
     pub fn at(&self, addr: u32) -> Option<Stub>
         ensures stub { result ≡ find (stands_at addr) self.now.live }
         ensures sound { IsSound self.now }
@@ -219,11 +175,68 @@ impl Guest {
         self.live.at(addr)
     }
 
-    /// Whether a live stub is one of the library of this name and major version.
+    /// Tells whether a live stub is one of the library of this name and major version.
     pub fn bound_to(&self, name: [u8; 8], major: u8) -> bool
         ensures stub { result ≡ is_some (find (is_of name major) self.now.live) }
         ensures sound { IsSound self.now }
     {
         self.live.has_of(&name, major)
     }
+}
+
+/// Stores a number of this width, and gives its place. `Bad` as `Guest::store` says.
+fn store_number(ram: &mut Ram, at: u32, width: Width, value: u32) -> Result<u32, Bad>
+    ensures place { result ≡ ok_or (access_at (length ram.old) at (width_bytes width)) (record {}) }
+    ensures inside { IfOk result (λ place. place + width_bytes width ≤ length ram.old) }
+    ensures memory { IfOk result (λ place.
+        ram.new ≡ with_bytes ram.old place (bytes_of (width_bytes width) value)) }
+    ensures same { OnErr result (ram.new ≡ ram.old) }
+{
+    match width {
+        Width::Byte => ram.store8(at, (value % 0x100) as u8),
+        Width::Half => ram.store16(at, (value % 0x1_0000) as u16),
+        Width::Word => ram.store32(at, value),
+    }?;
+    physical(at, ram.size()).ok_or(Bad)
+}
+
+/// Stores bytes, and gives their place. `Bad` as `Guest::store_bytes` says.
+fn put_bytes(ram: &mut Ram, at: u32, bytes: &[u8]) -> Result<u32, Bad>
+    ensures place { result ≡ ok_or (range_at (length ram.old) at (length bytes.now)) (record {}) }
+    ensures inside { IfOk result (λ place. place + length bytes.now ≤ length ram.old) }
+    ensures memory { IfOk result (λ place. ram.new ≡ with_bytes ram.old place bytes.now) }
+    ensures same { OnErr result (ram.new ≡ ram.old) }
+{
+    ram.store_bytes(at, bytes)?;
+    physical(at, ram.size()).ok_or(Bad)
+}
+
+/// Finds the place of a range. `Bad` where it is not wholly in RAM.
+fn find_range(ram: &Ram, at: u32, len: u32) -> Result<u32, Bad>
+    ensures place { result ≡ ok_or (range_at (length ram.now) at len) (record {}) }
+    ensures inside { IfOk result (λ place. place + len ≤ length ram.now) }
+{
+    ram.window(at, len).ok_or(Bad)?;
+    physical(at, ram.size()).ok_or(Bad)
+}
+
+/// Stores one byte at every place of a range in RAM.
+fn fill_range(ram: &mut Ram, place: u32, len: u32, byte: u8)
+    requires inside { place + len ≤ length ram.old }
+    requires sized { length ram.old ≤ 2 ^ 29 }
+    ensures memory { ram.new ≡ with_bytes ram.old place (replicate len byte) }
+{
+    for offset in 0..len {
+        ram.store8(place + offset, byte).unwrap();
+    }
+}
+
+/// Stores a word.
+fn store_word(ram: &mut Ram, place: u32, word: u32)
+    requires aligned { place % 4 ≡ 0 }
+    requires inside { place + 4 ≤ length ram.old }
+    requires sized { length ram.old ≤ 2 ^ 29 }
+    ensures { ram.new ≡ with_bytes ram.old place (bytes_of 4 word) }
+{
+    ram.store32(place, word).unwrap();
 }

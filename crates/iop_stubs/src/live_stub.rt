@@ -1,11 +1,8 @@
 ghost use Rattle.std.specs.Prelude.{◌≡◌, [], ◌∷◌};
-ghost use Rattle.iop_base.specs.Seen.{Gives};
-ghost use Rattle.iop_stubs.specs.Stubs.{is_of, meets, reported};
+ghost use Rattle.iop_base.specs.Output.{Gives};
+ghost use Rattle.iop_stubs.specs.Stubs.{is_of, meets, stub_lines};
 
 use iop_base::{Line, Lines};
-
-/// How many bytes a stub has: two instructions.
-pub(crate) const SIZE: u32 = 8;
 
 /// An import stub that is bound. Places are physical addresses.
 #[derive(Clone, Copy, Debug, PartialEq, Eq)]
@@ -23,25 +20,35 @@ pub struct Stub {
 }
 
 impl Stub {
-    /// Whether it is one of the library of this name and major version.
+    /// How many bytes a stub has: two instructions.
+    pub const SIZE: u32 = 8;
+
+    /// `j 0` (MIPS I): the first word of a live stub is the target / 4 more.
+    pub const JUMP_WORD: u32 = 0x0800_0000;
+
+    /// So many stubs can be live at most.
+    pub const MOST_LIVE: u32 = 65_536;
+
+    /// Tells whether it is one of the library of this name and major version.
     pub(crate) fn is_of(&self, name: &[u8; 8], major: u8) -> bool
         ensures { result ≡ is_of name.now major self.now }
     {
         self.name == *name && self.major == major
     }
 
-    /// Whether a byte of it lies in the range of `len` bytes from `place` on.
+    /// Tells whether a byte of it lies in the range of `len` bytes from `place` on.
     pub(crate) fn meets(&self, place: u32, len: u32) -> bool
         ensures { result ≡ meets place len self.now }
     {
         let place = u64::from(place);
         let at = u64::from(self.at);
-        at.max(place) < (at + u64::from(SIZE)).min(place + u64::from(len))
+        at.max(place) < (at + u64::from(Self::SIZE)).min(place + u64::from(len))
     }
 
     /// Gives a line of moment `t` if a byte of it lies in the range of `len` bytes from `place` on.
-    pub(crate) fn report<L: Lines>(&self, place: u32, len: u32, t: u64, lines: &mut L)
-        ensures { Gives (L.seen lines.old) (L.seen lines.new) (reported t place len (self.now ∷ [])) }
+    pub(crate) fn give_line<L: Lines>(&self, place: u32, len: u32, t: u64, lines: &mut L)
+        ensures { Gives (L.output lines.old) (L.output lines.new)
+            (stub_lines t place len (self.now ∷ [])) }
     {
         if self.meets(place, len) {
             lines.line(t, Line::Stub(self.at));

@@ -1,90 +1,14 @@
-ghost use Rattle.std.specs.Prelude.{◌≡◌, ◌+◌, ◌≤◌, ◌<◌, false, All, [], find, IfOk, is_some, length, option_copied, vec_capacity, vec_len};
+ghost use Rattle.std.specs.Prelude.{◌≡◌, ◌+◌, ◌^◌, ◌≤◌, ◌<◌, false, All, [], find, IfOk, is_some, length, option_copied, vec_capacity, vec_len};
 ghost use Rattle.std.specs.List.{list_any, prefix_len};
-ghost use Rattle.iop_base.specs.Seen.{Gives};
-ghost use Rattle.iop_stubs.specs.Stubs.{is_of, stands_at, stands_before, stands_from, meets, kept, reported};
+ghost use Rattle.iop_base.specs.Output.{Gives};
+ghost use Rattle.iop_stubs.specs.Stubs.{is_of, stands_at, stands_before, stands_from, meets, remaining_stubs, stub_lines};
 ghost use Rattle.iop_stubs.specs.Binding.{with_stub, IsInOrder};
+ghost use Rattle.iop_stubs.specs.declared.live_stub.TheConstants.Stub.{SIZE, MOST_LIVE};
 
-use crate::live_stub::{SIZE, Stub};
+use crate::live_stub::Stub;
 use iop_base::Lines;
 use std::alloc::{AllocError, Global};
 use std::marker::Model;
-
-/// So many stubs can be live.
-pub(crate) const ROOM: u32 = 65_536;
-
-/// How many stubs stand before a place.
-fn count_before(stubs: &[Stub], place: u32) -> usize
-    requires { IsInOrder stubs.now }
-    ensures { result ≡ prefix_len (stands_before place) stubs.now }
-{
-    stubs.partition_point(|stub| stub.at < place)
-}
-
-/// The first stub that stands at a place or behind it.
-fn first_from(stubs: &[Stub], place: u32) -> Option<&Stub>
-    requires { IsInOrder stubs.now }
-    ensures { option_copied result ≡ find (stands_from place) stubs.now }
-{
-    stubs.get(count_before(stubs, place))
-}
-
-/// The stub at a place.
-fn find_at(stubs: &[Stub], place: u32) -> Option<Stub>
-    requires { IsInOrder stubs.now }
-    ensures { result ≡ find (stands_at place) stubs.now }
-{
-    let stub = first_from(stubs, place)?;
-    (stub.at == place).then_some(*stub)
-}
-
-/// Whether the range meets a stub. The first that ends behind the range's place is met, or none is.
-fn meets_one(stubs: &[Stub], place: u32, len: u32) -> bool
-    requires { IsInOrder stubs.now }
-    ensures { result ≡ list_any (meets place len) stubs.now }
-{
-    match first_from(stubs, place.saturating_sub(SIZE - 1)) {
-        Some(stub) => stub.meets(place, len),
-        None => false,
-    }
-}
-
-/// Gives a line for each stub that the range meets.
-fn report<L: Lines>(stubs: &[Stub], place: u32, len: u32, t: u64, lines: &mut L)
-    ensures { Gives (L.seen lines.old) (L.seen lines.new) (reported t place len stubs.now) }
-{
-    for stub in stubs {
-        stub.report(place, len, t, lines);
-    }
-}
-
-/// Tells of each stub that the range meets, and takes it out.
-fn take_out<L: Lines>(stubs: &mut Vec<Stub>, place: u32, len: u32, t: u64, lines: &mut L)
-    ensures stubs { stubs.new.items ≡ kept place len stubs.old.items }
-    ensures room { vec_capacity stubs.new ≡ vec_capacity stubs.old }
-    ensures lines { Gives (L.seen lines.old) (L.seen lines.new) (reported t place len stubs.old.items) }
-{
-    report(stubs, place, len, t, lines);
-    stubs.retain(|stub| !stub.meets(place, len));
-}
-
-/// Puts a stub in its place among those that it does not overlap. There is room for it.
-fn put_in_order(stubs: &mut Vec<Stub>, stub: Stub)
-    requires room { vec_len stubs.old < vec_capacity stubs.old }
-    requires order { IsInOrder stubs.old.items }
-    requires apart { All (λ other. meets stub.at 8 other ≡ false) stubs.old.items }
-    ensures stubs { stubs.new.items ≡ with_stub stub stubs.old.items }
-    ensures room { vec_capacity stubs.old ≤ vec_capacity stubs.new }
-{
-    let index = count_before(stubs, stub.at);
-    let _ = stubs.insert(index, stub);
-}
-
-/// The first stub of the library of this name and major version.
-fn find_of<'a>(stubs: &'a [Stub], name: &[u8; 8], major: u8) -> Option<&'a Stub>
-    ensures { option_copied result ≡ find (is_of name.now major) stubs.now }
-{
-    stubs.iter().find(|stub| stub.is_of(name, major))
-}
 
 /// The live stubs in the order of their places, no two of which overlap.
 #[derive(Drop)]
@@ -100,61 +24,65 @@ impl Model for LiveStubs {
     ghost use Rattle.std.specs.Prelude.{List, ◌≤◌, All};
     ghost use Rattle.std.specs.Vec.{vec_capacity};
     ghost use Rattle.iop_stubs.specs.declared.live_stub.Stub.{Stub as Live};
+    ghost use Rattle.iop_stubs.specs.declared.live_stub.TheConstants.Stub.{MOST_LIVE};
     ghost use Rattle.iop_stubs.specs.Binding.{IsInOrder, IsWithin};
 
     ghost Value = { List Live };
 
     ghost view = { λ live. live.stubs.items };
 
-    ghost invariant = { λ live. IsInOrder live.stubs.items × All (IsWithin live.low live.high) live.stubs.items × (65536 ≤ vec_capacity live.stubs) };
+    ghost invariant = { λ live. IsInOrder live.stubs.items
+        × All (IsWithin live.low live.high) live.stubs.items
+        × (MOST_LIVE ≤ vec_capacity live.stubs) };
 }
 
 impl LiveStubs {
-    /// No stub, and room for all that can be live.
+    /// Makes the list of no stub, with room for all that can be live.
     pub(crate) fn new(alloc: Global) -> Result<Self, AllocError>
         ensures { IfOk result (λ live. live ≡ []) }
     {
         Ok(LiveStubs {
-            stubs: Vec::with_capacity(alloc, ROOM as usize)?,
+            stubs: Vec::with_capacity(alloc, Stub::MOST_LIVE as usize)?,
             low: u32::MAX,
             high: 0,
         })
     }
 
-    /// How many there are.
+    /// Counts them.
     pub(crate) fn len(&self) -> usize
         ensures { result ≡ length self.now }
     {
         self.stubs.len()
     }
 
-    /// The stub at a place.
+    /// Finds the stub at a place.
     pub(crate) fn at(&self, place: u32) -> Option<Stub>
         ensures { result ≡ find (stands_at place) self.now }
     {
         find_at(&self.stubs, place)
     }
 
-    /// Whether there is one of the library of this name and major version.
+    /// Tells whether there is one of the library of this name and major version.
     pub(crate) fn has_of(&self, name: &[u8; 8], major: u8) -> bool
         ensures { result ≡ is_some (find (is_of name.now major) self.now) }
     {
         find_of(&self.stubs, name, major).is_some()
     }
 
-    /// Whether the range meets one. It asks few of them, and mostly none.
+    /// Tells whether the range meets one. It asks one of them at most.
     fn is_met(&self, place: u32, len: u32) -> bool
-        requires { place + len ≤ 0x200000 }
+        requires { place + len < 2 ^ 32 }
         ensures { result ≡ list_any (meets place len) self.now }
     {
         place < self.high && self.low < place + len && meets_one(&self.stubs, place, len)
     }
 
-    /// Tells of each that the range meets, by a line of moment `t`, and takes it out.
+    /// Takes out each that the range meets, and gives its line of moment `t`.
     pub(crate) fn end_in<L: Lines>(&mut self, place: u32, len: u32, t: u64, lines: &mut L)
-        requires { place + len ≤ 0x200000 }
-        ensures live { self.new ≡ kept place len self.old }
-        ensures lines { Gives (L.seen lines.old) (L.seen lines.new) (reported t place len self.old) }
+        requires { place + len < 2 ^ 32 }
+        ensures live { self.new ≡ remaining_stubs place len self.old }
+        ensures lines { Gives (L.output lines.old) (L.output lines.new)
+            (stub_lines t place len self.old) }
     {
         if self.is_met(place, len) {
             take_out(&mut self.stubs, place, len, t, lines);
@@ -163,13 +91,89 @@ impl LiveStubs {
 
     /// Puts one more among them. It overlaps none, and there is room for it.
     pub(crate) fn insert(&mut self, stub: Stub)
-        requires room { length self.old < 65536 }
-        requires inside { stub.at + 8 ≤ 0x200000 }
-        requires apart { All (λ other. meets stub.at 8 other ≡ false) self.old }
+        requires room { length self.old < MOST_LIVE }
+        requires inside { stub.at + SIZE < 2 ^ 32 }
+        requires apart { All (λ other. meets stub.at SIZE other ≡ false) self.old }
         ensures { self.new ≡ with_stub stub self.old }
     {
         put_in_order(&mut self.stubs, stub);
         self.low = self.low.min(stub.at);
-        self.high = self.high.max(stub.at + SIZE);
+        self.high = self.high.max(stub.at + Stub::SIZE);
     }
+}
+
+/// Counts the stubs that stand before a place.
+fn count_before(stubs: &[Stub], place: u32) -> usize
+    requires { IsInOrder stubs.now }
+    ensures { result ≡ prefix_len (stands_before place) stubs.now }
+{
+    stubs.partition_point(|stub| stub.at < place)
+}
+
+/// Finds the first stub that stands at a place or behind it.
+fn first_from(stubs: &[Stub], place: u32) -> Option<&Stub>
+    requires { IsInOrder stubs.now }
+    ensures { option_copied result ≡ find (stands_from place) stubs.now }
+{
+    stubs.get(count_before(stubs, place))
+}
+
+/// Finds the stub at a place.
+fn find_at(stubs: &[Stub], place: u32) -> Option<Stub>
+    requires { IsInOrder stubs.now }
+    ensures { result ≡ find (stands_at place) stubs.now }
+{
+    let stub = first_from(stubs, place)?;
+    (stub.at == place).then_some(*stub)
+}
+
+/// Tells whether the range meets a stub. The first that ends behind the range's place is met, or
+/// none is.
+fn meets_one(stubs: &[Stub], place: u32, len: u32) -> bool
+    requires { IsInOrder stubs.now }
+    ensures { result ≡ list_any (meets place len) stubs.now }
+{
+    match first_from(stubs, place.saturating_sub(Stub::SIZE - 1)) {
+        Some(stub) => stub.meets(place, len),
+        None => false,
+    }
+}
+
+/// Gives a line for each stub that the range meets.
+fn give_lines<L: Lines>(stubs: &[Stub], place: u32, len: u32, t: u64, lines: &mut L)
+    ensures { Gives (L.output lines.old) (L.output lines.new) (stub_lines t place len stubs.now) }
+{
+    for stub in stubs {
+        stub.give_line(place, len, t, lines);
+    }
+}
+
+/// Takes out each stub that the range meets, and gives its line.
+fn take_out<L: Lines>(stubs: &mut Vec<Stub>, place: u32, len: u32, t: u64, lines: &mut L)
+    ensures stubs { stubs.new.items ≡ remaining_stubs place len stubs.old.items }
+    ensures room { vec_capacity stubs.new ≡ vec_capacity stubs.old }
+    ensures lines { Gives (L.output lines.old) (L.output lines.new)
+        (stub_lines t place len stubs.old.items) }
+{
+    give_lines(stubs, place, len, t, lines);
+    stubs.retain(|stub| !stub.meets(place, len));
+}
+
+/// Puts a stub in its place among those that it does not overlap. There is room for it.
+fn put_in_order(stubs: &mut Vec<Stub>, stub: Stub)
+    requires room { vec_len stubs.old < vec_capacity stubs.old }
+    requires order { IsInOrder stubs.old.items }
+    requires apart { All (λ other. meets stub.at SIZE other ≡ false) stubs.old.items }
+    ensures stubs { stubs.new.items ≡ with_stub stub stubs.old.items }
+    ensures room { vec_capacity stubs.old ≤ vec_capacity stubs.new }
+{
+    let index = count_before(stubs, stub.at);
+    let _ = stubs.insert(index, stub);
+}
+
+/// Finds the first stub of the library of this name and major version.
+fn find_of<'a>(stubs: &'a [Stub], name: &[u8; 8], major: u8) -> Option<&'a Stub>
+    ensures { option_copied result ≡ find (is_of name.now major) stubs.now }
+{
+    stubs.iter().find(|stub| stub.is_of(name, major))
 }

@@ -17,7 +17,14 @@ struct Told {
 impl Lines for Told {
     ghost use Rattle.std.specs.Prelude.{None, false, []};
 
-    ghost seen = { λ told. record { console = None; trace = None; failed = false; console_faults = 0; trace_faults = 0; names = [] } };
+    ghost output = { λ told. record {
+      console = None;
+      trace = None;
+      failed = false;
+      console_faults = 0;
+      trace_faults = 0;
+      names = [];
+    } };
 
     fn line(&mut self, t: u64, line: Line) {
         if let Line::Stub(at) = line {
@@ -44,6 +51,7 @@ fn bind_first(rt: &impl Abort, guest: &mut Guest, stub: Stub)
     requires target_aligned { stub.target % 4 ≡ 0 }
     requires target_near { stub.target < 2 ^ 28 }
 {
+    assert_eq!(rt; guest.ram().size(), 0x20_0000);
     assert_eq!(rt; guest.room(), 65_536);
     assert_eq!(rt; guest.ram().load32(stub.at), Ok(0x03E0_0008));
     assert_eq!(rt;
@@ -55,7 +63,7 @@ fn bind_first(rt: &impl Abort, guest: &mut Guest, stub: Stub)
 
 /// Memory in which the stub is bound.
 fn bound(rt: &impl Abort, alloc: Global, told: &mut Told) -> Result<Guest, Fail> {
-    let mut guest = Guest::new(alloc)?;
+    let mut guest = Guest::new(alloc, 0x20_0000)?;
     for (at, word) in [(0x1_0014, 0x03E0_0008), (0x8001_0018, 0x2400_000E)] {
         assert_eq!(rt; guest.store(at, Width::Word, word, 0, told), Ok(()));
     }

@@ -1,61 +1,71 @@
 ghost use Rattle.std.specs.Prelude.{◌≡◌, ◌+◌, ◌<◌, ◌%◌, ◌==◌, ℕ, IfOk, MatchOption, option_map, unwrap_or, length, [], ◌∷◌};
-ghost use Rattle.std.specs.List.{position};
 ghost use Rattle.iop_base.specs.Places.{phys};
-ghost use Rattle.iop_sysmem.specs.Memory.{IsFree, HasNoFree, IsKept, IsLeastFree, IsGreatestFree, IsMostFree, Allocates, with_block, freed, index_holding, IsTaken, holder, used_bytes};
+ghost use Rattle.iop_base.specs.declared.blocks.TheConstants.{BLOCK_UNIT};
+ghost use Rattle.iop_sysmem.specs.BlockMap.{AreBlocks, IsBlockSize, IsFree, HasNoFree, IsLeastFree, IsGreatestFree, IsNamedFree, IsMostFree, ModeTakes, ModeTakesNone, Allocates, with_block, freeing, index_at, index_holding, holder, used_bytes};
+ghost use Rattle.iop_sysmem.specs.declared.blocks.TheConstants.{KERNEL, NOWHERE};
 
-use iop_base::Code;
+use crate::block::Block;
+use iop_base::{BLOCK_UNIT, Code, block_len};
 use std::alloc::{AllocError, Global};
 use std::marker::Model;
 
-/// Each block starts at a multiple of so many bytes, and its size is one.
-const UNIT: u32 = 256;
-
-/// The kernel's block, which is never freed: its start and its size.
-const KERNEL: (u32, u32) = (0, 0x1_0000);
+/// The kernel's block, which is never freed.
+pub const KERNEL: Block = Block {
+    start: 0,
+    size: 0x1_0000,
+};
 
 /// What the queries answer where no block is.
-const NOWHERE: u32 = 0xFFFF_FFFF;
+pub const NOWHERE: u32 = 0xFFFF_FFFF;
 
 /// What `free` answers where no block starts that may be freed.
-const NO_BLOCK: Code = Code(-1);
+pub const NO_BLOCK: Code = Code(-1);
 
-/// Which ranges of RAM are used. Each is a block: it starts at a multiple of 256 bytes and its size is a
-/// multiple of 256. No two meet. The first 0x10000 bytes are the kernel's block and always used.
+/// The used ranges of RAM. Each is a block: its start and its size are multiples of `BLOCK_UNIT`.
+/// No two meet. `KERNEL` is the first and always used.
 ///
 /// Addresses name the same places through KUSEG, KSEG0 and KSEG1; one outside RAM is in no block.
 #[derive(Drop)]
 pub struct Blocks {
     size: u32,
-    /// Start and size of each used range, in order of start. There is room for all that can stand.
-    used: Vec<(u32, u32)>,
+    /// The blocks in the order of their starts. There is room for all that can stand.
+    used: Vec<Block>,
 }
 
 impl Model for Blocks {
-    ghost use Rattle.std.specs.Prelude.{◌<◌, ◌≤◌, ◌*◌};
+    ghost use Rattle.std.specs.Prelude.{◌<◌, ◌≤◌, ◌*◌, ◌^◌};
     ghost use Rattle.std.specs.Vec.{vec_capacity};
-    ghost use Rattle.iop_sysmem.specs.Memory.{Memory, IsKept};
+    ghost use Rattle.iop_base.specs.declared.blocks.TheConstants.{BLOCK_UNIT};
+    ghost use Rattle.iop_sysmem.specs.BlockMap.{BlockMap, AreBlocks};
 
-    ghost Value = { Memory };
+    ghost Value = { BlockMap };
 
     ghost view = { λ b. record { size = b.size; used = b.used.items } };
 
-    ghost invariant = { λ b. IsKept (record { size = b.size; used = b.used.items }) × (b.size < 0x100000000) × (b.size ≤ 256 * vec_capacity b.used) };
+    ghost invariant = { λ b. AreBlocks (record { size = b.size; used = b.used.items })
+        × (b.size < 2 ^ 32)
+        × (b.size ≤ BLOCK_UNIT * vec_capacity b.used) };
 }
 
 impl Blocks {
-    /// RAM of this many bytes, a multiple of 256 and greater than 0x10000, with the kernel's block alone.
+    /// Makes the blocks of a RAM of `size` bytes, a multiple of `BLOCK_UNIT` greater than
+    /// `KERNEL.size`: the kernel's alone is used. It takes all the host memory that will be needed.
     pub fn new(alloc: Global, size: u32) -> Result<Self, AllocError>
-        requires { (size % 256 ≡ 0) × (0x10000 < size) }
-        ensures { IfOk result (λ blocks. blocks ≡ record { size = size; used = (0, 0x10000) ∷ [] }) }
+        requires units { size % BLOCK_UNIT ≡ 0 }
+        requires kernel { KERNEL.size < size }
+        ensures map { IfOk result (λ blocks. blocks ≡ record { size = size; used = KERNEL ∷ [] }) }
+        ensures blocks { IfOk result AreBlocks }
     {
-        let mut used = Vec::with_capacity(alloc, (size / UNIT) as usize)?;
+        let mut used = Vec::with_capacity(alloc, (size / BLOCK_UNIT) as usize)?;
         used.push_reserved(KERNEL);
         Ok(Blocks { size, used })
     }
 
-    /// The physical place of an address. None outside RAM.
+    /// Finds the physical place of an address. None outside RAM. It is not `iop_ram`'s, which is
+    /// for a RAM of 2 MiB or 8 MiB alone: blocks are made of any size that `new` takes.
     fn physical(&self, at: u32) -> Option<u32>
-        ensures { result ≡ phys self.now.size at }
+        ensures place { result ≡ phys self.now.size at }
+        ensures blocks { AreBlocks self.now }
     {
         let place = at % 0x2000_0000;
         match at / 0x2000_0000 {
@@ -64,12 +74,12 @@ impl Blocks {
         }
     }
 
-    /// The least place where so many bytes are free.
+    /// Finds the least place where so many bytes are free.
     fn first_free(&self, len: u32) -> Option<u32>
-        ensures { MatchOption result (HasNoFree self.now len) (λ place. IsLeastFree self.now len place) }
+        ensures { MatchOption result (HasNoFree self.now len) (IsLeastFree self.now len) }
     {
         let mut start = 0;
-        for &(next, size) in &self.used {
+        for &Block { start: next, size } in &self.used {
             if len <= next - start {
                 return Some(start);
             }
@@ -78,14 +88,14 @@ impl Blocks {
         (len <= self.size - start).then_some(start)
     }
 
-    /// The greatest place where so many bytes are free.
+    /// Finds the greatest place where so many bytes are free.
     fn last_free(&self, len: u32) -> Option<u32>
-        requires { len % 256 ≡ 0 }
-        ensures { MatchOption result (HasNoFree self.now len) (λ place. IsGreatestFree self.now len place) }
+        requires { len % BLOCK_UNIT ≡ 0 }
+        ensures { MatchOption result (HasNoFree self.now len) (IsGreatestFree self.now len) }
     {
         let mut last = None;
         let mut start = 0;
-        for &(next, size) in &self.used {
+        for &Block { start: next, size } in &self.used {
             if len <= next - start {
                 last = Some(next - len);
             }
@@ -97,15 +107,17 @@ impl Blocks {
         last
     }
 
-    /// The place that an address names, if so many bytes are free there and it is a multiple of 256.
+    /// Finds the place that an address names. None where so many bytes are not free there, or it is
+    /// no multiple of `BLOCK_UNIT`.
     fn named_free(&self, at: u32, len: u32) -> Option<u32>
-        ensures { MatchOption result ((place : ℕ) → phys self.now.size at ≡ Some place → IsFree self.now len place → ⊥) (λ place. (phys self.now.size at ≡ Some place) × IsFree self.now len place) }
+        ensures { MatchOption result ((place : ℕ) → IsNamedFree self.now len at place → ⊥)
+            (IsNamedFree self.now len at) }
     {
         let place = self.physical(at)?;
-        if place % UNIT != 0 || len > self.size - place {
+        if place % BLOCK_UNIT != 0 || len > self.size - place {
             return None;
         }
-        for &(start, size) in &self.used {
+        for &Block { start, size } in &self.used {
             if start < place + len && place < start + size {
                 return None;
             }
@@ -115,20 +127,29 @@ impl Blocks {
 
     /// Makes a free range a block.
     fn put(&mut self, place: u32, len: u32)
-        requires { IsFree self.old len place × (len % 256 ≡ 0) × (0 < len) }
-        ensures { self.new ≡ with_block self.old place len }
+        requires free { IsFree self.old len place }
+        requires size { IsBlockSize len }
+        ensures map { self.new ≡ with_block self.old place len }
+        ensures blocks { AreBlocks self.new }
     {
         let mut index = 0;
-        while index < self.used.len() && self.used[index].0 < place {
+        while index < self.used.len() && self.used[index].start < place {
             index += 1;
         }
-        let _ = self.used.insert(index, (place, len));
+        let _ = self.used.insert(
+            index,
+            Block {
+                start: place,
+                size: len,
+            },
+        );
     }
 
-    /// The place that a mode takes.
+    /// Finds the place that a mode takes.
     fn place_for(&self, mode: u32, len: u32, at: u32) -> Option<u32>
-        requires { len % 256 ≡ 0 }
-        ensures { MatchOption result ((place : ℕ) → IsTaken self.now mode len at place → ⊥) (λ place. IsTaken self.now mode len at place) }
+        requires { len % BLOCK_UNIT ≡ 0 }
+        ensures { MatchOption result (ModeTakesNone self.now mode len at)
+            (ModeTakes self.now mode len at) }
     {
         match mode {
             0 => self.first_free(len),
@@ -138,18 +159,20 @@ impl Blocks {
         }
     }
 
-    /// Makes a block of `size` bytes, rounded up to a multiple of 256, and answers its start. Mode 0 takes
+    /// Makes a block of `block_len(size)` bytes, and answers its start. Mode 0 takes
     /// the least free place, mode 1 the greatest, mode 2 the place that the address `at` names.
     ///
-    /// Answers 0, and changes nothing, exactly where the mode is not 0 to 2, the size is 0, or no place
-    /// fits: in mode 2 also where the place is not a multiple of 256.
+    /// Answers 0, and changes nothing, exactly where the mode is not 0 to 2, the size is 0, or no
+    /// place fits: in mode 2 also where the place is not a multiple of `BLOCK_UNIT`.
     pub fn alloc(&mut self, mode: u32, size: u32, at: u32) -> u32
-        ensures { Allocates self.old self.new mode size at result }
+        ensures map { Allocates self.old self.new mode size at result }
+        ensures was_blocks { AreBlocks self.old }
+        ensures blocks { AreBlocks self.new }
     {
         if size == 0 || size > self.size {
             return 0;
         }
-        let len = size.div_ceil(UNIT) * UNIT;
+        let len = block_len(size);
         let Some(place) = self.place_for(mode, len, at) else {
             return 0;
         };
@@ -157,18 +180,20 @@ impl Blocks {
         place
     }
 
-    /// The index of the block that starts at a place.
+    /// Finds the index of the block that starts at a place.
     fn index_of(&self, place: u32) -> Option<usize>
-        ensures { result ≡ position (λ block. block.0 == place) self.now.used }
+        ensures { result ≡ index_at self.now place }
     {
-        self.used.iter().position(|block| block.0 == place)
+        self.used.iter().position(|block| block.start == place)
     }
 
-    /// Frees the block that starts at this address. -1, and no change, exactly where none starts there or
-    /// it is the kernel's.
+    /// Frees the block that starts at this address. `NO_BLOCK`, and no change, exactly where none
+    /// starts there or it is the kernel's.
     pub fn free(&mut self, at: u32) -> Code
-        ensures code { result ≡ (freed self.old at).0 }
-        ensures memory { self.new ≡ (freed self.old at).1 }
+        ensures code { result ≡ (freeing self.old at).0 }
+        ensures map { self.new ≡ (freeing self.old at).1 }
+        ensures was_blocks { AreBlocks self.old }
+        ensures blocks { AreBlocks self.new }
     {
         let Some(place) = self.physical(at) else {
             return NO_BLOCK;
@@ -182,70 +207,76 @@ impl Blocks {
         }
     }
 
-    /// How many bytes RAM has.
+    /// Tells how many bytes RAM has.
     pub fn size(&self) -> u32
         ensures value { result ≡ self.now.size }
-        ensures kept { IsKept self.now }
+        ensures blocks { AreBlocks self.now }
     {
         self.size
     }
 
-    /// The size in bytes of the greatest free range: 0 where none is free.
+    /// Tells the size in bytes of the greatest free range: 0 where none is free.
     pub fn max_free(&self) -> u32
-        ensures { IsMostFree self.now result }
+        ensures most { IsMostFree self.now result }
+        ensures blocks { AreBlocks self.now }
     {
         let mut most = 0;
         let mut start = 0;
-        for &(next, size) in &self.used {
+        for &Block { start: next, size } in &self.used {
             most = most.max(next - start);
             start = next + size;
         }
         most.max(self.size - start)
     }
 
-    /// How many bytes are free in all.
+    /// Counts the bytes that are free in all.
     pub fn total_free(&self) -> u32
-        ensures { result + used_bytes self.now.used ≡ self.now.size }
+        ensures free { result + used_bytes self.now.used ≡ self.now.size }
+        ensures blocks { AreBlocks self.now }
     {
         let mut free = 0;
         let mut start = 0;
-        for &(next, size) in &self.used {
+        for &Block { start: next, size } in &self.used {
             free += next - start;
             start = next + size;
         }
         free + (self.size - start)
     }
 
-    /// The index of the block that holds a place.
+    /// Finds the index of the block that holds a place.
     fn index_holding(&self, place: u32) -> Option<usize>
         ensures { result ≡ index_holding self.now place }
     {
-        self.used
-            .iter()
-            .position(|block| block.0 <= place && place - block.0 < block.1)
+        self.used.iter().position(|block| block.start <= place && place - block.start < block.size)
     }
 
-    /// The block that holds the place of an address.
-    fn holder(&self, at: u32) -> Option<(u32, u32)>
-        ensures { result ≡ holder self.now at }
+    /// Finds the block that holds the place of an address.
+    fn holder(&self, at: u32) -> Option<Block>
+        ensures block { result ≡ holder self.now at }
+        ensures blocks { AreBlocks self.now }
     {
         let place = self.physical(at)?;
         let index = self.index_holding(place)?;
         self.used.get(index).copied()
     }
 
-    /// The start of the block that holds this address: 0xFFFFFFFF where none does, in free memory too.
+    /// Tells the start of the block that holds this address: `NOWHERE` where none does, in free
+    /// memory too.
     pub fn top(&self, at: u32) -> u32
-        ensures { result ≡ unwrap_or (option_map (λ block. block.0) (holder self.now at)) 0xFFFFFFFF }
+        ensures start { result
+            ≡ unwrap_or (option_map (λ block. block.start) (holder self.now at)) NOWHERE }
+        ensures blocks { AreBlocks self.now }
     {
-        self.holder(at).map_or(NOWHERE, |block| block.0)
+        self.holder(at).map_or(NOWHERE, |block| block.start)
     }
 
-    /// The size in bytes of the block that holds this address: 0xFFFFFFFF where none does, in free memory
-    /// too.
+    /// Tells the size in bytes of the block that holds this address: `NOWHERE` where none does, in
+    /// free memory too.
     pub fn block_size(&self, at: u32) -> u32
-        ensures { result ≡ unwrap_or (option_map (λ block. block.1) (holder self.now at)) 0xFFFFFFFF }
+        ensures size { result
+            ≡ unwrap_or (option_map (λ block. block.size) (holder self.now at)) NOWHERE }
+        ensures blocks { AreBlocks self.now }
     {
-        self.holder(at).map_or(NOWHERE, |block| block.1)
+        self.holder(at).map_or(NOWHERE, |block| block.size)
     }
 }

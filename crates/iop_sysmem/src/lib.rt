@@ -1,8 +1,11 @@
-//! The blocks of the machine's memory: which ranges of RAM are used, and the calls that give and free them.
+//! The blocks of the machine's memory: which ranges of RAM are used, and the calls that give and
+//! free them.
 #![tactic(auto)]
 
+mod block;
 mod blocks;
 #[cfg(test)]
 mod tests;
 
-pub use blocks::Blocks;
+pub use block::Block;
+pub use blocks::{Blocks, KERNEL, NO_BLOCK, NOWHERE};

@@ -1,4 +1,5 @@
-//! Texts of bounded room, and what is appended to them: bytes, decimal numbers and hexadecimal digits.
+//! Texts of bounded room, and what is appended to them: bytes, decimal numbers and hexadecimal
+//! digits.
 #![tactic(auto)]
 
 mod appending;

@@ -1,2 +1,2 @@
-pub mod SendingLemmas
+pub mod Sending
 pub mod Leaving

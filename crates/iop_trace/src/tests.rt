@@ -2,12 +2,12 @@
 
 ghost use Rattle.std.specs.Prelude.{[], ◌∷◌};
 ghost use Rattle.iop_base.specs.Piece.{Traced};
-ghost use Rattle.iop_base.specs.Seen.{Gives};
+ghost use Rattle.iop_base.specs.Output.{Gives};
 ghost use Rattle.iop_base.specs.Text.{line_bytes};
 ghost use Rattle.iop_trace.specs.Outs.{sinks, Leaves};
 
-use crate::{Out, line_text, send};
-use iop_base::{GuestFault, Kept, Line, Lines, Stop};
+use crate::{Out, line_text};
+use iop_base::{Code, GuestFault, Kept, Line, Lines, Stop};
 use iop_ports::{Failed, Sink};
 use std::alloc::Global;
 use std::test::Fail;
@@ -33,9 +33,7 @@ impl Page {
 impl Sink for Page {
     ghost use Rattle.std.specs.Prelude.{Some};
 
-    ghost taken = { λ page. Some page.bytes.items };
-
-    ghost faults = { λ page. page.faults };
+    ghost told = { λ page. record { taken = Some page.bytes.items; faults = page.faults } };
 
     fn write(&mut self, piece: &[u8]) -> Result<usize, Failed> {
         if piece.is_empty() {
@@ -51,17 +49,15 @@ impl Sink for Page {
 
 /// Gives a line to whatever takes lines.
 fn give_line<L: Lines>(lines: &mut L, t: u64, line: Line)
-    ensures { Gives (L.seen lines.old) (L.seen lines.new) (Traced (line_bytes t line) ∷ []) }
+    ensures { Gives (L.output lines.old) (L.output lines.new) (Traced (line_bytes t line) ∷ []) }
 {
     lines.line(t, line);
 }
 
 /// Gives one line to two sinks, and says whether a write failed.
 fn one_line<C: Sink, T: Sink>(console: &mut C, trace: &mut T, t: u64, line: Line) -> bool
-    ensures { Leaves result
-        (sinks C.taken C.faults T.taken T.faults console.old trace.old)
-        (sinks C.taken C.faults T.taken T.faults console.new trace.new)
-        (Traced (line_bytes t line) ∷ []) }
+    ensures { Leaves result (sinks C.told T.told console.old trace.old)
+        (sinks C.told T.told console.new trace.new) (Traced (line_bytes t line) ∷ []) }
 {
     let mut out = Out::new(console, trace);
     give_line(&mut out, t, line);
@@ -72,15 +68,12 @@ fn one_line<C: Sink, T: Sink>(console: &mut C, trace: &mut T, t: u64, line: Line
 fn writes_each_line(rt: HostRuntime) -> Result<(), Fail> {
     let loaded = Line::Load {
         k: 1,
-        code: 0,
         base: 0x10000,
         len: 8,
     };
-    let refused = Line::Load {
+    let refused = Line::Refused {
         k: 1,
-        code: -201,
-        base: 0,
-        len: 0,
+        code: Code::ILLEGAL_OBJECT,
     };
     let resident = Line::Returned {
         k: 1,
@@ -131,7 +124,6 @@ fn writes_each_line(rt: HostRuntime) -> Result<(), Fail> {
 fn stops_at_a_failing_write(rt: HostRuntime) -> Result<(), Fail> {
     let mut console = Page::new(rt.alloc(), 100);
     let mut trace = Page::new(rt.alloc(), 12);
-    assert!(rt; send(&mut console, b"<"));
     assert!(rt; !one_line(&mut console, &mut trace, 0, Line::Run(1)));
     let mut out = Out::new(&mut console, &mut trace);
     out.text(b"boot");
@@ -141,7 +133,7 @@ fn stops_at_a_failing_write(rt: HostRuntime) -> Result<(), Fail> {
     out.text(b"more");
     out.line(43, Line::Irq(0));
     assert!(rt; out.failed());
-    assert_eq!(rt; console.bytes.as_slice(), b"<boot".as_slice());
+    assert_eq!(rt; console.bytes.as_slice(), b"boot".as_slice());
     assert_eq!(rt; trace.bytes.as_slice(), b"0 run 1\n42 l".as_slice());
     assert_eq!(rt; trace.faults, 1);
     Ok(())

@@ -2,10 +2,10 @@
 
 ghost use Rattle.std.specs.Prelude.{◌≡◌, ◌+◌, ◌≤◌, ◌<◌, ◌++◌, length};
 ghost use Rattle.arrayvec.specs.ArrayVec.{array_vec_len};
-ghost use Rattle.iop_base.specs.Text.{line_bytes, line_text as event_text, load_text, library_name, hex, kept_name, fault_name};
+ghost use Rattle.iop_base.specs.Text.{line_bytes, line_text as event_text, library_name, kept_name, fault_name};
 
 use arrayvec::ArrayVec;
-use iop_base::{GuestFault, Kept, Line, Stop};
+use iop_base::{Code, GuestFault, KERNEL_LIBRARIES, Kept, Line, Stop, before_zero};
 use iop_text::{append, append_hex, append_number};
 use itoa::Integer;
 
@@ -38,7 +38,8 @@ fn append_event(text: &mut Text, line: Line)
     ensures short { array_vec_len text.new ≤ array_vec_len text.old + EVENT_ROOM }
 {
     match line {
-        Line::Load { k, code, base, len } => append_load(text, k, code, base, len),
+        Line::Load { k, base, len } => append_load(text, k, base, len),
+        Line::Refused { k, code } => append_refused(text, k, code),
         Line::Returned { k, value, kept } => append_returned(text, k, value, kept),
         Line::Run(thread) => append_labelled(text, b"run ", thread),
         Line::Irq(number) => append_labelled(text, b"line ", number),
@@ -50,30 +51,25 @@ fn append_event(text: &mut Text, line: Line)
     }
 }
 
-fn append_load(text: &mut Text, k: u32, code: i32, base: u32, len: u32)
+fn append_load(text: &mut Text, k: u32, base: u32, len: u32)
     requires { array_vec_len text.old + EVENT_ROOM ≤ LINE_ROOM }
-    ensures bytes { text.new.items ≡ text.old.items ++ event_text (Line.Load k code base len) }
+    ensures bytes { text.new.items ≡ text.old.items ++ event_text (Line.Load k base len) }
     ensures short { array_vec_len text.new ≤ array_vec_len text.old + EVENT_ROOM }
 {
     append_labelled(text, b"load ", k);
+    append(text, b" ok ");
+    append_hex(text, base);
     append(text, b" ");
-    append_load_result(text, code, base, len);
+    append_hex(text, len);
 }
 
-/// Appends where a module stands and its length, or the code of its refusal.
-fn append_load_result(text: &mut Text, code: i32, base: u32, len: u32)
-    requires { array_vec_len text.old + 20 ≤ LINE_ROOM }
-    ensures bytes { text.new.items ≡ text.old.items ++ load_text code base len }
-    ensures short { array_vec_len text.new ≤ array_vec_len text.old + 20 }
+fn append_refused(text: &mut Text, k: u32, code: Code)
+    requires { array_vec_len text.old + EVENT_ROOM ≤ LINE_ROOM }
+    ensures bytes { text.new.items ≡ text.old.items ++ event_text (Line.Refused k code) }
+    ensures short { array_vec_len text.new ≤ array_vec_len text.old + EVENT_ROOM }
 {
-    if code == 0 {
-        append(text, b"ok ");
-        append_hex(text, base);
-        append(text, b" ");
-        append_hex(text, len);
-    } else {
-        append_number(text, code);
-    }
+    append_labelled(text, b"load ", k);
+    append_labelled(text, b" ", code.0);
 }
 
 fn append_returned(text: &mut Text, k: u32, value: u32, kept: Kept)
@@ -113,16 +109,9 @@ fn append_library(text: &mut Text, lib: u32)
     ensures bytes { text.new.items ≡ text.old.items ++ library_name lib }
     ensures short { array_vec_len text.new ≤ array_vec_len text.old + 10 }
 {
-    match lib {
-        0 => append(text, b"loadcore"),
-        1 => append(text, b"sysmem"),
-        2 => append(text, b"intrman"),
-        3 => append(text, b"thbase"),
-        4 => append(text, b"thsemap"),
-        5 => append(text, b"thevent"),
-        6 => append(text, b"thmsgbx"),
-        7 => append(text, b"stdio"),
-        _ => append_number(text, lib),
+    match KERNEL_LIBRARIES.get(lib as usize) {
+        Some(name) => append(text, before_zero(name)),
+        None => append_number(text, lib),
     }
 }
 
@@ -178,7 +167,8 @@ fn fault_word(kind: GuestFault) -> &'static [u8]
 fn append_labelled<I: Integer>(text: &mut Text, label: &[u8], number: I)
     requires { array_vec_len text.old + length label.now + I.MAX_STR_LEN ≤ LINE_ROOM }
     ensures bytes { text.new.items ≡ text.old.items ++ (label.now ++ I.text number) }
-    ensures short { array_vec_len text.new ≤ array_vec_len text.old + length label.now + I.MAX_STR_LEN }
+    ensures short { array_vec_len text.new
+        ≤ array_vec_len text.old + length label.now + I.MAX_STR_LEN }
 {
     append(text, label);
     append_number(text, number);

@@ -2,10 +2,9 @@
 
 ghost use Rattle.std.specs.Prelude.{◌≡◌, false};
 
-use crate::sending::send;
 use crate::text::line_text;
 use iop_base::{Line, Lines};
-use iop_ports::Sink;
+use iop_ports::{Sink, send};
 
 /// Takes lines for one sink, the trace, and texts for another, the console, until a write fails.
 /// From then on it writes nothing more, on either.
@@ -43,9 +42,9 @@ impl<'a, C: Sink, T: Sink> Out<'a, C, T> {
 }
 
 impl<'a, C: Sink, T: Sink> Lines for Out<'a, C, T> {
-    ghost use Rattle.iop_trace.specs.Outs.{out_seen};
+    ghost use Rattle.iop_trace.specs.Outs.{output_of};
 
-    ghost seen = { out_seen C.taken C.faults T.taken T.faults };
+    ghost output = { output_of C.told T.told };
 
     fn line(&mut self, t: u64, line: Line) {
         if !self.failed {

@@ -1,5 +1,5 @@
--- The headers of an ELF file (ELF TIS 1.2) as records of the fields that the rules of an IRX file name.
--- Numbers are little-endian.
+-- The headers of an ELF file (ELF TIS 1.2) as records of the fields that the rules of an IRX file
+-- name. Numbers are little-endian.
 use Rattle.std.specs.Prelude.{ℕ, ◌+◌, ◌*◌, ◌==◌, Bool, List, map, filter}
 use Rattle.std.specs.List.{range_with_len}
 use Rattle.iop_base.specs.Numbers.{half_at, word_at}

@@ -1,10 +1,11 @@
--- What an IRX file consists of: each part is the file's bytes at the place that a header names. That
--- relocation entries of a section which takes no memory are not applied is this project's own profile.
-use Rattle.std.specs.Prelude.{◌≡◌, ℕ, ◌/◌, ◌%◌, ◌^◌, ◌<◌, ◌≤◌, ◌==◌, Bool, ◌||◌, if◌then◌else◌, None, Result, List, [], length, map, filter, drop, All}
-use Rattle.iop_base.specs.declared.outcomes.Illegal.{Illegal}
+-- What an IRX file consists of: each part is the file's bytes at the place that a header names.
+-- That relocation entries of a section which takes no memory are not applied is this project's own
+-- profile.
+use Rattle.std.specs.Prelude.{◌≡◌, ℕ, ◌/◌, ◌%◌, ◌^◌, ◌<◌, ◌≤◌, ◌==◌, Bool, ◌||◌, if◌then◌else◌, Result, List, [], length, map, filter, drop, All}
+use Rattle.iop_base.specs.declared.illegal.Illegal.{Illegal}
 use Rattle.irx_info.specs.Information.{Information}
 use Rattle.irx_elf.specs.Headers.{section_number, sections, is_relocations, relocation_sections}
-use Rattle.irx_elf.specs.Rules.{bytes_at, image_segment, image_length, module_information, section_rules, first_unmet, unmet, answered}
+use Rattle.irx_elf.specs.Rules.{bytes_at, image_segment, image_length, module_information, unmet_rule, ok_unless}
 use Rattle.irx_elf.specs.declared.section.Section.{Section}
 
 pub record Parts : Type 0 where
@@ -26,7 +27,8 @@ is_applied file section = section.target == 0 || takes_memory (section_number fi
 
 -- the entries of a section, none where they are not applied
 abbrev pub list_of : List ℕ → Section → List ℕ
-list_of file section = if is_applied file section then bytes_at file section.offset section.size else []
+list_of file section =
+    if is_applied file section then bytes_at file section.offset section.size else []
 
 -- a list for each section of relocation entries, in order
 unfoldable pub lists_of : List ℕ → List (List ℕ)
@@ -47,20 +49,14 @@ parts_of file =
     }
 
 -- the parts of a file that meets every rule, or the first rule that it does not meet
-abbrev pub parsed : List ℕ → Result Parts Illegal
-parsed file = answered (unmet file) (parts_of file)
+abbrev pub parts_or_rule : List ℕ → Result Parts Illegal
+parts_or_rule file = ok_unless (unmet_rule file) (parts_of file)
 
 -- what holds of the parts of every IRX file
 pub record IsSound (parts : Parts) : Type 0 where
-  pub text : 4 ≤ parts.info.text
-  pub text_within : parts.info.text ≤ length parts.image
+  pub text : 4 ≤ parts.info.text_size
+  pub text_within : parts.info.text_size ≤ length parts.image
   pub image_within : length parts.image ≤ parts.length
   pub short : parts.length < 2 ^ 31
   -- an entry has 8 bytes
   pub entries : All (λ list. length list % 8 ≡ 0) parts.lists
-
--- the section headers of a file lie in it, and meet the rules
-pub record HasLists (file : List ℕ) : Type 0 where
-  pub header : 52 ≤ length file
-  pub short : length file < 2 ^ 32
-  pub met : first_unmet (section_rules file) ≡ None

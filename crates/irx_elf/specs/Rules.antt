@@ -1,9 +1,10 @@
--- The twelve rules of an IRX file (ELF TIS 1.2; the types of the file and of its parts are ps2sdk's). Their
--- order, and the place that stands for each, are this project's own profile. Sums do not wrap.
-use Rattle.std.specs.Prelude.{ℕ, ◌+◌, ◌*◌, ◌%◌, ◌^◌, max, ◌==◌, nat_eq, nat_le, nat_lt, Bool, ◌&&◌, ◌||◌, if◌then◌else◌, is_some, unwrap_or, Option, Some, None, option_and_then, Result, Ok, Err, List, [], ◌∷◌, ◌++◌, length, map, take, drop, find}
+-- The twelve rules of an IRX file (ELF TIS 1.2; the types of the file and of its parts are
+-- ps2sdk's). Their order, and the place that stands for each, are this project's own profile. Sums
+-- do not wrap.
+use Rattle.std.specs.Prelude.{◌≡◌, ℕ, ◌+◌, ◌*◌, ◌%◌, ◌^◌, max, ◌==◌, nat_eq, nat_le, nat_lt, Bool, ◌&&◌, ◌||◌, if◌then◌else◌, is_some, unwrap_or, Option, Some, None, option_and_then, Result, Ok, Err, List, [], ◌∷◌, ◌++◌, length, map, take, drop, find}
 use Rattle.std.specs.List.{starts_with}
-use Rattle.iop_base.specs.declared.outcomes.Illegal.{Illegal}
-use Rattle.irx_info.specs.Information.{Information, information_of, information_with}
+use Rattle.iop_base.specs.declared.illegal.Illegal.{Illegal}
+use Rattle.irx_info.specs.Information.{Information, information_in, information_with}
 use Rattle.irx_elf.specs.Headers.{file_header, segment_at, segments, is_of_kind, relocation_sections}
 use Rattle.irx_elf.specs.declared.file_header.FileHeader.{FileHeader}
 use Rattle.irx_elf.specs.declared.segment.Segment.{Segment}
@@ -23,6 +24,11 @@ abbrev pub first_unmet : List Rule → Option Illegal
 first_unmet [] = None
 first_unmet (rule ∷ rules) =
     if rule.is_met then first_unmet rules else Some (record { rule = rule.number; at = rule.at })
+
+-- an answer is `Err` with the first rule that is not met, and `Ok` where all are met
+abbrev pub TellsUnmet : {A : Type 0} → List Rule → Result A Illegal → Type 0
+TellsUnmet rules (Ok x) = first_unmet rules ≡ None
+TellsUnmet rules (Err illegal) = first_unmet rules ≡ Some illegal
 
 -- the bytes of a range
 abbrev pub bytes_at : List ℕ → ℕ → ℕ → List ℕ
@@ -86,14 +92,16 @@ image_segment file = first_segment file 1
 
 -- the module information in the part of a header
 abbrev pub information_at : List ℕ → Segment → Option Information
-information_at file segment = option_and_then information_of (part_at file segment.offset segment.file_size)
+information_at file segment =
+    option_and_then information_in (part_at file segment.offset segment.file_size)
 
 -- the module's information, zeros where there is none
 abbrev pub module_information : List ℕ → Information
-module_information file = unwrap_or (information_at file (info_segment file)) (information_with [] 0)
+module_information file =
+    unwrap_or (information_at file (info_segment file)) (information_with [] 0)
 
--- rule 8: the part of the header of rule 6 lies in the file and is module information, of 27 bytes at least
--- and with a zero byte from place 26 on
+-- rule 8: the part of the header of rule 6 lies in the file and is module information, of 27 bytes
+-- at least and with a zero byte from place 26 on
 abbrev pub has_information : List ℕ → Segment → Bool
 has_information file segment = is_some (information_at file segment)
 
@@ -103,13 +111,14 @@ has_image file image = lies_in_file file image.offset image.file_size
 
 -- how many bytes the image takes in memory
 abbrev pub image_length : Information → Segment → ℕ
-image_length info image = max image.memory_size (info.text + info.init + info.bss)
+image_length info image = max image.memory_size (info.text_size + info.data_size + info.bss_size)
 
--- rule 10: the text is at least 4 and at most the part of rule 9; the image's length is at least that part
--- and below 2^31
+-- rule 10: the text is at least 4 and at most the part of rule 9; the image's length is at least
+-- that part and below 2^31
 abbrev pub has_sizes : Information → Segment → Bool
 has_sizes info image =
-    nat_le 4 info.text && nat_le info.text image.file_size && nat_le image.file_size (image_length info image)
+    nat_le 4 info.text_size && nat_le info.text_size image.file_size && nat_le image.file_size
+    (image_length info image)
     && nat_lt (image_length info image) (2 ^ 31)
 
 -- rules 6 to 10, of the module information and the image
@@ -128,10 +137,11 @@ segment_rules file =
 abbrev pub has_sections : List ℕ → FileHeader → Bool
 has_sections file header =
     header.section_count == 0
-    || (header.section_size == 40 && nat_le (header.sections + 40 * header.section_count) (length file))
+    || (header.section_size == 40 && nat_le (header.sections + 40 * header.section_count)
+    (length file))
 
--- rule 12: a section of relocation entries lies in the file, its sh_size is a multiple of 8, and its sh_info
--- is below e_shnum
+-- rule 12: a section of relocation entries lies in the file, its sh_size is a multiple of 8, and
+-- its sh_info is below e_shnum
 abbrev pub has_entries : List ℕ → Section → Bool
 has_entries file section =
     lies_in_file file section.offset section.size && section.size % 8 == 0
@@ -143,16 +153,17 @@ entries_rule file section = rule 12 (has_entries file section) section.at
 -- rule 11, and rule 12 for each section of relocation entries in order
 unfoldable pub section_rules : List ℕ → List Rule
 section_rules file =
-    rule 11 (has_sections file (file_header file)) 46 ∷ map (entries_rule file) (relocation_sections file)
+    rule 11 (has_sections file (file_header file)) 46
+    ∷ map (entries_rule file) (relocation_sections file)
 
 abbrev pub rules : List ℕ → List Rule
 rules file = header_rules file ++ segment_rules file ++ section_rules file
 
 -- the first rule that a file does not meet
-abbrev pub unmet : List ℕ → Option Illegal
-unmet file = first_unmet (rules file)
+abbrev pub unmet_rule : List ℕ → Option Illegal
+unmet_rule file = first_unmet (rules file)
 
 -- what is given where no rule is unmet
-abbrev pub answered : {A : Type 0} → Option Illegal → A → Result A Illegal
-answered None x = Ok x
-answered (Some illegal) x = Err illegal
+abbrev pub ok_unless : {A : Type 0} → Option Illegal → A → Result A Illegal
+ok_unless None x = Ok x
+ok_unless (Some illegal) x = Err illegal

@@ -3,12 +3,14 @@
 
 mod file_header;
 mod irx;
+mod irx_file;
 mod reading;
 mod relocations;
 mod section;
+mod section_table;
 mod segment;
 #[cfg(test)]
 mod tests;
 
 pub use irx::Irx;
-pub use relocations::{Lists, Rels};
+pub use relocations::{Lists, Relocations};

@@ -60,21 +60,21 @@ fn lists(rt: &impl Abort, file: &[u8], sections: u32, lists: [&[u8]; 3]) -> Resu
         id: 0xFFFF_FFFF,
         entry: 0,
         gp: 0,
-        text: 8,
-        init: 0,
-        bss: 0,
+        text_size: 8,
+        data_size: 0,
+        bss_size: 0,
         version: 0x0101,
         name: b"t",
     };
     assert_eq!(rt; irx.image(), TEXT.as_slice());
     assert_eq!(rt; irx.length(), 8);
     assert_eq!(rt; irx.info(), info);
-    let rels = irx.rels();
-    assert_eq!(rt; rels.sections(), sections);
+    let relocations = irx.relocations();
+    assert_eq!(rt; relocations.sections(), sections);
     for (k, list) in lists.iter().enumerate() {
-        assert_eq!(rt; rels.list(k as u32), *list);
+        assert_eq!(rt; relocations.list(k as u32), *list);
     }
-    let mut walk = rels.lists();
+    let mut walk = relocations.lists();
     for list in lists.iter().take(sections as usize) {
         assert_eq!(rt; walk.next(), Some(*list));
     }

@@ -1,9 +1,10 @@
-ghost use Rattle.std.specs.Prelude.{◌≡◌, option_map, position};
-ghost use Rattle.irx_info.specs.Information.{is_zero, fields_of, information_of};
+ghost use Rattle.std.specs.Prelude.{◌≡◌, option_map};
+ghost use Rattle.irx_info.specs.Information.{information_of, information_in};
 
 use byteorder::{ByteOrder, LittleEndian};
+use iop_base::first_zero;
 
-/// The numbers take so many bytes; the name stands behind them.
+/// How many bytes the numbers take; the name stands behind them.
 const NUMBERS: usize = 26;
 
 /// What an IRX file says of its module (ps2sdk's iopmod section, a part of type 0x70000080).
@@ -18,23 +19,23 @@ pub struct Info<'a> {
     /// What `$gp` is.
     pub gp: u32,
     /// How many bytes of code the image begins with.
-    pub text: u32,
+    pub text_size: u32,
     /// How many bytes of data follow the code.
-    pub init: u32,
+    pub data_size: u32,
     /// How many zero bytes follow the data.
-    pub bss: u32,
+    pub bss_size: u32,
     /// The module's version: major * 256 + minor.
     pub version: u16,
     /// The module's name, without the zero byte that ends it.
     pub name: &'a [u8],
 }
 
-/// Reads a part of module information: six words and a half word, little-endian, and a name up to the
-/// first zero byte, which is lent from the part. Bytes behind that zero byte are not looked at.
+/// Reads a part of module information: six words and a half word, little-endian, and a name up to
+/// the first zero byte, which is lent from the part. Bytes behind that zero byte are not looked at.
 ///
-/// None exactly where the part is shorter than 27 bytes or has no zero byte from place 26 on.
+/// `None` exactly where the part is shorter than 27 bytes or has no zero byte from place 26 on.
 pub fn read_info<'a>(part: &'a [u8]) -> Option<Info<'a>>
-    ensures { option_map fields_of result ≡ information_of part.now }
+    ensures { option_map information_of result ≡ information_in part.now }
 {
     if part.len() <= NUMBERS {
         return None;
@@ -44,17 +45,10 @@ pub fn read_info<'a>(part: &'a [u8]) -> Option<Info<'a>>
         id: LittleEndian::read_u32(part),
         entry: LittleEndian::read_u32(&part[4..]),
         gp: LittleEndian::read_u32(&part[8..]),
-        text: LittleEndian::read_u32(&part[12..]),
-        init: LittleEndian::read_u32(&part[16..]),
-        bss: LittleEndian::read_u32(&part[20..]),
+        text_size: LittleEndian::read_u32(&part[12..]),
+        data_size: LittleEndian::read_u32(&part[16..]),
+        bss_size: LittleEndian::read_u32(&part[20..]),
         version: LittleEndian::read_u16(&part[24..]),
         name: &part[NUMBERS..NUMBERS + end],
     })
-}
-
-/// The place of the first zero byte.
-fn first_zero(bytes: &[u8]) -> Option<usize>
-    ensures { result ≡ position is_zero bytes.now }
-{
-    bytes.iter().position(|byte| *byte == 0)
 }

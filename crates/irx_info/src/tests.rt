@@ -12,9 +12,9 @@ fn plain(rt: HostRuntime) {
         id: 0xFFFF_FFFF,
         entry: 0,
         gp: 0,
-        text: 8,
-        init: 0,
-        bss: 0,
+        text_size: 8,
+        data_size: 0,
+        bss_size: 0,
         version: 0x0101,
         name: b"t",
     };

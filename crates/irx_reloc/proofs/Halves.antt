@@ -8,7 +8,8 @@ use Rattle.irx_reloc.specs.Entries.{is_low}
 use Rattle.irx_reloc.specs.Walking.{IsNextLow}
 
 -- whether an index has an element
-pub is_some-slice_get : (xs : List (ℕ × ℕ)) (k : ℕ) → is_some (slice_get xs k) ≡ nat_lt k (length xs)
+pub is_some-slice_get : (xs : List (ℕ × ℕ)) (k : ℕ)
+    → is_some (slice_get xs k) ≡ nat_lt k (length xs)
 is_some-slice_get xs k = at_index (cases_lt k (length xs))
   where
     at_index : (k < length xs) ⊎ (length xs ≤ k) → is_some (slice_get xs k) ≡ nat_lt k (length xs)
@@ -17,24 +18,36 @@ is_some-slice_get xs k = at_index (cases_lt k (length xs))
 
 module _ (entries : List (ℕ × ℕ)) where
   -- seen from a later entry
-  pub later : (from to low : ℕ) → from ≤ to → to ≤ low → IsNextLow entries from low → IsNextLow entries to low
+  pub later : (from to low : ℕ) → from ≤ to → to ≤ low → IsNextLow entries from low
+      → IsNextLow entries to low
   later from to low le below h =
-      record { after = below; within = h.within; none_before = λ k after before. h.none_before k (omega arith) before; is_one = h.is_one }
+      record {
+        after = below;
+        within = h.within;
+        none_before =
+            λ k after before. h.none_before k (omega arith) before;
+        is_one = h.is_one;
+      }
 
-  find_here : (low : ℕ) → (low < length entries) ⊎ (length entries ≤ low) → IsNextLow entries low low → find is_low (drop low entries) ≡ slice_get entries low
+  find_here : (low : ℕ) → (low < length entries) ⊎ (length entries ≤ low)
+      → IsNextLow entries low low → find is_low (drop low entries) ≡ slice_get entries low
   find_here low (inl lt) h =
       let one = h.is_one lt in
       rw (drop_more entries low (0, 0) lt, one, slice_get-get_or entries low (0, 0) lt) refl
   find_here low (inr le) h = rw (drop_all low entries le, slice_get_past entries low le) refl
 
-  find_on : (n from low : ℕ) → from + n ≡ low → IsNextLow entries from low → find is_low (drop from entries) ≡ slice_get entries low
+  find_on : (n from low : ℕ) → from + n ≡ low → IsNextLow entries from low
+      → find is_low (drop from entries) ≡ slice_get entries low
   find_on zero from low e h =
       let same : from ≡ low = omega arith in
-      rw same (find_here low (cases_lt low (length entries)) (later from low low (omega arith) (omega arith) h))
+      rw same (find_here low (cases_lt low (length entries))
+      (later from low low (omega arith) (omega arith) h))
   find_on (suc n) from low e h =
       let inside : from < length entries = omega (arith, h.within) in
       let none = h.none_before from (omega arith) (omega arith) in
-      rw (drop_more entries from (0, 0) inside, none) (find_on n (from + 1) low (omega arith) (later from (from + 1) low (omega arith) (omega arith) h))
+      rw (drop_more entries from (0, 0) inside, none)
+      (find_on n (from + 1) low (omega arith)
+      (later from (from + 1) low (omega arith) (omega arith) h))
 
   module _ (from low : ℕ) (h : IsNextLow entries from low) where
     pub find_next : find is_low (drop from entries) ≡ slice_get entries low

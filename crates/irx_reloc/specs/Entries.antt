@@ -1,6 +1,6 @@
--- Relocation entries as they stand in a section (ELF TIS 1.2, Elf32_Rel): eight bytes, of which the first
--- four are the site, a place in the image, and the low 8 bits of the others the type. The types are those
--- of the System V ABI's MIPS supplement.
+-- Relocation entries as they stand in a section (ELF TIS 1.2, Elf32_Rel): eight bytes, of which the
+-- first four are the site, a place in the image, and the low 8 bits of the others the type. The
+-- types are those of the System V ABI's MIPS supplement.
 use Rattle.std.specs.Prelude.{ℕ, ◌+◌, ◌*◌, ◌/◌, ◌%◌, ◌==◌, Bool, List, length, map}
 use Rattle.std.specs.List.{range_with_len}
 use Rattle.iop_base.specs.Numbers.{word_at}

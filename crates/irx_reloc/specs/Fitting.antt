@@ -1,10 +1,10 @@
--- Which relocation entries an image takes. The rules are this project's profile: 13, the word at the site
--- lies in the image, at a multiple of 4; 14, the type is one of the five; 15, a HI16 has a later LO16 in
--- its section. The site of an entry of type R_MIPS_NONE is not looked at.
+-- Which relocation entries an image takes. The rules are this project's profile: 13, the word at
+-- the site lies in the image, at a multiple of 4; 14, the type is one of the five; 15, a HI16 has a
+-- later LO16 in its section. The site of an entry of type R_MIPS_NONE is not looked at.
 use Rattle.std.specs.Prelude.{ℕ, ◌+◌, ◌%◌, ◌==◌, nat_le, Bool, ◌&&◌, ◌||◌, not, if◌then◌else◌, Option, Some, None, is_some, option_map, List, [], ◌∷◌}
 use Rattle.std.specs.List.{find}
 use Rattle.std.specs.Option.{option_or}
-use Rattle.iop_base.specs.declared.outcomes.Illegal.{Illegal}
+use Rattle.iop_base.specs.declared.illegal.Illegal.{Illegal}
 use Rattle.irx_reloc.specs.Entries.{mips_none, mips_32, mips_26, mips_hi16, mips_lo16, is_low}
 
 -- a multiple of 4 with its four bytes in an image of so many bytes
@@ -13,7 +13,8 @@ is_site size site = site % 4 == 0 && nat_le (site + 4) size
 
 abbrev pub is_type : ℕ → Bool
 is_type number =
-    number == mips_none || number == mips_32 || number == mips_26 || number == mips_hi16 || number == mips_lo16
+    number == mips_none || number == mips_32 || number == mips_26 || number == mips_hi16 || number
+    == mips_lo16
 
 -- the first rule that an entry breaks, where it is known whether a LO16 comes later
 unfoldable pub broken_rule : ℕ → ℕ × ℕ → Bool → Option ℕ
@@ -28,7 +29,8 @@ broken_rule size entry has_low =
 abbrev pub section_misfit : ℕ → List (ℕ × ℕ) → Option Illegal
 section_misfit size [] = None
 section_misfit size (entry ∷ later) =
-    option_or (option_map (λ rule. record { rule = rule; at = entry.0 }) (broken_rule size entry (is_some (find is_low later)))) (section_misfit size later)
+    option_or (option_map (λ rule. record { rule = rule; at = entry.0 })
+    (broken_rule size entry (is_some (find is_low later)))) (section_misfit size later)
 
 -- the first of all sections
 abbrev pub misfit : ℕ → List (List (ℕ × ℕ)) → Option Illegal
@@ -36,6 +38,9 @@ misfit size [] = None
 misfit size (section ∷ later) = option_or (section_misfit size section) (misfit size later)
 
 -- sections of entries, and the length of an image that they fit
-pub record Fitting : Type 0 where
+pub record FittingEntries : Type 0 where
   pub image_length : ℕ
   pub sections : List (List (ℕ × ℕ))
+
+abbrev pub fitting_entries : ℕ → List (List (ℕ × ℕ)) → FittingEntries
+fitting_entries length sections = record { image_length = length; sections = sections }

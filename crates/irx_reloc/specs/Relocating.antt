@@ -1,6 +1,6 @@
--- What relocation entries make of an image (System V ABI, MIPS supplement). That each symbol counts as the
--- image's base, and that a HI16 takes the low half of the first LO16 behind it in its section, are this
--- project's profile. Sums are taken modulo 2 ^ 32.
+-- What relocation entries make of an image (System V ABI, MIPS supplement). That each symbol counts
+-- as the image's base, and that a HI16 takes the low half of the first LO16 behind it in its
+-- section, are this project's profile. Sums are taken modulo 2 ^ 32.
 use Rattle.std.specs.Prelude.{ℕ, ◌+◌, ◌*◌, ◌/◌, ◌%◌, ◌^◌, ◌==◌, if◌then◌else◌, Option, Some, None, List, [], ◌∷◌}
 use Rattle.std.specs.List.{find}
 use Rattle.std.specs.Option.{option_map_or}
@@ -20,13 +20,14 @@ moved_address high low base = wrapped (high * 65536 + sign_extended 16 low + bas
 abbrev pub high_half : ℕ → ℕ
 high_half address = wrapped (address + 0x8000) / 65536
 
--- the word that an entry of this type leaves at its site, unless it leaves it as it is; `low` is the low
--- half that a HI16 takes
+-- the word that an entry of this type leaves at its site, unless it leaves it as it is; `low` is
+-- the low half that a HI16 takes
 unfoldable pub moved_word : (number word low base : ℕ) → Option ℕ
 moved_word number word low base =
     if number == mips_32 then Some (wrapped (word + base))
     else if number == mips_26 then Some (with_low_bits 26 word (word % 2 ^ 26 + base / 4))
-    else if number == mips_hi16 then Some (with_low_bits 16 word (high_half (moved_address (word % 2 ^ 16) low base)))
+    else if number == mips_hi16 then Some
+    (with_low_bits 16 word (high_half (moved_address (word % 2 ^ 16) low base)))
     else if number == mips_lo16 then Some (with_low_bits 16 word (word % 2 ^ 16 + base))
     else None
 
@@ -41,7 +42,8 @@ paired_low image later = half_of image (find is_low later)
 -- one entry, with the low half that a HI16 takes
 unfoldable pub after_entry : List ℕ → ℕ × ℕ → (low base : ℕ) → List ℕ
 after_entry image entry low base =
-    option_map_or (with_word image entry.0) (moved_word entry.1 (word_at image entry.0) low base) image
+    option_map_or (with_word image entry.0) (moved_word entry.1 (word_at image entry.0) low base)
+    image
 
 -- the entries of a section in order, each on the image as it then stands
 abbrev pub after_section : List ℕ → List (ℕ × ℕ) → ℕ → List ℕ
@@ -50,6 +52,7 @@ after_section image (entry ∷ later) base =
     after_section (after_entry image entry (paired_low image later) base) later base
 
 -- the sections in order
-abbrev pub relocated : List ℕ → List (List (ℕ × ℕ)) → ℕ → List ℕ
-relocated image [] base = image
-relocated image (section ∷ later) base = relocated (after_section image section base) later base
+abbrev pub relocated_image : List ℕ → List (List (ℕ × ℕ)) → ℕ → List ℕ
+relocated_image image [] base = image
+relocated_image image (section ∷ later) base =
+    relocated_image (after_section image section base) later base

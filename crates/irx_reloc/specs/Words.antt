@@ -1,4 +1,5 @@
--- A word put at a place of bytes, lowest byte first (little-endian, as the IOP's R3000 runs and its files are).
+-- A word put at a place of bytes, lowest byte first (little-endian, as the IOP's R3000 runs and its
+-- files are).
 use Rattle.std.specs.Prelude.{ℕ, List}
 use Rattle.iop_base.specs.Numbers.{bytes_of, with_bytes}
 

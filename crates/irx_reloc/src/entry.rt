@@ -1,7 +1,7 @@
 ghost use Rattle.std.specs.Prelude.{◌≡◌, ◌+◌, ◌*◌, ◌/◌, ◌<◌, ◌≤◌, length, slice_index_or};
 ghost use Rattle.irx_reloc.specs.Entries.{entries_of};
 ghost use Rattle.irx_reloc.specs.Fitting.{is_type};
-ghost use Rattle.irx_reloc.specs.Walking.{is_named, pair_of};
+ghost use Rattle.irx_reloc.specs.Kinds.{type_of, is_named};
 
 use crate::kind::Kind;
 use iop_base::word_at;
@@ -16,21 +16,23 @@ pub(crate) struct Entry {
     pub site: u32,
     /// What it changes.
     pub kind: Kind,
+    ghost named: { is_named kind ≡ is_type (type_of kind) },
 }
 
 impl Entry {
-    /// How many entries a section has.
+    ghost use Rattle.irx_reloc.specs.Walking.{pair_of};
+
+    /// Counts the entries of a section.
     pub fn count(section: &[u8]) -> usize
         ensures { result ≡ length (entries_of section.now) }
     {
         section.len() / SIZE
     }
 
-    /// The entry of this index in a section.
+    /// Reads the entry of this index in a section.
     pub fn read(section: &[u8], index: usize) -> Self
         requires { index < length (entries_of section.now) }
-        ensures entry { pair_of result ≡ slice_index_or (entries_of section.now) index (0, 0) }
-        ensures named { is_named result.kind ≡ is_type (pair_of result).1 }
+        ensures { pair_of result ≡ slice_index_or (entries_of section.now) index (0, 0) }
     {
         let place = SIZE * index;
         let info = word_at(section, place + 4);

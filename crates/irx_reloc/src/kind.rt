@@ -1,6 +1,6 @@
 ghost use Rattle.std.specs.Prelude.{◌≡◌};
 ghost use Rattle.irx_reloc.specs.Fitting.{is_type};
-ghost use Rattle.irx_reloc.specs.Walking.{type_of, is_named};
+ghost use Rattle.irx_reloc.specs.Kinds.{type_of, is_named};
 
 /// What a relocation entry changes, by its type (System V ABI, MIPS supplement).
 #[derive(Clone, Copy)]
@@ -20,7 +20,7 @@ pub(crate) enum Kind {
 }
 
 impl Kind {
-    /// The kind of a type.
+    /// Tells the kind of a type.
     pub fn of_type(number: u8) -> Self
         ensures number { type_of result ≡ number }
         ensures named { is_named result ≡ is_type number }

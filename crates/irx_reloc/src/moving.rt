@@ -12,7 +12,7 @@ const TARGET_BITS: u32 = 26;
 /// How many low bits of an instruction are its half of an address.
 const HALF_BITS: u32 = 16;
 
-/// A word with other low bits.
+/// Gives a word other low bits.
 fn with_low_bits(bits: u32, word: u32, value: u32) -> u32
     requires { bits < 32 }
     ensures { result ≡ with_low_bits bits word value }
@@ -21,22 +21,22 @@ fn with_low_bits(bits: u32, word: u32, value: u32) -> u32
     word / low * low + value % low
 }
 
-/// A word that is an address, moved by the base.
+/// Moves a word that is an address by the base.
 pub(crate) fn word_moved(word: u32, base: u32) -> u32
     ensures { result ≡ wrapped (word + base) }
 {
     word.wrapping_add(base)
 }
 
-/// A jump whose target is moved by the base.
+/// Moves the target of a jump by the base.
 pub(crate) fn jump_moved(word: u32, base: u32) -> u32
     ensures { result ≡ with_low_bits 26 word (word % 2 ^ 26 + base / 4) }
 {
     with_low_bits(TARGET_BITS, word, word.wrapping_add(base / 4))
 }
 
-/// An instruction with the high half of an address, moved by the base. `low` is the low half of the
-/// address, which is signed.
+/// Moves the high half of an address, which an instruction holds, by the base. `low` is the low
+/// half of the address, which is signed.
 pub(crate) fn high_moved(word: u32, low: u16, base: u32) -> u32
     ensures { result ≡ with_low_bits 16 word (high_half (moved_address (word % 2 ^ 16) low base)) }
 {
@@ -46,7 +46,7 @@ pub(crate) fn high_moved(word: u32, low: u16, base: u32) -> u32
     with_low_bits(HALF_BITS, word, address.wrapping_add(0x8000) / 0x1_0000)
 }
 
-/// An instruction with the low half of an address, moved by the base.
+/// Moves the low half of an address, which an instruction holds, by the base.
 pub(crate) fn low_moved(word: u32, base: u32) -> u32
     ensures { result ≡ with_low_bits 16 word (word % 2 ^ 16 + base) }
 {

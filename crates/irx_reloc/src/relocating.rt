@@ -2,9 +2,10 @@ ghost use Rattle.std.specs.Prelude.{◌≡◌, ◌<◌, true, None, length};
 ghost use Rattle.std.specs.List.{slice_get};
 ghost use Rattle.iop_base.specs.Numbers.{word_at};
 ghost use Rattle.irx_reloc.specs.Entries.{entries_of, all_entries};
-ghost use Rattle.irx_reloc.specs.Fitting.{is_type, section_misfit, misfit};
-ghost use Rattle.irx_reloc.specs.Relocating.{moved_word, half_of, after_entry, after_section, relocated};
-ghost use Rattle.irx_reloc.specs.Walking.{type_of, is_named, pair_of, is_low_at, EntryFits};
+ghost use Rattle.irx_reloc.specs.Fitting.{section_misfit, misfit};
+ghost use Rattle.irx_reloc.specs.Relocating.{moved_word, half_of, after_entry, after_section, relocated_image};
+ghost use Rattle.irx_reloc.specs.Kinds.{type_of};
+ghost use Rattle.irx_reloc.specs.Walking.{pair_of, is_low_at, EntryFits};
 
 use crate::entry::Entry;
 use crate::fitting::Checked;
@@ -13,14 +14,13 @@ use crate::low_halves::low_behind;
 use crate::moving::{high_moved, jump_moved, low_moved, word_moved};
 use crate::words::put_word;
 use iop_base::word_at;
-use irx_elf::Rels;
+use irx_elf::Relocations;
 
-/// The word that an entry leaves at its site, unless it leaves it as it is. `low` is the low half that a
-/// HI16 takes.
+/// Makes the word that an entry leaves at its site, unless it leaves it as it is. `low` is the low
+/// half that a HI16 takes.
 #[tactic(auto, unfolding(crate::specs::Relocating::moved_word))]
 fn new_word(image: &[u8], entry: Entry, low: u16, base: u32) -> Option<u32>
-    requires fits { EntryFits (length image.now) entry }
-    requires named { is_named entry.kind ≡ is_type (pair_of entry).1 }
+    requires { EntryFits (length image.now) entry }
     ensures { result ≡ moved_word (type_of entry.kind) (word_at image.now entry.site) low base }
 {
     let site = entry.site as usize;
@@ -36,8 +36,7 @@ fn new_word(image: &[u8], entry: Entry, low: u16, base: u32) -> Option<u32>
 /// Applies an entry to the image. `low` is the low half that a HI16 takes.
 #[tactic(auto, unfolding(crate::specs::Relocating::after_entry))]
 fn apply(image: &mut [u8], entry: Entry, low: u16, base: u32)
-    requires fits { EntryFits (length image.old) entry }
-    requires named { is_named entry.kind ≡ is_type (pair_of entry).1 }
+    requires { EntryFits (length image.old) entry }
     ensures { image.new ≡ after_entry image.old (pair_of entry) low base }
 {
     if let Some(word) = new_word(image, entry, low, base) {
@@ -45,7 +44,7 @@ fn apply(image: &mut [u8], entry: Entry, low: u16, base: u32)
     }
 }
 
-/// The low half of the word at the site of the LO16 entry of an index; 0 past the entries.
+/// Reads the low half of the word at the site of the LO16 entry of an index; 0 past the entries.
 fn low_half(image: &[u8], section: &[u8], index: usize) -> u16
     requires fits { section_misfit (length image.now) (entries_of section.now) ≡ None }
     requires low { index < length (entries_of section.now) → is_low_at (entries_of section.now) index ≡ true }
@@ -73,11 +72,11 @@ fn relocate_section(image: &mut [u8], section: &[u8], base: u32)
 }
 
 /// Applies the sections to the image, in order.
-fn relocate_sections(image: &mut [u8], rels: &Rels<'_>, base: u32)
-    requires { misfit (length image.old) (all_entries rels.now) ≡ None }
-    ensures { image.new ≡ relocated image.old (all_entries rels.now) base }
+fn relocate_sections(image: &mut [u8], relocations: &Relocations<'_>, base: u32)
+    requires { misfit (length image.old) (all_entries relocations.now) ≡ None }
+    ensures { image.new ≡ relocated_image image.old (all_entries relocations.now) base }
 {
-    let mut lists = rels.lists();
+    let mut lists = relocations.lists();
     while let Some(section) = lists.next() {
         relocate_section(image, section, base);
     }
@@ -85,21 +84,22 @@ fn relocate_sections(image: &mut [u8], rels: &Rels<'_>, base: u32)
 
 /// Relocates an image of the checked length in place, to the address `base`.
 ///
-/// The entries are applied in order of section and of entry, each to the image as it then stands, and each
-/// symbol counts as the base (this project's profile). What an entry does to the word at its site follows
-/// from its type (System V ABI, MIPS supplement):
+/// The entries are applied in order of section and of entry, each to the image as it then stands,
+/// and each symbol counts as the base (this project's profile). What an entry does to the word at
+/// its site follows from its type (System V ABI, MIPS supplement):
 /// - R_MIPS_32: the base is added to the word.
 /// - R_MIPS_26: a quarter of the base is added to the low 26 bits.
-/// - R_MIPS_HI16: the low half is the high half of an address. The low half of that address, which is
-///   signed, is the low half of the word at the site of the first LO16 behind the entry in its section. The
-///   base is added to the address, and the low half becomes (address + 0x8000) / 65536.
+/// - R_MIPS_HI16: the low half is the high half of an address. The low half of that address, which
+///   is signed, is the low half of the word at the site of the first LO16 behind the entry in its
+///   section. The base is added to the address, and the low half becomes (address + 0x8000) /
+///   65536.
 /// - R_MIPS_LO16: the base is added to the low half.
 ///
-/// Other bits of the word stay. Sums are taken modulo 2^32, 2^26 and 2^16. It costs three looks at each
-/// entry at most, however many HI16 there are.
+/// Other bits of the word stay. Sums are taken modulo 2^32, 2^26 and 2^16. It costs three looks at
+/// each entry at most, however many HI16 there are.
 pub fn relocate(image: &mut [u8], checked: &Checked<'_>, base: u32)
     requires { length image.old ≡ checked.now.image_length }
-    ensures { image.new ≡ relocated image.old checked.now.sections base }
+    ensures { image.new ≡ relocated_image image.old checked.now.sections base }
 {
-    relocate_sections(image, checked.rels(), base);
+    relocate_sections(image, checked.relocations(), base);
 }

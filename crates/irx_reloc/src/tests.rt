@@ -74,7 +74,9 @@ fn relocates(
     let file = file_of(alloc, text, entries, &[])?;
     assert!(rt; file.len() <= 4096);
     let irx = Irx::parse(&file).ok().ok_or("no IRX file")?;
-    let checked = check(irx.length(), irx.rels()).ok().ok_or("refused")?;
+    let checked = check(irx.length(), irx.relocations())
+        .ok()
+        .ok_or("refused")?;
     let mut image = irx.image().to_vec(alloc)?;
     assert_eq!(rt; image.len(), checked.image_length() as usize);
     relocate(&mut image, &checked, base);
@@ -99,7 +101,7 @@ fn refuses(
     assert!(rt; file.len() <= 4096);
     let irx = Irx::parse(&file).ok().ok_or("no IRX file")?;
     assert_eq!(rt;
-        check(irx.length(), irx.rels()).err(),
+        check(irx.length(), irx.relocations()).err(),
         Some(Illegal { rule, at })
     );
     Ok(())

@@ -1,9 +1,10 @@
 -- What the calls on import tables give.
-use Rattle.std.specs.Prelude.{◌≡◌, ℕ, ◌%◌, ◌≤◌, if◌then◌else◌, Some, List, length}
-use Rattle.irx_tables.specs.Imports.{ImportTable, Found, Nothing, Whole, Broken, is_stub, is_end, table_at}
+use Rattle.std.specs.Prelude.{◌≡◌, ℕ, ◌+◌, ◌*◌, ◌%◌, ◌≤◌, if◌then◌else◌, Some, List, length}
+use Rattle.irx_tables.specs.Imports.{ImportTable, Found, Nothing, Whole, Broken, is_stub, is_end, table_at, next_table}
 use Rattle.irx_tables.specs.declared.import_tables.Import.{Import}
 use Rattle.irx_tables.specs.declared.import_tables.Next.{Next}
 use Rattle.irx_tables.specs.declared.import_tables.Next.TheVariants.{Table, End, Bad}
+use Rattle.irx_tables.specs.declared.words.TheConstants.{HEADER_BYTES}
 use Rattle.irx_tables.specs.declared.import_tables.Pair.{Pair}
 use Rattle.irx_tables.specs.declared.import_tables.Pair.TheVariants.{Stub, Zeroes, Other}
 
@@ -35,7 +36,21 @@ IfTable (Bad p) P = Unit {0}
 -- the import stands for this table of a range in RAM
 pub record IsImportOf (memory : List ℕ) (import : Import) (table : ImportTable) : Type 0 where
   pub stop : ℕ
-  pub inside : stop ≤ 0x200000
+  pub inside : stop ≤ length memory
   pub aligned : table.at % 4 ≡ 0
   pub found : table_at memory stop table.at ≡ Some table
   pub same : import ≡ import_of table
+
+-- an import lies in a range: its header, its stubs and the two words 0
+pub record HasExtent (stop : ℕ) (import : Import) : Type 0 where
+  pub aligned : import.at % 4 ≡ 0
+  pub extent : import.end ≡ import.at + HEADER_BYTES + 8 * import.stubs + 8
+  pub inside : import.end ≤ stop
+
+-- the import stands for the first table from `scan` on
+pub record IsNextImport (memory : List ℕ) (stop scan : ℕ) (import : Import) : Type 0 where
+  pub table : ImportTable
+  pub next : next_table memory stop scan ≡ Whole table
+  pub stands : IsImportOf memory import table
+  pub after : scan ≤ import.at
+  pub place : HasExtent stop import

@@ -1,21 +1,17 @@
-ghost use Rattle.std.specs.Prelude.{◌≡◌, ◌+◌, ◌*◌, ◌%◌, ◌<◌, ◌≤◌, length};
+ghost use Rattle.std.specs.Prelude.{◌≡◌, ◌+◌, ◌*◌, ◌%◌, ◌^◌, ◌<◌, ◌≤◌, length};
 ghost use Rattle.std.specs.List.{slice_get};
 ghost use Rattle.irx_tables.specs.Exports.{header_of, functions};
+ghost use Rattle.irx_tables.specs.declared.words.TheConstants.{HEADER_BYTES, MOST_FUNCTIONS};
 
-use crate::reading::{HEADER, half, name, word};
+use crate::reading::{half, name, word};
+use crate::words::{EXPORT_MAGIC, HEADER_BYTES, MOST_FUNCTIONS};
 use iop_ram::Ram;
 
-/// The first word of an export table.
-const EXPORT_MAGIC: u32 = 0x41C0_0000;
-
-/// At most so many functions of a table count.
-const MOST_FUNCTIONS: u32 = 1024;
-
-/// The name and the version (major * 256 + minor) of the export table at a place, a multiple of 4 with
-/// its 20 bytes in RAM. None exactly where its first word is not 0x41C00000.
+/// Reads the name and the version (major * 256 + minor) of the export table at a physical place, a
+/// multiple of 4 with its 20 bytes in RAM. None exactly where its first word is not `EXPORT_MAGIC`.
 pub fn header(ram: &Ram, table: u32) -> Option<([u8; 8], u16)>
     requires aligned { table % 4 ≡ 0 }
-    requires inside { table + 20 ≤ 0x200000 }
+    requires inside { table + HEADER_BYTES ≤ length ram.now }
     ensures { result ≡ header_of ram.now table }
 {
     if word(ram, table) == EXPORT_MAGIC {
@@ -25,16 +21,17 @@ pub fn header(ram: &Ram, table: u32) -> Option<([u8; 8], u16)>
     }
 }
 
-/// How many words stand behind the 20 bytes at a place, a multiple of 4 in RAM, before the first word 0:
-/// at most 1,024, and only those wholly in RAM.
+/// Counts the functions of the export table at a physical place, a multiple of 4 below 2^29: the
+/// words behind its 20 bytes before the first word 0, at most 1,024, and only those wholly in RAM.
+/// So outside RAM it is 0.
 pub fn exports_count(ram: &Ram, table: u32) -> u32
     requires aligned { table % 4 ≡ 0 }
-    requires inside { table < 0x200000 }
+    requires physical { table < 2 ^ 29 }
     ensures count { result ≡ length (functions ram.now table) }
-    ensures few { result ≤ 1024 }
-    ensures inside { 0 < result → table + 20 + 4 * result ≤ 0x200000 }
+    ensures few { result ≤ MOST_FUNCTIONS }
+    ensures inside { 0 < result → table + HEADER_BYTES + 4 * result ≤ length ram.now }
 {
-    let first = table + HEADER;
+    let first = table + HEADER_BYTES;
     let words = (ram.size().saturating_sub(first) / 4).min(MOST_FUNCTIONS);
     for index in 0..words {
         if word(ram, first + 4 * index) == 0 {
@@ -44,15 +41,15 @@ pub fn exports_count(ram: &Ram, table: u32) -> u32
     words
 }
 
-/// Function `i` of the export table at a place, a multiple of 4 in RAM. None exactly where `i` is not
-/// below its count.
+/// Reads function `i` of the export table at a physical place, a multiple of 4 below 2^29. None
+/// exactly where `i` is not below its count.
 pub fn export_word(ram: &Ram, table: u32, i: u32) -> Option<u32>
     requires aligned { table % 4 ≡ 0 }
-    requires inside { table < 0x200000 }
+    requires physical { table < 2 ^ 29 }
     ensures { result ≡ slice_get (functions ram.now table) i }
 {
     if i < exports_count(ram, table) {
-        Some(word(ram, table + HEADER + 4 * i))
+        Some(word(ram, table + HEADER_BYTES + 4 * i))
     } else {
         None
     }

@@ -7,6 +7,9 @@ pub mod laws;
 mod reading;
 #[cfg(test)]
 mod tests;
+mod words;
 
 pub use export_tables::{export_word, exports_count, header};
 pub use import_tables::{Import, Next, imports, stub};
+pub use reading::word;
+pub use words::{EXPORT_MAGIC, HEADER_BYTES, IMPORT_MAGIC, MOST_FUNCTIONS};

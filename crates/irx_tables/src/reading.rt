@@ -2,38 +2,36 @@
 
 ghost use Rattle.std.specs.Prelude.{◌≡◌, ◌+◌, ◌%◌, ◌≤◌, length};
 ghost use Rattle.iop_base.specs.Numbers.{word_at, half_at};
+ghost use Rattle.iop_base.specs.Places.{IsRamSize};
 ghost use Rattle.irx_tables.specs.Places.{name_at};
 
 use iop_ram::Ram;
 
-/// The bytes of a table before its stubs or functions.
-pub const HEADER: u32 = 20;
-
-/// The word at a place.
+/// Reads the word at a physical place, a multiple of 4 with its four bytes in RAM.
 #[tactic(auto, unfolding(iop_base::specs::Numbers::word_at))]
 pub fn word(ram: &Ram, place: u32) -> u32
     requires aligned { place % 4 ≡ 0 }
-    requires inside { place + 4 ≤ 0x200000 }
+    requires inside { place + 4 ≤ length ram.now }
     ensures value { result ≡ word_at ram.now place }
-    ensures sized { length ram.now ≡ 0x200000 }
+    ensures sized { IsRamSize (length ram.now) }
 {
     ram.load32(place).unwrap()
 }
 
-/// The half word at a place.
+/// Reads the half word at a place.
 #[tactic(auto, unfolding(iop_base::specs::Numbers::half_at))]
-pub fn half(ram: &Ram, place: u32) -> u16
+pub(crate) fn half(ram: &Ram, place: u32) -> u16
     requires aligned { place % 2 ≡ 0 }
-    requires inside { place + 2 ≤ 0x200000 }
+    requires inside { place + 2 ≤ length ram.now }
     ensures { result ≡ half_at ram.now place }
 {
     ram.load16(place).unwrap()
 }
 
-/// The eight bytes of a library's name at a place.
+/// Reads the eight bytes of a library's name at a place.
 #[tactic(auto, unfolding(crate::specs::Places::name_at))]
-pub fn name(ram: &Ram, place: u32) -> [u8; 8]
-    requires { place + 8 ≤ 0x200000 }
+pub(crate) fn name(ram: &Ram, place: u32) -> [u8; 8]
+    requires { place + 8 ≤ length ram.now }
     ensures { result ≡ name_at ram.now place }
 {
     let mut name = [0; 8];

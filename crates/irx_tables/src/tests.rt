@@ -1,4 +1,4 @@
-ghost use Rattle.std.specs.Prelude.{◌+◌, ◌*◌, ◌≤◌, length};
+ghost use Rattle.std.specs.Prelude.{◌≡◌, length};
 
 use crate::{Import, Next, export_word, exports_count, header, imports, stub};
 use iop_ram::Ram;
@@ -8,9 +8,9 @@ use std::test::Fail;
 /// Where the texts of the tests stand.
 const TEXT: u32 = 0x1_0000;
 
-/// RAM with these words from a place on.
+/// Stores words from a place on.
 fn put(rt: &impl Abort, ram: &mut Ram, from: u32, words: &[u32])
-    requires { from + 4 * length words.now ≤ 0x200000 }
+    ensures { length ram.new ≡ length ram.old }
 {
     let mut at = from;
     for word in words {
@@ -34,7 +34,7 @@ const SYSMEM: [u32; 10] = [
 
 #[test]
 fn import_tables(rt: HostRuntime) -> Result<(), Fail> {
-    let mut ram = Ram::new(rt.alloc())?;
+    let mut ram = Ram::new(rt.alloc(), 0x20_0000)?;
     put(&rt, &mut ram, TEXT, &SYSMEM);
     let sysmem = Import {
         at: TEXT,
@@ -54,7 +54,7 @@ fn import_tables(rt: HostRuntime) -> Result<(), Fail> {
 
 #[test]
 fn export_tables(rt: HostRuntime) -> Result<(), Fail> {
-    let mut ram = Ram::new(rt.alloc())?;
+    let mut ram = Ram::new(rt.alloc(), 0x20_0000)?;
     put(
         &rt,
         &mut ram,
@@ -65,7 +65,7 @@ fn export_tables(rt: HostRuntime) -> Result<(), Fail> {
     assert_eq!(rt; header(&ram, TEXT), None);
     put(&rt, &mut ram, 0x1214, &[0x80; 64]);
     put(&rt, &mut ram, TEXT + 20, &[0x90; 1030]);
-    for (table, count) in [(0x1200, 64), (0x1F_FFEC, 0), (TEXT, 1024)] {
+    for (table, count) in [(0x1200, 64), (0x1F_FFEC, 0), (0x1FFF_FFFC, 0), (TEXT, 1024)] {
         assert_eq!(rt; exports_count(&ram, table), count);
         assert_eq!(rt; export_word(&ram, table, count), None);
     }

@@ -1,9 +1,10 @@
-//! The program `irx_tool`: what this project makes of a file, to be compared with what other tools make of it.
+//! The program `irx_tool`: what this project makes of a file, to be compared with what other tools
+//! make of it.
 //!
-//! - `irx_tool image FILE ADDRESS` writes the image of an IRX file, relocated for a decimal address: raw bytes.
-//!   With no address it is 0x10000.
-//! - `irx_tool list FILE` writes a line for each little-endian word of a raw file, as it stands in memory from
-//!   address 0x10000 on.
+//! - `irx_tool image FILE ADDRESS` writes the image of an IRX file, relocated for a decimal
+//!   address: raw bytes. With no address it is 0x10000.
+//! - `irx_tool list FILE` writes a line for each little-endian word of a raw file, as it stands in
+//!   memory from address 0x10000 on.
 //!
 //! Where it cannot, it writes a line to standard error and ends with status 1.
 #![tactic(auto)]
@@ -12,20 +13,14 @@ ghost use Rattle.std.specs.Prelude.{◌≤◌, IfOk, length};
 
 use anyhow::{Result, bail, ensure};
 use iop_disasm::listing;
-use iop_modload::relocate_file;
+use iop_modload::{FIRST_BASE, LONGEST_FILE, most_bytes, relocate_file};
 use iop_ports::StreamSink;
 use iop_ram::Ram;
 use std::io::{Read, Write};
 use std::{env, fs};
 
-/// The address of a file's first byte, where none is given.
-const BASE: u32 = 0x1_0000;
-
-/// The most bytes that an image may have: all memory from its address on.
-const MOST_BYTES: usize = 0x1F_0000;
-
-/// The most bytes that an IRX file may have.
-const LONGEST_MODULE: u32 = 4_194_304;
+/// How many bytes of memory this command works in: 2 MiB.
+const MEMORY_SIZE: u32 = 0x20_0000;
 
 /// The most bytes that a raw file may have.
 const LONGEST_RAW: u32 = 65_536;
@@ -45,10 +40,10 @@ fn read_file(rt: &HostRuntime, name: &str, most: u32) -> Result<Vec<u8>>
 
 /// Writes the image of an IRX file, relocated for an address.
 fn write_image(rt: &HostRuntime, name: &str, base: u32) -> Result<()> {
-    let file = read_file(rt, name, LONGEST_MODULE)?;
-    let mut room = vec![in rt.alloc(); 0; MOST_BYTES]?;
+    let file = read_file(rt, name, LONGEST_FILE)?;
+    let mut room = vec![in rt.alloc(); 0; most_bytes(MEMORY_SIZE) as usize]?;
     match relocate_file(&file, base, &mut room) {
-        Ok(loadable) => rt.stdout().write_all(loadable.image)?,
+        Ok(image) => rt.stdout().write_all(image.bytes)?,
         Err(code) => bail!("{name} is refused with {}", code.0),
     }
     Ok(())
@@ -57,12 +52,12 @@ fn write_image(rt: &HostRuntime, name: &str, base: u32) -> Result<()> {
 /// Writes the texts of the words of a raw file.
 fn write_listing(rt: &HostRuntime, name: &str) -> Result<()> {
     let file = read_file(rt, name, LONGEST_RAW)?;
-    let mut ram = Ram::new(rt.alloc())?;
+    let mut ram = Ram::new(rt.alloc(), MEMORY_SIZE)?;
     let words = (file.len() / 4) as u32;
-    let is_stored = ram.store_bytes(BASE, &file).is_ok();
+    let is_stored = ram.store_bytes(FIRST_BASE, &file).is_ok();
     ensure!(is_stored, "{name} has no room in memory");
     let mut lines = StreamSink::new(rt.stdout());
-    let is_written = listing(&ram, BASE, words, &mut lines).is_ok();
+    let is_written = listing(&ram, FIRST_BASE, words, &mut lines).is_ok();
     ensure!(is_written, "standard output takes no more");
     Ok(())
 }
@@ -71,7 +66,7 @@ fn write_listing(rt: &HostRuntime, name: &str) -> Result<()> {
 fn answer(rt: &HostRuntime, words: &[String]) -> Result<()> {
     match words {
         [verb, name] if verb.as_str() == "list" => write_listing(rt, name.as_str()),
-        [verb, name] if verb.as_str() == "image" => write_image(rt, name.as_str(), BASE),
+        [verb, name] if verb.as_str() == "image" => write_image(rt, name.as_str(), FIRST_BASE),
         [verb, name, base] if verb.as_str() == "image" => {
             write_image(rt, name.as_str(), base.as_str().parse::<u32>()?)
         }

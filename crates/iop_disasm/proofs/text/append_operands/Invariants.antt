@@ -6,6 +6,8 @@ use Rattle.iop_disasm.proofs.text.append_operands.Given as goal
 
 abbrev pub invariant-loop-operand : goal.invariant-loop-operand
 invariant-loop-operand l = record {
-  bytes : l.text.items ≡ l.initial.text.items ++ flat_map (further_text l.at l.fields) (take l.operand-index l.others);
+  bytes : l.text.items
+      ≡ l.initial.text.items
+      ++ flat_map (further_text l.at l.fields) (take l.operand-index l.others);
   short : array_vec_len l.text ≤ array_vec_len l.initial.text + 9 * l.operand-index;
 }

@@ -12,4 +12,5 @@ returns c =
     let g : FitsSigned w32 y = search rules in
     let first : c.from.result ≡ x = c.from.ensures ∙ to_z-of_z w32 x f in
     let second : c.from-2.result ≡ y = c.from-2.ensures ∙ to_z-of_z w32 y g in
-    rw (first, second, product_bits x y f g, c.cast_signed.ensures, c.cast_signed-2.ensures) at c.cast_unsigned.ensures
+    rw (first, second, product_bits x y f g, c.cast_signed.ensures, c.cast_signed-2.ensures)
+    at c.cast_unsigned.ensures

@@ -5,7 +5,8 @@ use Rattle.iop_front.proofs.reading.read_file.Given as goal
 abbrev pub invariant-loop-len : goal.invariant-loop-len
 invariant-loop-len g l = record {
   within : l.len ≤ length l.buf;
-  told : HasReadSoFar l.name (g.F.Files.faults l.fn.files) l.len l.buf (g.F.Files.told l.fn.files) (g.F.Files.told l.files);
+  told : HasReadSoFar l.name (g.F.Files.faults l.fn.files) l.len l.buf
+      (g.F.Files.told l.fn.files) (g.F.Files.told l.files);
   no_fault : g.F.Files.faults l.files ≡ g.F.Files.faults l.fn.files;
 }
 

@@ -8,11 +8,17 @@ loop-index-init g c = record { memory = area_begins c.args.guest.now; lines = gi
 
 pub loop-index-preserved : goal.loop-index-preserved
 loop-index-preserved g c = record {
-  memory = area_goes_on c.args.guest.now c.loop-index.guest c.store.new.self c.loop-index.index _ c.requires c.loop-index.invariant.memory c.store.ensures.was_sound c.kernel_word.ensures (omega arith) c.store.ensures.memory;
-  lines = gives_then c.loop-index.invariant.lines (area_lines c.args.guest.now c.loop-index.guest c.loop-index.index (4 * c.loop-index.index) 4 c.requires c.loop-index.invariant.memory c.store.ensures.lines);
+  memory = area_goes_on c.args.guest.now c.loop-index.guest c.store.new.self c.loop-index.index _
+      c.requires c.loop-index.invariant.memory c.store.ensures.was_sound c.kernel_word.ensures
+      (omega arith) c.store.ensures.memory;
+  lines = gives_then c.loop-index.invariant.lines
+      (area_lines c.args.guest.now c.loop-index.guest c.loop-index.index (4 * c.loop-index.index) 4
+      c.requires c.loop-index.invariant.memory c.store.ensures.lines);
 }
 
 pub returns-clause-memory : goal.returns-clause-memory
 returns-clause-memory g c =
-    let all : c.loop-index.index ≡ 0x4000 = omega (arith, c.loop-index-test.false, c.loop-index.auto.index-end) in
-    area_is c.args.guest.now c.loop-index.guest (c.loop-index.invariant.memory ∙ ap (with_words c.args.guest.now) all)
+    let all : c.loop-index.index ≡ 0x4000 =
+    omega (arith, c.loop-index-test.false, c.loop-index.auto.index-end) in
+    area_is c.args.guest.now c.loop-index.guest
+    (c.loop-index.invariant.memory ∙ ap (with_words c.args.guest.now) all)

@@ -5,5 +5,5 @@ use Rattle.iop_stubs.proofs.guest_memory.fill_range.Given as goal
 abbrev pub invariant-loop-offset : goal.invariant-loop-offset
 invariant-loop-offset l = record {
   memory : l.ram ≡ with_bytes l.fn.ram l.place (replicate l.offset l.byte);
-  sized : length l.ram ≡ 0x200000;
+  same_size : length l.ram ≡ length l.fn.ram;
 }

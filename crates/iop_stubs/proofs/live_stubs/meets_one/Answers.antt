@@ -11,4 +11,5 @@ returns-in-Some c =
 
 pub returns-in-None : goal.returns-in-None
 returns-in-None c = found_met c.args.place c.args.len c.args.stubs.now c.requires None
-    (sym (ap option_copied c.in-None.is) ∙ c.first_from.ensures ∙ ap (λ q. find (stands_from q) c.args.stubs.now) c.saturating_sub.ensures)
+    (sym (ap option_copied c.in-None.is) ∙ c.first_from.ensures
+    ∙ ap (λ q. find (stands_from q) c.args.stubs.now) c.saturating_sub.ensures)

@@ -5,9 +5,12 @@ use Rattle.iop_trace.proofs.tests.one_line.Goals as goal
 
 pub returns : goal.returns
 returns g c =
-    let names = gives_same_names g.C.Sink.taken g.C.Sink.faults g.T.Sink.taken g.T.Sink.faults c.new-out.result c.give_line.new.lines _ c.give_line.ensures in
-    let console : console_name c.new-out.result ≡ console_name c.give_line.new.lines = names.0 in
-    let trace : trace_name c.new-out.result ≡ trace_name c.give_line.new.lines = names.1 in
-    gives_leaves g.C.Sink.taken g.C.Sink.faults g.T.Sink.taken g.T.Sink.faults c.new-out.result c.give_line.new.lines _ c.failed.result _ _ _ _
-    c.failed.ensures c.new-out.ensures.failed c.give_line.ensures c.new-out.ensures.console c.new-out.ensures.trace
+    let out = c.new-out.result in
+    let after = c.give_line.new.lines in
+    let names = gives_same_names g.C.Sink.told g.T.Sink.told out after _ c.give_line.ensures in
+    let console : console_name out ≡ console_name after = names.0 in
+    let trace : trace_name out ≡ trace_name after = names.1 in
+    gives_leaves g.C.Sink.told g.T.Sink.told out after _ c.failed.result _ _ _ _
+    c.failed.ensures c.new-out.ensures.failed c.give_line.ensures
+    c.new-out.ensures.console c.new-out.ensures.trace
     (search (rules, console)) (search (rules, trace))

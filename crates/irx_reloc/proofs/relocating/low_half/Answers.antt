@@ -9,15 +9,23 @@ use Rattle.irx_reloc.proofs.relocating.low_half.Goals as goal
 pub word_at-requires : goal.word_at-requires
 word_at-requires c =
     let inside : c.args.index < length (entries_of c.args.section.now) = omega arith in
-    let site : c.read-site.result.site ≡ (get_or (entries_of c.args.section.now) c.args.index (0, 0)).0 = ap (λ (x : ℕ × ℕ). x.0) c.read-site.ensures.entry in
-    omega (arith, low_inside (length c.args.image.now) (entries_of c.args.section.now) c.args.index c.requires.fits inside (c.requires.low inside))
+    let site : c.read-site.result.site ≡ (get_or (entries_of c.args.section.now) c.args.index
+    (0, 0)).0 = ap (λ (x : ℕ × ℕ). x.0) c.read-site.ensures in
+    omega (
+      arith,
+      low_inside (length c.args.image.now) (entries_of c.args.section.now)
+          c.args.index c.requires.fits inside (c.requires.low inside),
+    )
 
 pub returns-then-index-count : goal.returns-then-index-count
 returns-then-index-count c =
     let inside : c.args.index < length (entries_of c.args.section.now) = omega arith in
     ap (λ (word : ℕ). word % 65536) c.word_at.ensures
-    ∙ ap (λ (x : ℕ × ℕ). word_at c.args.image.now x.0 % 65536) c.read-site.ensures.entry
-    ∙ sym (ap (half_of c.args.image.now) (slice_get-get_or (entries_of c.args.section.now) c.args.index (0, 0) inside))
+    ∙ ap (λ (x : ℕ × ℕ). word_at c.args.image.now x.0 % 65536) c.read-site.ensures
+    ∙ sym (ap (half_of c.args.image.now)
+    (slice_get-get_or (entries_of c.args.section.now) c.args.index (0, 0) inside))
 
 pub returns-else-index-count : goal.returns-else-index-count
-returns-else-index-count c = sym (ap (half_of c.args.image.now) (slice_get_past (entries_of c.args.section.now) c.args.index (omega arith)))
+returns-else-index-count c =
+    sym (ap (half_of c.args.image.now)
+    (slice_get_past (entries_of c.args.section.now) c.args.index (omega arith)))

@@ -3,4 +3,5 @@ use Rattle.iop_isa.proofs.Formats.{code_held}
 use Rattle.iop_isa.proofs.fields.Fields.code.Goals as goal
 
 pub returns-clause-holds : goal.returns-clause-holds
-returns-clause-holds c = code_held _ c.args.function c.args.self.n (omega arith) (omega arith) (omega arith)
+returns-clause-holds c =
+    code_held _ c.args.function c.args.self.n (omega arith) (omega arith) (omega arith)

@@ -3,4 +3,6 @@ use Rattle.iop_isa.proofs.Formats.{jump_held}
 use Rattle.iop_isa.proofs.fields.Fields.jump.Goals as goal
 
 pub returns-clause-holds : goal.returns-clause-holds
-returns-clause-holds c = jump_held _ c.args.opcode c.args.self.target (omega arith) (omega arith) (omega arith) (omega arith)
+returns-clause-holds c =
+    jump_held _ c.args.opcode c.args.self.target
+    (omega arith) (omega arith) (omega arith) (omega arith)

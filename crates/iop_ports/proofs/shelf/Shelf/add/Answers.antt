@@ -8,5 +8,6 @@ invariant_of-self-2 c = inside_after_add _ _ _ _ _ _ c.self.invariant c.in_ok-ad
 pub returns-clause-added : goal.returns-clause-added
 returns-clause-added c =
     let s = c.self.inside in
-    let kept = asked_kept s.files.items c.args.name.now c.args.bytes.items s.asked c.self.invariant.asked_in in
+    let name = c.args.name.now in
+    let kept = asked_kept s.files.items name c.args.bytes.items s.asked c.self.invariant.asked_in in
     grind (arith, kept, c.in_ok-add_file.ensures.added)

@@ -6,7 +6,8 @@ use Rattle.iop_registry.proofs.registry.Registry.register.Goals as goal
 sound : (c : goal.After-push_reserved) → IsRegistry c.push_reserved.new.self.items
 sound c =
     subst IsRegistry (sym c.push_reserved.ensures.items)
-    (one_more c.self.inside.entries.items (record { name = c.args.name; major = c.args.major; table = c.args.table })
+    (one_more c.self.inside.entries.items
+    (record { name = c.args.name; major = c.args.major; table = c.args.table })
     c.self.invariant.0 c.requires (grind arith) (omega arith))
 
 pub invariant_of-self : goal.invariant_of-self

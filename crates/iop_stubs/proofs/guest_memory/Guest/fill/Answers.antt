@@ -1,18 +1,21 @@
 use Rattle.std.proofs.Common.{replicate}
 use Rattle.std.proofs.lemmas.List.{length-replicate}
 use Rattle.iop_stubs.specs.Binding.{IsSound}
-use Rattle.iop_stubs.proofs.Reporting.{no_lines}
+use Rattle.iop_stubs.proofs.StubLines.{store_lines-refused}
 use Rattle.iop_stubs.proofs.Storing.{store_sound}
 use Rattle.iop_stubs.proofs.guest_memory.Guest.fill.Given.{Over}
 use Rattle.iop_stubs.proofs.guest_memory.Guest.fill.Goals as goal
 
 pub returns-in_err-place-clause-lines : goal.returns-in_err-place-clause-lines
 returns-in_err-place-clause-lines g c = rw (← c.self.view_is)
-    (no_lines _ _ (record { ram = c.self.inside.ram; live = c.self.inside.live }) _ _ _ _ c.in_err-place.ensures.place)
+    (store_lines-refused _ _ (record { ram = c.self.inside.ram; live = c.self.inside.live }) _ _ _ _
+    c.in_err-place.ensures.place)
 
-sound : (g : Over) (c : goal.After-fill_range g) → IsSound (record { ram = c.fill_range.new.ram; live = c.end_in.new.self })
+sound : (g : Over) (c : goal.After-fill_range g) →
+    IsSound (record { ram = c.fill_range.new.ram; live = c.end_in.new.self })
 sound g c =
-    store_sound (record { ram = c.self.inside.ram; live = c.self.inside.live }) _ _ c.in_ok-place.place c.args.len
+    store_sound (record { ram = c.self.inside.ram; live = c.self.inside.live }) _ _
+    c.in_ok-place.place c.args.len
     (replicate c.args.len c.args.byte) c.fill_range.ensures.memory c.end_in.ensures.live
     (length-replicate c.args.len c.args.byte) c.in_ok-place.ensures.inside c.self.invariant
 

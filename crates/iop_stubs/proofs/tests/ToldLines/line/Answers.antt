@@ -4,8 +4,10 @@ use Rattle.iop_stubs.proofs.tests.ToldLines.line.Goals as goal
 
 pub returns-in-Stub : goal.returns-in-Stub
 returns-in-Stub c =
-    whole_gives _ _ _ refl refl (record { console = refl; trace = refl }) (record { console = refl; trace = refl }) refl
+    whole_gives _ _ _ refl refl (record { console = refl; trace = refl })
+    (record { console = refl; trace = refl }) refl
 
 pub returns-in_default : goal.returns-in_default
 returns-in_default c =
-    whole_gives _ _ _ refl refl (record { console = refl; trace = refl }) (record { console = refl; trace = refl }) refl
+    whole_gives _ _ _ refl refl (record { console = refl; trace = refl })
+    (record { console = refl; trace = refl }) refl

@@ -4,4 +4,5 @@ use Rattle.iop_stubs.proofs.tests.ToldLines.text.Goals as goal
 
 pub returns : goal.returns
 returns c =
-    whole_gives _ _ _ refl refl (record { console = refl; trace = refl }) (record { console = refl; trace = refl }) refl
+    whole_gives _ _ _ refl refl (record { console = refl; trace = refl })
+    (record { console = refl; trace = refl }) refl

@@ -1,18 +1,28 @@
-use Rattle.std.proofs.Common.{◌*◌, ◌∙◌, subst, ap, arith, ℕ}
-use Rattle.iop_sysmem.specs.Memory.{Memory, IsTaken, IsKept, rounded, with_block}
-use Rattle.iop_sysmem.proofs.Changing.{rounded_is, is_positive}
+use Rattle.std.proofs.Common.{◌∙◌, subst, ap, arith, ℕ}
+use Rattle.iop_base.specs.BlockSizes.{block_len}
+use Rattle.iop_sysmem.specs.BlockMap.{BlockMap, ModeTakes, AreBlocks, with_block}
+use Rattle.iop_sysmem.proofs.Changing.{is_positive}
 use Rattle.iop_sysmem.proofs.blocks.Blocks.alloc.Goals as goal
 
-kept : (c : goal.After-put) → IsKept c.args.self.now
-kept c = subst (λ (m : Memory). IsKept m) c.self.view_is c.self.invariant.0
+blocks : (c : goal.After-put) → AreBlocks c.args.self.now
+blocks c = subst (λ (m : BlockMap). AreBlocks m) c.self.view_is c.self.invariant.0
 
-taken : (c : goal.After-put) → IsTaken c.args.self.now c.args.mode (rounded c.args.size) c.args.at c.in-Some.place
-taken c =
-    subst (λ (n : ℕ). IsTaken c.args.self.now c.args.mode n c.args.at c.in-Some.place) (ap (λ n. n * 256) c.div_ceil-len.ensures ∙ rounded_is c.args.size)
-    c.in-Some.ensures
+takes : (c : goal.After-put) →
+    ModeTakes c.args.self.now c.args.mode (block_len c.args.size) c.args.at c.in-Some.place
+takes c =
+    subst (λ (n : ℕ). ModeTakes c.args.self.now c.args.mode n c.args.at c.in-Some.place)
+    c.block_len-len.ensures c.in-Some.ensures
 
-pub returns : goal.returns
-returns c = record {
-  given = λ h. (omega (arith, c.if-size-eq0.false), taken c, c.put.ensures ∙ ap (λ n. with_block c.args.self.now c.in-Some.place n) (ap (λ n. n * 256) c.div_ceil-len.ensures ∙ rounded_is c.args.size));
-  refused = λ e. absurd (is_positive c.args.self.now c.args.mode c.args.size c.args.at c.in-Some.place (kept c) (omega (arith, c.if-size-eq0.false)) (taken c) e);
+pub returns-clause-map : goal.returns-clause-map
+returns-clause-map c = record {
+  place =
+      λ h. (
+        omega (arith, c.if-size-eq0.false),
+        takes c,
+        c.put.ensures.map
+            ∙ ap (with_block c.args.self.now c.in-Some.place) c.block_len-len.ensures,
+      );
+  none =
+      λ e. absurd (is_positive c.args.self.now c.args.mode c.args.size c.args.at c.in-Some.place
+      (blocks c) (omega (arith, c.if-size-eq0.false)) (takes c) e);
 }

@@ -1,13 +1,19 @@
 use Rattle.std.proofs.Common.{subst, arith}
-use Rattle.iop_sysmem.specs.Memory.{Memory, IsMostFree}
-use Rattle.iop_sysmem.proofs.Walking.{moves, more_here, more_last, max_is, same_memory}
+use Rattle.iop_sysmem.specs.BlockMap.{BlockMap, IsMostFree}
+use Rattle.iop_sysmem.proofs.Walking.{moves, more_here, more_last, max_is, same_map}
 use Rattle.iop_sysmem.proofs.blocks.Blocks.max_free.Goals as goal
 
 pub loop-next-preserved : goal.loop-next-preserved
-loop-next-preserved c =
-    (moves _ _ _ c.loop-next.invariant.0 c.loop-next-test.true, more_here _ _ _ c.loop-next.invariant.0 _ c.loop-next.invariant.1 c.loop-next-test.true _ (max_is _ _ _ c.max-most.ensures))
+loop-next-preserved c = (
+  moves _ _ _ c.loop-next.invariant.0 c.loop-next-test.true,
+  more_here _ _ _
+      c.loop-next.invariant.0 _ c.loop-next.invariant.1 c.loop-next-test.true _
+      (max_is _ _ _ c.max-most.ensures),
+)
 
-pub returns : goal.returns
-returns c =
-    subst (λ (m : Memory). IsMostFree m c.max.result) (same_memory _ _ _ _ c.deref-next-items.ensures.value c.self.view_is)
-    (more_last _ _ _ c.loop-next.invariant.0 _ c.loop-next.invariant.1 (omega (arith, c.loop-next-test.false)) c.max.result c.max.ensures)
+pub returns-clause-most : goal.returns-clause-most
+returns-clause-most c =
+    subst (λ (m : BlockMap). IsMostFree m c.max.result)
+    (same_map _ _ _ _ c.deref-next-items.ensures.value c.self.view_is)
+    (more_last _ _ _ c.loop-next.invariant.0 _ c.loop-next.invariant.1
+    (omega (arith, c.loop-next-test.false)) c.max.result c.max.ensures)

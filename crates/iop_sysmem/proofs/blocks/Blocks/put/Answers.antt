@@ -1,43 +1,76 @@
-use Rattle.std.proofs.Common.{◌+◌, ◌*◌, ◌<◌, ◌≤◌, refl, sym, subst, arith, ℕ, rules, length, slice_index_or, ◌∙◌, ap}
+use Rattle.std.proofs.Common.{◌<◌, ◌≤◌, sym, subst, arith, rules, refl, length, ◌∙◌, ap}
 use Rattle.std.specs.Prelude.{IsOk}
-use Rattle.iop_sysmem.specs.Memory.{Memory, IsFree}
-use Rattle.iop_sysmem.proofs.Changing.{kept_with, front, behind, some_before, with_index, room, same_at}
+use Rattle.std.proofs.lemmas.List.{get_or_default}
+use Rattle.iop_sysmem.specs.BlockMap.{BlockMap, no_block, block_of, AreBlocks, IsFree}
+use Rattle.iop_sysmem.specs.declared.block.Block.{Block}
+use Rattle.iop_sysmem.proofs.Changing.{CanStand, IsWith, blocks_with, with_index, room}
 use Rattle.iop_sysmem.proofs.blocks.Blocks.put.Goals.{then-loop-index-test+else-index-place, else-loop-index-test}
 use Rattle.iop_sysmem.proofs.blocks.Blocks.put.Goals as goal
 
-abbrev memory : goal.After-insert → Memory
-memory c = record { size = c.self.inside.size; used = c.self.inside.used.items }
+abbrev old : goal.After-insert → BlockMap
+old c = record { size = c.self.inside.size; used = c.self.inside.used.items }
 
--- the loop ended at the end, or at a range that is not in front of the place
-ended : (c : goal.After-insert) → c.loop-index.index < length c.self.inside.used.items → c.args.place ≤ (slice_index_or c.self.inside.used.items c.loop-index.index (0, 0)).0
-ended c h = elim c.loop-index-test.branch [
-  | then-loop-index-test+else-index-place w ↦ (let e = ap (λ (x : ℕ × ℕ). x.0) (w.index.ensures ∙ same_at c.self.inside.used.items c.loop-index.index w.index.result.now (0, 0) h) in let l = w.if-index-place.false in omega arith)
-  | else-loop-index-test w ↦ absurd (omega (arith, c.len.ensures, c.self.inside.used.ok, w.loop-index-test.false))
+abbrev new : goal.After-insert → BlockMap
+new c = record { size = c.self.inside.size; used = c.insert.new.self.items }
+
+-- the loop ended at the end, or at a block that is not in front of the place
+next : (c : goal.After-insert) → c.loop-index.index < length (old c).used →
+    c.args.place ≤ (block_of (old c) c.loop-index.index).start
+next c h = elim c.loop-index-test.branch [
+  | then-loop-index-test+else-index-place w ↦ (
+      let e =
+      ap (λ (x : Block). x.start) (w.index.ensures
+      ∙ get_or_default (old c).used c.loop-index.index w.index.result.now no_block h) in
+      let l = w.if-index-place.false in omega arith)
+  | else-loop-index-test w ↦
+      absurd (omega (arith, c.len.ensures, c.self.inside.used.ok, w.loop-index-test.false))
 ]
 
-free_inside : (c : goal.After-insert) → IsFree (memory c) c.args.len c.args.place
-free_inside c = subst (λ (m : Memory). IsFree m c.args.len c.args.place) (sym c.self.view_is) c.requires.0
-
-has_room : (c : goal.After-insert) → 256 * (length c.self.inside.used.items + 1) ≤ c.self.inside.size
-has_room c =
-    room (memory c) c.self.invariant.0 c.loop-index.index c.args.place c.args.len (free_inside c) c.requires.2 c.loop-index.invariant.0 c.loop-index.invariant.1 (ended c) (omega (arith, c.requires.1, c.requires.2))
+stands : (c : goal.After-insert) → CanStand (old c) c.loop-index.index c.args.place c.args.len
+stands c = record {
+  free =
+      subst (λ (m : BlockMap). IsFree m c.args.len c.args.place) (sym c.self.view_is)
+      c.requires.free;
+  size = c.requires.size;
+  in_list = c.loop-index.invariant.0;
+  before = c.loop-index.invariant.1;
+  next = next c;
+}
 
 is_put : (c : goal.After-insert) → IsOk c.insert.result
-is_put c = c.insert.ensures.succeeds (omega (arith, has_room c, c.self.invariant.2, c.self.inside.used.ok))
+is_put c =
+    let fits =
+    room (old c) c.self.invariant.0 c.loop-index.index c.args.place c.args.len (stands c) in
+    c.insert.ensures.succeeds (omega (arith, fits, c.self.invariant.2, c.self.inside.used.ok))
+
+is_with : (c : goal.After-insert) →
+    IsWith (old c) (new c) c.loop-index.index c.args.place c.args.len
+is_with c = record {
+  same_size = refl;
+  longer = let h = is_put c in search rules;
+  at = c.insert.ensures.by_index.0 no_block (is_put c);
+  below = λ k h. c.insert.ensures.by_index.1 k no_block h;
+  above = λ k h. c.insert.ensures.by_index.2 k no_block (is_put c) h;
+}
+
+blocks : (c : goal.After-insert) → AreBlocks (new c)
+blocks c =
+    blocks_with (old c) (new c) c.self.invariant.0 c.loop-index.index c.args.place c.args.len
+    (stands c) (is_with c)
 
 pub invariant_of-self : goal.invariant_of-self
 invariant_of-self c = (
-  kept_with (memory c) (record { size = c.self.inside.size; used = c.insert.new.self.items }) c.self.invariant.0 c.loop-index.index c.args.place c.args.len refl (let h = is_put c in search rules) c.loop-index.invariant.0
-      (some_before (memory c) c.self.invariant.0 c.loop-index.index c.args.place c.args.len (free_inside c) c.requires.2 c.loop-index.invariant.0 c.loop-index.invariant.1 (ended c))
-      (c.insert.ensures.by_index.0 (0, 0) (is_put c)) (λ k h. c.insert.ensures.by_index.1 k (0, 0) h) (λ k h. c.insert.ensures.by_index.2 k (0, 0) (is_put c) h)
-      (free_inside c) c.requires.1 c.requires.2
-      (front (memory c) c.self.invariant.0 c.loop-index.index c.args.place c.args.len (free_inside c) c.requires.2 c.loop-index.invariant.0 c.loop-index.invariant.1 (ended c))
-      (behind (memory c) c.self.invariant.0 c.loop-index.index c.args.place c.args.len (free_inside c) c.requires.2 c.loop-index.invariant.0 c.loop-index.invariant.1 (ended c)),
+  blocks c,
   c.self.invariant.1,
   omega (arith, c.self.invariant.2, c.insert.ensures.capacity),
 )
 
-pub returns : goal.returns
-returns c =
-    let is = with_index (memory c) c.self.invariant.0 c.loop-index.index c.args.place c.args.len (free_inside c) c.requires.2 c.loop-index.invariant.0 c.loop-index.invariant.1 (ended c) in
+pub returns-clause-blocks : goal.returns-clause-blocks
+returns-clause-blocks c = blocks c
+
+pub returns-clause-map : goal.returns-clause-map
+returns-clause-map c =
+    let is =
+    with_index (old c) c.self.invariant.0 c.loop-index.index c.args.place c.args.len
+    (stands c) in
     grind (arith, is, c.insert.ensures.items, is_put c, c.self.view_is)

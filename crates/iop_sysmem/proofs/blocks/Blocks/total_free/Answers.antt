@@ -4,6 +4,9 @@ use Rattle.iop_sysmem.proofs.blocks.Blocks.total_free.Goals as goal
 
 pub loop-next-preserved : goal.loop-next-preserved
 loop-next-preserved c =
-    let before = c.loop-next.invariant.0.before c.loop-next.next-index (omega arith) c.loop-next-test.true in
-    let more = used_to c.deref-next-items.result.now c.loop-next.next-index c.loop-next-test.true in
-    (moves _ _ _ c.loop-next.invariant.0 c.loop-next-test.true, omega (arith, c.loop-next.invariant.1))
+    let i = c.loop-next.next-index in
+    let walk = c.loop-next.invariant.0 in
+    let here = c.loop-next-test.true in
+    let before = walk.before i (omega arith) here in
+    let more = used_to c.deref-next-items.result.now i here in
+    (moves _ _ _ walk here, omega (arith, c.loop-next.invariant.1))

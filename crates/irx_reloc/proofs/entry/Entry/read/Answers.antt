@@ -14,7 +14,8 @@ word_at-info-requires c = omega (arith, entry_inside c.args.section.now c.args.i
 pub word_at-requires : goal.word_at-requires
 word_at-requires c = omega (arith, entry_inside c.args.section.now c.args.index c.requires)
 
-pub returns-clause-entry : goal.returns-clause-entry
-returns-clause-entry c =
-    same_pair c.word_at.ensures (c.of_type.ensures.number ∙ ap (λ (info : ℕ). info % 256) c.word_at-info.ensures)
+pub returns : goal.returns
+returns c =
+    same_pair c.word_at.ensures
+    (c.of_type.ensures.number ∙ ap (λ (info : ℕ). info % 256) c.word_at-info.ensures)
     ∙ sym (get_or-entries_of c.args.section.now c.args.index c.requires)

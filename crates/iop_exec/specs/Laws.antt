@@ -1,0 +1,24 @@
+-- What the laws on rows say.
+use Rattle.std.specs.Prelude.{◌≡◌, ℕ, List}
+use Rattle.iop_exec.specs.declared.cpu.Cpu.{Cpu}
+use Rattle.iop_exec.specs.Positions.{IsStraight}
+use Rattle.iop_exec.specs.Row.{Row, Goes, Serves, Faults, at_next, row}
+
+-- the processor after a row
+abbrev pub cpu_after : Cpu → Row → Cpu
+cpu_after c (Goes after storing) = after
+cpu_after c (Serves code) = at_next c
+cpu_after c (Faults fault) = c
+
+-- a row goes to the next instruction, unless it faults
+abbrev pub GoesToNext : Cpu → Row → Type 0
+GoesToNext c (Goes after storing) = after.pc ≡ c.next
+GoesToNext c (Serves code) = (at_next c).pc ≡ c.next
+GoesToNext c (Faults fault) = Unit {0}
+
+abbrev pub RowsGoToNext : Type 0
+RowsGoToNext = (memory : List ℕ) (c : Cpu) → GoesToNext c (row memory c)
+
+abbrev pub RowsStayStraight : Type 0
+RowsStayStraight =
+    (memory : List ℕ) (c : Cpu) → IsStraight c → IsStraight (cpu_after c (row memory c))

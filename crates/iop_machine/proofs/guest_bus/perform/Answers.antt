@@ -1,0 +1,11 @@
+use Rattle.std.proofs.Common.{rules}
+use Rattle.iop_machine.proofs.Performing.{borrows, performed}
+use Rattle.iop_machine.proofs.guest_bus.perform.Goals as goal
+
+pub returns : goal.returns
+returns g c =
+    let same = borrows g.L.Lines.output _ _ _ _ _ _ c.step.ensures in
+    let guest = same.guest in
+    let lines = same.lines in
+    performed g.L.Lines.output _ _ _ _ _ _ _ _ c.step.ensures (search (rules, guest))
+    (search (rules, lines))

@@ -1,0 +1,5 @@
+use Rattle.iop_machine.proofs.StubSteps.{stubs_are_followed}
+use Rattle.iop_machine.proofs.laws.stubs_are_followed.Goals as goal
+
+pub returns : goal.returns
+returns c = stubs_are_followed

@@ -1,0 +1,78 @@
+ghost use Rattle.std.specs.Prelude.{◌≡◌, IfOk};
+ghost use Rattle.iop_base.specs.Places.{IsRamSize};
+ghost use Rattle.iop_machine.specs.Modules.{cpu_at};
+ghost use Rattle.iop_machine.specs.World.{reset};
+
+use crate::loader::Loader;
+use iop_base::Stop;
+use iop_exec::Cpu;
+use iop_registry::Registry;
+use iop_stubs::Guest;
+use std::alloc::{AllocError, Global};
+use std::marker::Model;
+
+/// The processor with its memory and its kernel.
+#[derive(Drop)]
+pub(crate) struct Iop {
+    pub(crate) guest: Guest,
+    pub(crate) registry: Registry,
+    /// The moment, in ticks: how many instructions were executed.
+    pub(crate) clock: u64,
+    pub(crate) cpu: Cpu,
+    pub(crate) loader: Loader,
+    /// Why it is stopped, where it is.
+    pub(crate) over: Option<Stop>,
+}
+
+impl Model for Iop {
+    ghost use Rattle.iop_machine.specs.Iop.{Iop};
+
+    ghost Value = { Iop };
+
+    ghost view = { λ m. record {
+      clock = m.clock;
+      memory = m.guest;
+      libraries = m.registry;
+      loader = m.loader;
+      cpu = m.cpu;
+      over = m.over;
+    } };
+}
+
+/// All registers zero.
+fn idle() -> Cpu
+    ensures { result ≡ cpu_at 0 }
+{
+    Cpu {
+        regs: [0; 32],
+        hi: 0,
+        lo: 0,
+        pc: 0,
+        next: 4,
+        in_slot: false,
+    }
+}
+
+impl Iop {
+    /// Makes it as it is after a reset: memory, of `size` bytes, is all zero, and nothing runs.
+    pub(crate) fn new(alloc: Global, size: u32) -> Result<Self, AllocError>
+        requires { IsRamSize size }
+        ensures { IfOk result (λ iop. iop ≡ reset size) }
+    {
+        Ok(Iop {
+            guest: Guest::new(alloc, size)?,
+            registry: Registry::new(alloc)?,
+            clock: 0,
+            cpu: idle(),
+            loader: Loader::Dormant,
+            over: None,
+        })
+    }
+
+    /// Answers why it is stopped, where it is.
+    pub(crate) fn stop(&self) -> Option<Stop>
+        ensures { result ≡ self.now.over }
+    {
+        self.over
+    }
+}

@@ -1,0 +1,32 @@
+-- What a sink tells of itself, and what writes leave in it: this project's profile.
+use Rattle.std.specs.Prelude.{◌≡◌, ℕ, ◌≤◌, Bool, true, false, Option, List}
+use Rattle.iop_base.specs.Counts.{HasCause}
+use Rattle.iop_base.specs.Piece.{IsFrontOf}
+use Rattle.iop_base.specs.Output.{extended}
+
+pub record SinkTold : Type 0 where
+  -- the bytes that it has taken, where it tells them
+  pub taken : Option (List ℕ)
+  -- how often a write has failed
+  pub faults : ℕ
+
+-- after it took these bytes, with no failure
+abbrev pub after_taking : List ℕ → SinkTold → SinkTold
+after_taking bytes told = record told { taken = extended told.taken bytes }
+
+-- it took these bytes, and then a write failed
+pub record FailsAfter (bytes : List ℕ) (old new : SinkTold) : Type 0 where
+  pub taken : new.taken ≡ extended old.taken bytes
+  pub cause : HasCause old.faults new.faults
+  pub never_falls : old.faults ≤ new.faults
+
+-- a write failed before the piece was whole: a front of it was taken
+pub record IsSentShort (piece : List ℕ) (old new : SinkTold) : Type 0 where
+  pub part : List ℕ
+  pub is_front : IsFrontOf part piece
+  pub fails : FailsAfter part old new
+
+-- a piece was sent, by whether it is whole: then no write failed
+abbrev pub Sends : Bool → List ℕ → SinkTold → SinkTold → Type 0
+Sends true piece old new = new ≡ after_taking piece old
+Sends false piece old new = IsSentShort piece old new

@@ -1,6 +1,0 @@
-use Rattle.std.proofs.Common.{◌∙◌}
-use Rattle.irx_elf.proofs.Sound.{lists-all}
-use Rattle.irx_elf.proofs.relocations.Rels.lists.Goals as goal
-
-pub returns : goal.returns
-returns c = lists-all c.self.inside.file.now ∙ c.self.view_is

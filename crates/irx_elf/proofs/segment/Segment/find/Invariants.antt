@@ -1,8 +1,0 @@
-use Rattle.std.proofs.Common.{◌≡◌, find}
-use Rattle.irx_elf.specs.Headers.{segment_number, segments, is_of_kind}
-use Rattle.irx_elf.proofs.Rows.{row}
-use Rattle.irx_elf.proofs.segment.Segment.find.Given as goal
-
-abbrev pub invariant-loop-number : goal.invariant-loop-number
-invariant-loop-number l =
-    find (is_of_kind l.kind) (row (segment_number l.file) l.number l.number-end) ≡ find (is_of_kind l.kind) (segments l.file)
