@@ -26,6 +26,10 @@ signed bits n = if nat_lt n (2 ^ (bits - 1)) then pos n else pos n -ℤ pos (2 ^
 abbrev pub sign_extended : (bits n : ℕ) → ℕ
 sign_extended bits n = if nat_lt n (2 ^ (bits - 1)) then n else wrapped (n + (2 ^ 32 - 2 ^ bits))
 
+-- the high half that gives an address together with its low half, which is signed
+abbrev pub high_half : ℕ → ℕ
+high_half address = wrapped (address + 0x8000) / 65536
+
 abbrev pub width_bytes : Width → ℕ
 width_bytes Byte = 1
 width_bytes Half = 2

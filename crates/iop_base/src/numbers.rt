@@ -1,7 +1,7 @@
 //! Numbers in bytes, and signed numbers.
 
 ghost use Rattle.std.specs.Prelude.{◌≡◌, ◌+◌, ◌<◌, ◌≤◌, length};
-ghost use Rattle.iop_base.specs.Numbers.{half_at, word_at, sign_extended};
+ghost use Rattle.iop_base.specs.Numbers.{half_at, word_at, sign_extended, high_half};
 
 use byteorder::{ByteOrder, LittleEndian};
 
@@ -34,4 +34,11 @@ pub fn sign_extended(bits: u32, number: u32) -> u32
     } else {
         number.wrapping_sub(1 << bits)
     }
+}
+
+/// The high half that gives an address together with its low half, which counts as signed.
+pub fn high_half(address: u32) -> u32
+    ensures { result ≡ high_half address }
+{
+    address.wrapping_add(0x8000) / 0x1_0000
 }

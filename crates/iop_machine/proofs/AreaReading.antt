@@ -10,7 +10,7 @@ use Rattle.std.proofs.lemmas.List.FromFn.{get_or-enumerate_from}
 use Rattle.std.proofs.lemmas.Option.{get_or_from_slice_get, slice_get_within}
 use Rattle.iop_base.specs.Numbers.{number_at, half_at, word_at, bytes_of}
 use Rattle.iop_base.specs.declared.libraries.TheConstants.{KERNEL_LIBRARIES}
-use Rattle.iop_base.specs.declared.words.TheConstants.{JUMP_BACK}
+use Rattle.iop_base.specs.declared.words.TheConstants.{EXPORT_MAGIC, JUMP_BACK}
 use Rattle.iop_isa.specs.Instructions.{inst_of}
 use Rattle.iop_isa.specs.Table.{row_of}
 use Rattle.iop_isa.specs.Words.{opcode_of, function_of, n_of}
@@ -19,7 +19,7 @@ use Rattle.iop_registry.specs.KernelLibraries.{kernel_library, kernel_libraries}
 use Rattle.iop_registry.specs.declared.registry.Entry.{Entry}
 use Rattle.irx_tables.specs.Exports.{header_of, functions}
 use Rattle.irx_tables.specs.Places.{name_at}
-use Rattle.irx_tables.specs.declared.words.TheConstants.{EXPORT_MAGIC, HEADER_BYTES}
+use Rattle.irx_tables.specs.declared.words.TheConstants.{HEADER_BYTES}
 use Rattle.irx_tables.proofs.Exporting.{functions_are, function_is}
 use Rattle.iop_machine.specs.AreaLaws.{HasCall, HasService, HasLibrary, HasKernel, KernelAreaIsRead}
 use Rattle.iop_machine.specs.KernelArea.{syscall_word, name_word, service_at, table_word, kernel_word}

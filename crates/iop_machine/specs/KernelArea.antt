@@ -3,8 +3,7 @@
 use Rattle.std.specs.Prelude.{ℕ, zero, suc, ◌+◌, ◌-◌, ◌*◌, ◌/◌, ◌%◌, ◌^◌, ◌==◌, nat_le, nat_lt, ◌&&◌, if◌then◌else◌, List, [], ◌++◌, slice_index_or}
 use Rattle.iop_base.specs.Numbers.{number_at, bytes_of}
 use Rattle.iop_base.specs.declared.libraries.TheConstants.{KERNEL_LIBRARIES}
-use Rattle.iop_base.specs.declared.words.TheConstants.{JUMP_BACK}
-use Rattle.irx_tables.specs.declared.words.TheConstants.{EXPORT_MAGIC}
+use Rattle.iop_base.specs.declared.words.TheConstants.{EXPORT_MAGIC, JUMP_BACK}
 
 -- syscall code
 abbrev pub syscall_word : ℕ → ℕ

@@ -5,9 +5,8 @@ ghost use Rattle.iop_base.specs.Numbers.{with_bytes};
 ghost use Rattle.iop_base.specs.Output.{Gives};
 ghost use Rattle.iop_machine.specs.KernelArea.{syscall_word, name_word, service_at, table_word, service_word, kernel_word, kernel_area};
 
-use iop_base::{JUMP_BACK, KERNEL_LIBRARIES, Lines, Width};
+use iop_base::{EXPORT_MAGIC, JUMP_BACK, KERNEL_LIBRARIES, Lines, Width};
 use iop_stubs::Guest;
-use irx_tables::EXPORT_MAGIC;
 
 /// The version of the kernel's libraries, and mode 0.
 const VERSION: u32 = 0x0101;

@@ -93,7 +93,7 @@ module _ (memory : Memory) (h : IsSound memory) where
         λ k d below. narrower _ _ (apart (get_or memory.live k d).at stub.at 8
         (may.apart k d below))
 
-    base_bound : base_of (after_bind memory stub) ≡ base_of memory
+    pub base_bound : base_of (after_bind memory stub) ≡ base_of memory
     base_bound =
         let ram = memory.ram in
         let live = memory.live in

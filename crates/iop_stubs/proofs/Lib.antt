@@ -4,3 +4,4 @@ pub mod Searching
 pub mod Binding
 pub mod FirstWords
 pub mod LayersLemmas
+pub mod GuestMemoryLemmas

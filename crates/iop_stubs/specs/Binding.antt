@@ -1,7 +1,7 @@
 -- What binding a stub does and asks for, and what holds of every memory (ps2sdk's irx.h: the words
 -- of a stub; MIPS I: j). That at most 65,536 stubs are live is this project's own profile.
 use Rattle.std.specs.Prelude.{◌≡◌, ℕ, ◌+◌, ◌/◌, ◌%◌, ◌^◌, ◌<◌, ◌≤◌, nat_lt, false, if◌then◌else◌, List, [], ◌∷◌, length, take, drop, All, AllPairs}
-use Rattle.iop_base.specs.Numbers.{number_at, bytes_of, with_bytes}
+use Rattle.iop_base.specs.Numbers.{IsByte, number_at, bytes_of, with_bytes}
 use Rattle.iop_base.specs.Places.{IsRamSize}
 use Rattle.iop_base.specs.declared.words.TheConstants.{JUMP_BACK, STUB_INDEX}
 use Rattle.iop_stubs.specs.Stubs.{Memory, meets}
@@ -60,3 +60,8 @@ pub record IsSound (memory : Memory) : Type 0 where
   pub few : length memory.live ≤ MOST_LIVE
   pub bound : All (IsBound memory.ram) memory.live
   pub apart : IsInOrder memory.live
+
+-- what holds of every memory of a guest: it is sound, and consists of bytes
+pub record IsGuestMemory (memory : Memory) : Type 0 where
+  pub sound : IsSound memory
+  pub bytes : All IsByte memory.ram

@@ -1,8 +1,7 @@
 -- What the laws of memory say.
-use Rattle.std.specs.Prelude.{◌≡◌, ℕ, ◌+◌, ◌≤◌, Option, List, length, All, IfSome}
-use Rattle.iop_base.specs.Numbers.{IsByte}
+use Rattle.std.specs.Prelude.{◌≡◌, ℕ, ◌+◌, ◌≤◌, Option, List, length, IfSome}
 use Rattle.iop_stubs.specs.Stubs.{Memory, after_store}
-use Rattle.iop_stubs.specs.Binding.{after_bind, MayBind, IsSound}
+use Rattle.iop_stubs.specs.Binding.{after_bind, MayBind, IsSound, IsGuestMemory}
 use Rattle.iop_stubs.specs.Layers.{Layers, layers_of, memory_of, layers_after_store, layers_after_bind, AreSound}
 use Rattle.iop_stubs.specs.declared.live_stub.Stub.{Stub}
 
@@ -29,5 +28,5 @@ StoresKeepLayers = (memory : Memory) (place : Option ℕ) (bytes : List ℕ) →
 
 abbrev pub BindingsKeepLayers : Type 0
 BindingsKeepLayers =
-    (memory : Memory) (stub : Stub) → IsSound memory → All IsByte memory.ram → MayBind memory stub →
+    (memory : Memory) (stub : Stub) → IsGuestMemory memory → MayBind memory stub →
     IsMemoryOf (layers_after_bind (layers_of memory) stub) (after_bind memory stub)

@@ -1,10 +1,11 @@
-ghost use Rattle.std.specs.Prelude.{◌≡◌, ℕ, ◌+◌, ◌%◌, ◌^◌, ◌≤◌, IfOk, [], find, is_ok, is_some, length, OnErr, replicate, slice_index};
+ghost use Rattle.std.specs.Prelude.{◌≡◌, ℕ, ◌+◌, ◌%◌, ◌^◌, ◌≤◌, All, IfOk, [], find, is_ok, is_some, length, OnErr, replicate, slice_index};
 ghost use Rattle.std.specs.Option.{ok_or};
-ghost use Rattle.iop_base.specs.Numbers.{width_bytes, bytes_of, with_bytes};
+ghost use Rattle.iop_base.specs.Numbers.{IsByte, width_bytes, bytes_of, with_bytes};
 ghost use Rattle.iop_base.specs.Places.{IsRamSize, range_at, access_at};
 ghost use Rattle.iop_base.specs.Output.{Gives};
 ghost use Rattle.iop_stubs.specs.Stubs.{is_of, stands_at, access_place, range_place, after_store, store_lines};
 ghost use Rattle.iop_stubs.specs.Binding.{after_bind, MayBind, IsSound};
+ghost use Rattle.iop_stubs.specs.Layers.{base_of};
 ghost use Rattle.iop_stubs.specs.declared.live_stub.TheConstants.Stub.{MOST_LIVE};
 
 use crate::live_stub::Stub;
@@ -27,13 +28,13 @@ pub struct Guest {
 
 impl Model for Guest {
     ghost use Rattle.iop_stubs.specs.Stubs.{Memory};
-    ghost use Rattle.iop_stubs.specs.Binding.{IsSound};
+    ghost use Rattle.iop_stubs.specs.Binding.{IsGuestMemory};
 
     ghost Value = { Memory };
 
     ghost view = { λ g. record { ram = g.ram; live = g.live } };
 
-    ghost invariant = { λ g. IsSound (record { ram = g.ram; live = g.live }) };
+    ghost invariant = { λ g. IsGuestMemory (record { ram = g.ram; live = g.live }) };
 }
 
 impl Guest {
@@ -54,6 +55,7 @@ impl Guest {
     /// Lends RAM as the guest reads it.
     pub fn ram(&self) -> &Ram
         ensures value { result.now ≡ self.now.ram }
+        ensures bytes { All IsByte self.now.ram }
         ensures sound { IsSound self.now }
     {
         &self.ram
@@ -152,7 +154,8 @@ impl Guest {
         Stub::MOST_LIVE - self.live.len() as u32
     }
 
-    /// Binds a stub: its first word becomes a jump to its target, and it is live.
+    /// Binds a stub: its first word becomes a jump to its target, and it is live. Memory without
+    /// the jumps of live stubs stays as it was.
     ///
     /// There is room for it. Its place, a multiple of 4, has its 8 bytes in RAM, where `JUMP_BACK`
     /// and `STUB_INDEX` + its index stand, and no live stub overlaps it. Its target is a
@@ -160,6 +163,7 @@ impl Guest {
     pub fn bind(&mut self, stub: Stub)
         requires { MayBind self.old stub }
         ensures memory { self.new ≡ after_bind self.old stub }
+        ensures base { base_of self.new ≡ base_of self.old }
         ensures was_sound { IsSound self.old }
         ensures sound { IsSound self.new }
     {

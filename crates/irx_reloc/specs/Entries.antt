@@ -4,22 +4,7 @@
 use Rattle.std.specs.Prelude.{ℕ, ◌+◌, ◌*◌, ◌/◌, ◌%◌, ◌==◌, Bool, List, length, map}
 use Rattle.std.specs.List.{range_with_len}
 use Rattle.iop_base.specs.Numbers.{word_at}
-
--- R_MIPS_NONE, R_MIPS_32, R_MIPS_26, R_MIPS_HI16 and R_MIPS_LO16
-abbrev pub mips_none : ℕ
-mips_none = 0
-
-abbrev pub mips_32 : ℕ
-mips_32 = 2
-
-abbrev pub mips_26 : ℕ
-mips_26 = 4
-
-abbrev pub mips_hi16 : ℕ
-mips_hi16 = 5
-
-abbrev pub mips_lo16 : ℕ
-mips_lo16 = 6
+use Rattle.iop_base.specs.declared.relocation_types.TheConstants.{R_MIPS_LO16}
 
 -- the site and the type of a section's entry k
 abbrev pub entry_at : List ℕ → ℕ → ℕ × ℕ
@@ -34,4 +19,4 @@ abbrev pub all_entries : List (List ℕ) → List (List (ℕ × ℕ))
 all_entries sections = map entries_of sections
 
 abbrev pub is_low : ℕ × ℕ → Bool
-is_low entry = entry.1 == mips_lo16
+is_low entry = entry.1 == R_MIPS_LO16

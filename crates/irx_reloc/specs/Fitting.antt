@@ -5,7 +5,8 @@ use Rattle.std.specs.Prelude.{ℕ, ◌+◌, ◌%◌, ◌==◌, nat_le, Bool, ◌
 use Rattle.std.specs.List.{find}
 use Rattle.std.specs.Option.{option_or}
 use Rattle.iop_base.specs.declared.illegal.Illegal.{Illegal}
-use Rattle.irx_reloc.specs.Entries.{mips_none, mips_32, mips_26, mips_hi16, mips_lo16, is_low}
+use Rattle.iop_base.specs.declared.relocation_types.TheConstants.{R_MIPS_NONE, R_MIPS_32, R_MIPS_26, R_MIPS_HI16, R_MIPS_LO16}
+use Rattle.irx_reloc.specs.Entries.{is_low}
 
 -- a multiple of 4 with its four bytes in an image of so many bytes
 abbrev pub is_site : ℕ → ℕ → Bool
@@ -13,16 +14,16 @@ is_site size site = site % 4 == 0 && nat_le (site + 4) size
 
 abbrev pub is_type : ℕ → Bool
 is_type number =
-    number == mips_none || number == mips_32 || number == mips_26 || number == mips_hi16 || number
-    == mips_lo16
+    number == R_MIPS_NONE || number == R_MIPS_32 || number == R_MIPS_26
+    || number == R_MIPS_HI16 || number == R_MIPS_LO16
 
 -- the first rule that an entry breaks, where it is known whether a LO16 comes later
 unfoldable pub broken_rule : ℕ → ℕ × ℕ → Bool → Option ℕ
 broken_rule size entry has_low =
-    if entry.1 == mips_none then None
+    if entry.1 == R_MIPS_NONE then None
     else if not (is_site size entry.0) then Some 13
     else if not (is_type entry.1) then Some 14
-    else if entry.1 == mips_hi16 && not has_low then Some 15
+    else if entry.1 == R_MIPS_HI16 && not has_low then Some 15
     else None
 
 -- the first entry of a section that breaks a rule: the rule and the site

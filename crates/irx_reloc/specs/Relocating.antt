@@ -4,9 +4,10 @@
 use Rattle.std.specs.Prelude.{ℕ, ◌+◌, ◌*◌, ◌/◌, ◌%◌, ◌^◌, ◌==◌, if◌then◌else◌, Option, Some, None, List, [], ◌∷◌}
 use Rattle.std.specs.List.{find}
 use Rattle.std.specs.Option.{option_map_or}
-use Rattle.iop_base.specs.Numbers.{wrapped, sign_extended, word_at}
+use Rattle.iop_base.specs.Numbers.{wrapped, sign_extended, high_half, word_at}
 use Rattle.irx_reloc.specs.Words.{with_word}
-use Rattle.irx_reloc.specs.Entries.{mips_32, mips_26, mips_hi16, mips_lo16, is_low}
+use Rattle.iop_base.specs.declared.relocation_types.TheConstants.{R_MIPS_32, R_MIPS_26, R_MIPS_HI16, R_MIPS_LO16}
+use Rattle.irx_reloc.specs.Entries.{is_low}
 
 -- a word with other low bits
 abbrev pub with_low_bits : ℕ → ℕ → ℕ → ℕ
@@ -16,19 +17,15 @@ with_low_bits bits word value = word / 2 ^ bits * 2 ^ bits + value % 2 ^ bits
 abbrev pub moved_address : (high low base : ℕ) → ℕ
 moved_address high low base = wrapped (high * 65536 + sign_extended 16 low + base)
 
--- the high half that gives an address together with its low half, which is signed
-abbrev pub high_half : ℕ → ℕ
-high_half address = wrapped (address + 0x8000) / 65536
-
 -- the word that an entry of this type leaves at its site, unless it leaves it as it is; `low` is
 -- the low half that a HI16 takes
 unfoldable pub moved_word : (number word low base : ℕ) → Option ℕ
 moved_word number word low base =
-    if number == mips_32 then Some (wrapped (word + base))
-    else if number == mips_26 then Some (with_low_bits 26 word (word % 2 ^ 26 + base / 4))
-    else if number == mips_hi16 then Some
+    if number == R_MIPS_32 then Some (wrapped (word + base))
+    else if number == R_MIPS_26 then Some (with_low_bits 26 word (word % 2 ^ 26 + base / 4))
+    else if number == R_MIPS_HI16 then Some
     (with_low_bits 16 word (high_half (moved_address (word % 2 ^ 16) low base)))
-    else if number == mips_lo16 then Some (with_low_bits 16 word (word % 2 ^ 16 + base))
+    else if number == R_MIPS_LO16 then Some (with_low_bits 16 word (word % 2 ^ 16 + base))
     else None
 
 -- the low half of the word at the site of an entry, if there is one

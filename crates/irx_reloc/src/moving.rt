@@ -1,10 +1,10 @@
 //! The words that entries leave at their sites.
 
 ghost use Rattle.std.specs.Prelude.{◌≡◌, ◌+◌, ◌/◌, ◌%◌, ◌^◌, ◌<◌};
-ghost use Rattle.iop_base.specs.Numbers.{wrapped};
-ghost use Rattle.irx_reloc.specs.Relocating.{with_low_bits, moved_address, high_half};
+ghost use Rattle.iop_base.specs.Numbers.{wrapped, high_half};
+ghost use Rattle.irx_reloc.specs.Relocating.{with_low_bits, moved_address};
 
-use iop_base::sign_extended;
+use iop_base::{high_half, sign_extended};
 
 /// How many low bits of a jump are its target.
 const TARGET_BITS: u32 = 26;
@@ -43,7 +43,7 @@ pub(crate) fn high_moved(word: u32, low: u16, base: u32) -> u32
     let address = (word % 0x1_0000 * 0x1_0000)
         .wrapping_add(sign_extended(16, low.into()))
         .wrapping_add(base);
-    with_low_bits(HALF_BITS, word, address.wrapping_add(0x8000) / 0x1_0000)
+    with_low_bits(HALF_BITS, word, high_half(address))
 }
 
 /// Moves the low half of an address, which an instruction holds, by the base.

@@ -3,7 +3,7 @@ use Rattle.std.proofs.Common.{◌≡◌, ℕ, ◌+◌, ◌-◌, ◌*◌, ◌/◌
 use Rattle.std.proofs.lemmas.Bool.{and_from}
 use Rattle.iop_base.specs.Numbers.{word_at}
 use Rattle.irx_tables.specs.Imports.{is_start, first_start}
-use Rattle.irx_tables.specs.declared.words.TheConstants.{IMPORT_MAGIC}
+use Rattle.iop_base.specs.declared.words.TheConstants.{IMPORT_MAGIC}
 use Rattle.irx_tables.proofs.Rows.{find_places, find_no_place}
 
 pub starts_here : (memory : List ℕ) (p q : ℕ) → q ≡ p + 4 → word_at memory p ≡ IMPORT_MAGIC

@@ -6,7 +6,8 @@ use Rattle.std.specs.Prelude.{ℕ, ◌+◌, ◌-◌, ◌/◌, ◌==◌, min, not
 use Rattle.std.specs.List.{take_while}
 use Rattle.iop_base.specs.Numbers.{word_at, half_at}
 use Rattle.irx_tables.specs.Places.{name_at, places}
-use Rattle.irx_tables.specs.declared.words.TheConstants.{EXPORT_MAGIC, HEADER_BYTES, MOST_FUNCTIONS}
+use Rattle.iop_base.specs.declared.words.TheConstants.{EXPORT_MAGIC}
+use Rattle.irx_tables.specs.declared.words.TheConstants.{HEADER_BYTES, MOST_FUNCTIONS}
 
 -- a table's name and version, where its magic is there
 abbrev pub header_of : List ℕ → ℕ → Option (List ℕ × ℕ)

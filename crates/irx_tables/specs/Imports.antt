@@ -5,9 +5,9 @@
 use Rattle.std.specs.Prelude.{ℕ, ◌+◌, ◌-◌, ◌*◌, ◌/◌, ◌^◌, ◌==◌, nat_le, nat_lt, Bool, ◌&&◌, if◌then◌else◌, zero, suc, Option, Some, None, option_map, List, [], ◌∷◌, length, map}
 use Rattle.std.specs.List.{find, take_while}
 use Rattle.iop_base.specs.Numbers.{word_at, half_at}
-use Rattle.iop_base.specs.declared.words.TheConstants.{JUMP_BACK, STUB_INDEX}
+use Rattle.iop_base.specs.declared.words.TheConstants.{IMPORT_MAGIC, JUMP_BACK, STUB_INDEX}
 use Rattle.irx_tables.specs.Places.{name_at, places}
-use Rattle.irx_tables.specs.declared.words.TheConstants.{IMPORT_MAGIC, HEADER_BYTES}
+use Rattle.irx_tables.specs.declared.words.TheConstants.{HEADER_BYTES}
 
 -- the first two words of a table
 abbrev pub is_start : List ℕ → ℕ → Bool

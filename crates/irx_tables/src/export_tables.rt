@@ -4,7 +4,8 @@ ghost use Rattle.irx_tables.specs.Exports.{header_of, functions};
 ghost use Rattle.irx_tables.specs.declared.words.TheConstants.{HEADER_BYTES, MOST_FUNCTIONS};
 
 use crate::reading::{half, name, word};
-use crate::words::{EXPORT_MAGIC, HEADER_BYTES, MOST_FUNCTIONS};
+use crate::words::{HEADER_BYTES, MOST_FUNCTIONS};
+use iop_base::EXPORT_MAGIC;
 use iop_ram::Ram;
 
 /// Reads the name and the version (major * 256 + minor) of the export table at a physical place, a

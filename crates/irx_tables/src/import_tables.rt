@@ -6,8 +6,8 @@ ghost use Rattle.irx_tables.specs.Results.{pair_at, import_of, next_of, IfTable,
 ghost use Rattle.irx_tables.specs.declared.words.TheConstants.{HEADER_BYTES};
 
 use crate::reading::{half, name, word};
-use crate::words::{HEADER_BYTES, IMPORT_MAGIC};
-use iop_base::{JUMP_BACK, STUB_INDEX};
+use crate::words::HEADER_BYTES;
+use iop_base::{IMPORT_MAGIC, JUMP_BACK, STUB_INDEX};
 use iop_ram::Ram;
 
 /// The second word of the stub of the highest index, 65,535.

@@ -12,4 +12,4 @@ mod words;
 pub use export_tables::{export_word, exports_count, header};
 pub use import_tables::{Import, Next, imports, stub};
 pub use reading::word;
-pub use words::{EXPORT_MAGIC, HEADER_BYTES, IMPORT_MAGIC, MOST_FUNCTIONS};
+pub use words::{HEADER_BYTES, MOST_FUNCTIONS};

@@ -1,10 +1,4 @@
-//! Words, sizes and limits of import and export tables (ps2sdk's irx.h).
-
-/// The first word of an import table.
-pub const IMPORT_MAGIC: u32 = 0x41E0_0000;
-
-/// The first word of an export table.
-pub const EXPORT_MAGIC: u32 = 0x41C0_0000;
+//! Sizes and limits of import and export tables (ps2sdk's irx.h).
 
 /// The bytes of an import or an export table before its stubs or functions.
 pub const HEADER_BYTES: u32 = 20;

@@ -1,9 +1,9 @@
 use Rattle.std.proofs.Common.{arith, sym, ◌∙◌}
 use Rattle.iop_base.specs.Numbers.{width_bytes, bytes_of}
-use Rattle.iop_stubs.specs.Binding.{IsSound}
+use Rattle.iop_stubs.specs.Binding.{IsGuestMemory}
 use Rattle.iop_stubs.proofs.StubLines.{store_lines-refused}
-use Rattle.iop_base.proofs.Lists.{length-bytes_of}
-use Rattle.iop_stubs.proofs.Storing.{store_sound}
+use Rattle.iop_base.proofs.Lists.{length-bytes_of, All-bytes_of}
+use Rattle.iop_stubs.proofs.GuestMemoryLemmas.{guest-store}
 use Rattle.iop_stubs.proofs.guest_memory.Guest.store.Given.{Over}
 use Rattle.iop_stubs.proofs.guest_memory.Guest.store.Goals as goal
 
@@ -12,18 +12,19 @@ returns-in_err-place-clause-lines g c = rw (← c.self.view_is)
     (store_lines-refused _ _ (record { ram = c.self.inside.ram; live = c.self.inside.live }) _ _ _ _
     c.in_err-place.ensures.place)
 
-sound : (g : Over) (c : goal.After-end_in g) →
-    IsSound (record { ram = c.store_number.new.ram; live = c.end_in.new.self })
-sound g c =
-    store_sound (record { ram = c.self.inside.ram; live = c.self.inside.live }) _ _
+new : (g : Over) (c : goal.After-end_in g) →
+    IsGuestMemory (record { ram = c.store_number.new.ram; live = c.end_in.new.self })
+new g c =
+    guest-store (record { ram = c.self.inside.ram; live = c.self.inside.live }) _ _
     c.in_ok-place.place c.bytes.result
     (bytes_of (width_bytes c.args.width) c.args.value) c.in_ok-place.ensures.memory
     c.end_in.ensures.live
     (length-bytes_of (width_bytes c.args.width) c.args.value ∙ sym c.bytes.ensures)
-    (omega (arith, c.in_ok-place.ensures.inside, c.bytes.ensures)) c.self.invariant
+    (omega (arith, c.in_ok-place.ensures.inside, c.bytes.ensures))
+    (All-bytes_of (width_bytes c.args.width) c.args.value) c.self.invariant
 
 pub invariant_of-self-2 : goal.invariant_of-self-2
-invariant_of-self-2 g c = sound g c
+invariant_of-self-2 g c = new g c
 
 pub returns-clause-sound : goal.returns-clause-sound
-returns-clause-sound g c = sound g c
+returns-clause-sound g c = (new g c).sound
