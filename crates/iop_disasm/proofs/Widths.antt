@@ -1,7 +1,8 @@
 -- How long the texts of instructions are.
 use Rattle.std.proofs.Common.{◌≡◌, ℕ, ◌+◌, ◌*◌, ◌≤◌, nat_le, Bool, true, false, cond, ◌&&◌, Option, Some, option_map, List, [], ◌∷◌, length, refl, subst}
 use Rattle.std.proofs.lemmas.Bool.{leb-true, and_parts}
-use Rattle.iop_isa.specs.Table.{Opcode, Row, rows, same, found, selected_by, row_of}
+use Rattle.iop_isa.specs.declared.opcode.Opcode.{Opcode}
+use Rattle.iop_isa.specs.Table.{Row, rows, same, found, selected_by, row_of}
 use Rattle.iop_isa.specs.Writing.{Written, written}
 
 -- a name, and operands of 8 bytes with a byte before each

@@ -2,8 +2,10 @@
 use Rattle.std.proofs.Common.{◌≡◌, ℕ, ◌+◌, ◌*◌, ◌<◌, ◌^◌, nat_eq, false, refl, option_map, arith}
 use Rattle.std.proofs.lemmas.Bool.Decides.{nat_tests}
 use Rattle.iop_isa.specs.declared.fields.Fields.{Fields}
+use Rattle.iop_isa.specs.declared.opcode.Opcode.{Opcode}
+use Rattle.iop_isa.specs.declared.opcode.Opcode.TheVariants.{Special, Regimm, Primary}
 use Rattle.iop_isa.specs.Words.{opcode_of, rs_of, rt_of, rd_of, sa_of, function_of, n_of, imm_of, target_of, fields_of}
-use Rattle.iop_isa.specs.Table.{Opcode, Special, Regimm, Primary, rows, found, selected_by, row_of}
+use Rattle.iop_isa.specs.Table.{rows, found, selected_by, row_of}
 use Rattle.iop_isa.specs.Instructions.{inst_of, plain_word, row_inst, Holds}
 
 module _ (word : ℕ) where

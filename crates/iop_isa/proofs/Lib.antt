@@ -1,1 +1,3 @@
 mod Formats
+mod Rows
+mod Decimal

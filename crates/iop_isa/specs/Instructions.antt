@@ -4,9 +4,11 @@ use Rattle.std.specs.Prelude.{◌≡◌, ℕ, ◌+◌, ◌*◌, ◌^◌, Bool, t
 use Rattle.iop_isa.specs.declared.fields.Fields.{Fields}
 use Rattle.iop_isa.specs.declared.instruction.Inst.{Inst}
 use Rattle.iop_isa.specs.declared.instruction.Inst.TheVariants.{Jr, Jalr, Bltz, Bgez, Bltzal, Bgezal, J, Jal, Beq, Bne, Blez, Bgtz}
+use Rattle.iop_isa.specs.declared.opcode.Opcode.{Opcode}
+use Rattle.iop_isa.specs.declared.opcode.Opcode.TheVariants.{Special, Regimm, Primary}
 use Rattle.iop_isa.specs.declared.table.Operand.{Operand}
 use Rattle.iop_isa.specs.declared.table.Operand.TheVariants.{Rd, Rs, Rt, Sa, Code, Signed, Bits, Label, Target, Base}
-use Rattle.iop_isa.specs.Table.{Opcode, Special, Regimm, Primary, Takes, Row, rows, found, row_of}
+use Rattle.iop_isa.specs.Table.{Takes, Row, rows, found, row_of}
 use Rattle.iop_isa.specs.Words.{fields_of, zeros}
 
 -- the number of an operand
@@ -21,6 +23,19 @@ number Bits f = f.imm
 number Label f = f.imm
 number Target f = f.target
 number Base f = f.rs
+
+-- what the numbers of an operand are below
+abbrev pub number_limit : Operand → ℕ
+number_limit Rd = 32
+number_limit Rs = 32
+number_limit Rt = 32
+number_limit Sa = 32
+number_limit Code = 2 ^ 20
+number_limit Signed = 2 ^ 16
+number_limit Bits = 2 ^ 16
+number_limit Label = 2 ^ 16
+number_limit Target = 2 ^ 26
+number_limit Base = 32
 
 -- an instruction with the numbers of its operands
 abbrev pub inst_with : (operands : List Operand) → Takes operands → Fields → Inst

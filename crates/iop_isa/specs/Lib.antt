@@ -3,3 +3,4 @@ pub mod Table
 pub mod Instructions
 pub mod Writing
 pub mod Targets
+pub mod Registers

@@ -2,16 +2,11 @@
 use Rattle.std.specs.Prelude.{ℕ, ◌==◌, Bool, false, if◌then◌else◌, Option, Some, None, List, [], ◌∷◌, codes}
 use Rattle.iop_isa.specs.declared.instruction.Inst.{Inst}
 use Rattle.iop_isa.specs.declared.instruction.Inst.TheVariants.{Sll, Srl, Sra, Sllv, Srlv, Srav, Jr, Jalr, Syscall, Break, Mfhi, Mthi, Mflo, Mtlo, Mult, Multu, Div, Divu, Add, Addu, Sub, Subu, And, Or, Xor, Nor, Slt, Sltu, Bltz, Bgez, Bltzal, Bgezal, J, Jal, Beq, Bne, Blez, Bgtz, Addi, Addiu, Slti, Sltiu, Andi, Ori, Xori, Lui, Lb, Lh, Lwl, Lw, Lbu, Lhu, Lwr, Sb, Sh, Swl, Sw, Swr}
+use Rattle.iop_isa.specs.declared.opcode.Opcode.{Opcode}
+use Rattle.iop_isa.specs.declared.opcode.Opcode.TheVariants.{Special, Regimm, Primary}
 use Rattle.iop_isa.specs.declared.table.Operand.{Operand}
 use Rattle.iop_isa.specs.declared.table.Operand.TheVariants.{Rd, Rs, Rt, Sa, Code, Signed, Bits, Label, Target, Base}
 use Rattle.iop_isa.specs.Words.{opcode_of, function_of, rt_of}
-
--- what tells the instruction of a word: its opcode, or the function where the opcode is 0, or rt
--- where it is 1
-pub data Opcode : Type 0 where
-  Special : (function : ℕ) → Opcode
-  Regimm : (rt : ℕ) → Opcode
-  Primary : (opcode : ℕ) → Opcode
 
 -- an instruction that still takes the number of each operand
 abbrev pub Takes : List Operand → Type 0
@@ -29,6 +24,8 @@ abbrev pub row : Opcode → List ℕ → (operands : List Operand) → Takes ope
 row opcode name operands inst =
     record { opcode = opcode; name = name; operands = operands; inst = inst }
 
+-- the rows by their formats: the functions with registers and those with a code, and the others
+-- by opcode
 abbrev pub rows : List Row
 rows =
     row (Special 0x00) (codes "sll") (Rd ∷ Rt ∷ Sa ∷ []) Sll
@@ -39,8 +36,6 @@ rows =
     ∷ row (Special 0x07) (codes "srav") (Rd ∷ Rt ∷ Rs ∷ []) Srav
     ∷ row (Special 0x08) (codes "jr") (Rs ∷ []) Jr
     ∷ row (Special 0x09) (codes "jalr") (Rd ∷ Rs ∷ []) Jalr
-    ∷ row (Special 0x0C) (codes "syscall") (Code ∷ []) Syscall
-    ∷ row (Special 0x0D) (codes "break") (Code ∷ []) Break
     ∷ row (Special 0x10) (codes "mfhi") (Rd ∷ []) Mfhi
     ∷ row (Special 0x11) (codes "mthi") (Rs ∷ []) Mthi
     ∷ row (Special 0x12) (codes "mflo") (Rd ∷ []) Mflo
@@ -59,6 +54,8 @@ rows =
     ∷ row (Special 0x27) (codes "nor") (Rd ∷ Rs ∷ Rt ∷ []) Nor
     ∷ row (Special 0x2A) (codes "slt") (Rd ∷ Rs ∷ Rt ∷ []) Slt
     ∷ row (Special 0x2B) (codes "sltu") (Rd ∷ Rs ∷ Rt ∷ []) Sltu
+    ∷ row (Special 0x0C) (codes "syscall") (Code ∷ []) Syscall
+    ∷ row (Special 0x0D) (codes "break") (Code ∷ []) Break
     ∷ row (Regimm 0x00) (codes "bltz") (Rs ∷ Label ∷ []) Bltz
     ∷ row (Regimm 0x01) (codes "bgez") (Rs ∷ Label ∷ []) Bgez
     ∷ row (Regimm 0x10) (codes "bltzal") (Rs ∷ Label ∷ []) Bltzal
@@ -91,11 +88,18 @@ rows =
     ∷ row (Primary 0x2E) (codes "swr") (Rt ∷ Signed ∷ Base ∷ []) Swr
     ∷ []
 
+-- what tells the instruction of a word
 abbrev pub selected_by : ℕ → Opcode
 selected_by word =
     if opcode_of word == 0 then Special (function_of word)
     else if opcode_of word == 1 then Regimm (rt_of word)
     else Primary (opcode_of word)
+
+-- the number that an opcode holds
+abbrev pub code_of : Opcode → ℕ
+code_of (Special function) = function
+code_of (Regimm rt) = rt
+code_of (Primary opcode) = opcode
 
 abbrev pub same : Opcode → Opcode → Bool
 same (Special m) (Special n) = m == n

@@ -2,8 +2,10 @@
 
 ghost use Rattle.std.specs.Prelude.{◌≡◌, ◌<◌};
 ghost use Rattle.iop_isa.specs.Words.{field, fields_of, zeros};
+ghost use Rattle.iop_isa.specs.Instructions.{number_limit, with_number};
 
 use crate::operands::{Code20, Reg, Shift5, Target26};
+use crate::table::Operand;
 
 /// The fields of a word that hold operands. They overlap, and no instruction has them all.
 #[derive(Clone, Copy)]
@@ -41,8 +43,8 @@ impl Fields {
         }
     }
 
-    /// Makes fields of zeros.
-    pub(crate) fn zeros() -> Self
+    /// Makes fields in which all operands are 0.
+    pub fn zeros() -> Self
         ensures { result ≡ zeros }
     {
         Fields {
@@ -53,6 +55,43 @@ impl Fields {
             n: Code20::new(0),
             imm: 0,
             target: Target26::new(0),
+        }
+    }
+
+    /// Changes the number of an operand to one that its field can hold.
+    pub fn with_number(self, operand: Operand, number: u32) -> Self
+        requires { number < number_limit operand }
+        ensures { result ≡ with_number operand number self }
+    {
+        match operand {
+            Operand::Rd => Fields {
+                rd: Reg::new(number as u8),
+                ..self
+            },
+            Operand::Rs | Operand::Base => Fields {
+                rs: Reg::new(number as u8),
+                ..self
+            },
+            Operand::Rt => Fields {
+                rt: Reg::new(number as u8),
+                ..self
+            },
+            Operand::Sa => Fields {
+                sa: Shift5::new(number as u8),
+                ..self
+            },
+            Operand::Code => Fields {
+                n: Code20::new(number),
+                ..self
+            },
+            Operand::Signed | Operand::Bits | Operand::Label => Fields {
+                imm: number as u16,
+                ..self
+            },
+            Operand::Target => Fields {
+                target: Target26::new(number),
+                ..self
+            },
         }
     }
 }

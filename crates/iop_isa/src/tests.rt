@@ -1,6 +1,8 @@
 //! Words and their instructions.
 
-use crate::{Code20, Inst, Operand, Reg, Shift5, Target26, decode, encode, spelling_of};
+use crate::{
+    Code20, Fields, Inst, Operand, Reg, Shift5, Target26, decode, encode, mnemonic_of, spelling_of,
+};
 use std::test::Fail;
 
 /// Whether a word holds an instruction.
@@ -92,6 +94,35 @@ fn instructions_are_spelled(rt: HostRuntime) -> Result<(), Fail> {
         [Operand::Rt, Operand::Signed, Operand::Base].as_slice()
     );
     assert!(rt; spelling_of(0xFFFF_FFFF).is_none());
+    Ok(())
+}
+
+#[test]
+fn names_have_instructions(rt: HostRuntime) -> Result<(), Fail> {
+    let load = mnemonic_of(b"lw").ok_or("none")?;
+    assert_eq!(rt; load.operands.len(), 3);
+    let fields = Fields::zeros()
+        .with_number(Operand::Rt, 2)
+        .with_number(Operand::Base, 29)
+        .with_number(Operand::Signed, 4);
+    assert_eq!(rt; load.word(fields), 0x8FA2_0004);
+    assert!(rt; mnemonic_of(b"frob").is_none());
+    Ok(())
+}
+
+#[test]
+fn registers_have_names(rt: HostRuntime) -> Result<(), Fail> {
+    let table = [
+        (b"ra".as_slice(), Some(31)),
+        (b"31".as_slice(), Some(31)),
+        (b"05".as_slice(), None),
+        (b"32".as_slice(), None),
+        (b"".as_slice(), None),
+    ];
+    for (name, number) in table {
+        let found = Reg::named(name).map(|register| register.number());
+        assert_eq!(rt; found, number);
+    }
     Ok(())
 }
 

@@ -2,16 +2,8 @@ ghost use Rattle.std.specs.Prelude.{◌≡◌, ◌+◌, ◌*◌, ◌≤◌, leng
 ghost use Rattle.irx_elf.specs.Headers.{file_header};
 ghost use Rattle.irx_elf.specs.Rules.{has_segments, has_sections};
 
+use crate::format::{SECTION_SIZE, SEGMENT_SIZE};
 use iop_base::{half_at, word_at};
-
-/// How many bytes a file header has.
-pub(crate) const FILE_HEADER_SIZE: usize = 52;
-
-/// How many bytes a program header has.
-pub(crate) const SEGMENT_SIZE: u32 = 32;
-
-/// How many bytes a section header has.
-pub(crate) const SECTION_SIZE: u32 = 40;
 
 /// The fields of the file header that the rules name (ELF TIS 1.2).
 #[derive(Clone, Copy)]

@@ -3,6 +3,7 @@ ghost use Rattle.irx_info.specs.Information.{information_of};
 ghost use Rattle.irx_elf.specs.Rules.{image_segment, information_at, module_information, segment_rules, section_rules, first_unmet, TellsUnmet};
 ghost use Rattle.irx_elf.specs.Parts.{IsSound, lists_of, parts_of, parts_or_rule};
 
+use crate::format::{IMAGE, MODULE_INFO};
 use crate::irx_file::IrxFile;
 use crate::reading::{demand, part_at};
 use crate::relocations::Relocations;
@@ -10,12 +11,6 @@ use crate::segment::Segment;
 use iop_base::Illegal;
 use irx_info::{Info, read_info};
 use std::marker::Model;
-
-/// The type of the program header of the module information.
-const MODULE_INFO: u32 = 0x7000_0080;
-
-/// The type of the program header of the image, `PT_LOAD`.
-const IMAGE: u32 = 1;
 
 /// What an IRX file consists of, lent from its bytes.
 #[derive(Drop)]

@@ -2,19 +2,11 @@ ghost use Rattle.std.specs.Prelude.{◌≡◌, ◌+◌, ◌*◌, ◌^◌, ◌<�
 ghost use Rattle.irx_elf.specs.Headers.{file_header, segment_number, segments, is_of_kind};
 ghost use Rattle.irx_elf.specs.Rules.{header_rules, has_segments, TellsUnmet};
 
-use crate::file_header::{FILE_HEADER_SIZE, FileHeader, SEGMENT_SIZE};
+use crate::file_header::FileHeader;
+use crate::format::{FILE_HEADER_SIZE, IRX, MAGIC, MIPS, SEGMENT_SIZE};
 use crate::reading::demand;
 use crate::segment::Segment;
 use iop_base::{Illegal, word_at};
-
-/// How a little-endian ELF file of 32 bits begins.
-const MAGIC: [u8; 6] = [0x7f, b'E', b'L', b'F', 1, 1];
-
-/// The type of an IRX file (ps2sdk), in `e_type`.
-const IRX: u16 = 0xff80;
-
-/// The number of MIPS, in `e_machine`.
-const MIPS: u16 = 8;
 
 /// The bytes of a file that meets rules 1 to 5, lent, and the file header read from them.
 #[derive(Clone, Copy)]

@@ -2,6 +2,7 @@
 #![tactic(auto)]
 
 mod file_header;
+pub mod format;
 mod irx;
 mod irx_file;
 mod reading;

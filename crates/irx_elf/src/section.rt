@@ -2,8 +2,7 @@ ghost use Rattle.std.specs.Prelude.{◌≡◌};
 ghost use Rattle.irx_elf.specs.Headers.{is_relocations};
 ghost use Rattle.irx_elf.specs.Parts.{takes_memory};
 
-/// The type of a section of relocation entries without addends, `SHT_REL`.
-const RELOCATIONS: u32 = 9;
+use crate::format::RELOCATIONS;
 
 /// The flag of a section that takes memory, `SHF_ALLOC`.
 const ALLOCATED: u32 = 2;

@@ -4,14 +4,11 @@ ghost use Rattle.irx_elf.specs.Headers.{file_header, section_number, relocation_
 ghost use Rattle.irx_elf.specs.Rules.{has_entries, has_sections, section_rules, TellsUnmet};
 ghost use Rattle.irx_elf.specs.Parts.{is_applied, list_of};
 
-use crate::file_header::SECTION_SIZE;
+use crate::format::{ENTRY_SIZE, SECTION_SIZE};
 use crate::irx_file::IrxFile;
 use crate::reading::{demand, part_at};
 use crate::section::Section;
 use iop_base::{Illegal, word_at};
-
-/// How many bytes a relocation entry has.
-const ENTRY: u32 = 8;
 
 /// The section headers of a file, which lie in it: rule 11.
 #[derive(Clone, Copy)]
@@ -74,7 +71,7 @@ impl<'a> SectionTable<'a> {
         ensures { result ≡ has_entries self.now.file.bytes.now section.now }
     {
         part_at(self.file.bytes, section.offset, section.size).is_some()
-            && section.size % ENTRY == 0
+            && section.size % ENTRY_SIZE == 0
             && section.target < self.count()
     }
 

@@ -4,8 +4,8 @@ ghost use Rattle.irx_info.specs.Information.{information_of, information_in};
 use byteorder::{ByteOrder, LittleEndian};
 use iop_base::first_zero;
 
-/// How many bytes the numbers take; the name stands behind them.
-const NUMBERS: usize = 26;
+/// How many bytes the numbers of module information take; the name stands behind them.
+pub const NUMBERS_SIZE: usize = 26;
 
 /// What an IRX file says of its module (ps2sdk's iopmod section, a part of type 0x70000080).
 ///
@@ -37,10 +37,10 @@ pub struct Info<'a> {
 pub fn read_info<'a>(part: &'a [u8]) -> Option<Info<'a>>
     ensures { option_map information_of result ≡ information_in part.now }
 {
-    if part.len() <= NUMBERS {
+    if part.len() <= NUMBERS_SIZE {
         return None;
     }
-    let end = first_zero(&part[NUMBERS..])?;
+    let end = first_zero(&part[NUMBERS_SIZE..])?;
     Some(Info {
         id: LittleEndian::read_u32(part),
         entry: LittleEndian::read_u32(&part[4..]),
@@ -49,6 +49,6 @@ pub fn read_info<'a>(part: &'a [u8]) -> Option<Info<'a>>
         data_size: LittleEndian::read_u32(&part[16..]),
         bss_size: LittleEndian::read_u32(&part[20..]),
         version: LittleEndian::read_u16(&part[24..]),
-        name: &part[NUMBERS..NUMBERS + end],
+        name: &part[NUMBERS_SIZE..NUMBERS_SIZE + end],
     })
 }

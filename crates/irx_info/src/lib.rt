@@ -5,4 +5,4 @@ mod info;
 #[cfg(test)]
 mod tests;
 
-pub use info::{Info, read_info};
+pub use info::{Info, NUMBERS_SIZE, read_info};

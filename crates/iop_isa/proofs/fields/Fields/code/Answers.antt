@@ -4,4 +4,5 @@ use Rattle.iop_isa.proofs.fields.Fields.code.Goals as goal
 
 pub returns-clause-holds : goal.returns-clause-holds
 returns-clause-holds c =
-    code_held _ c.args.function c.args.self.n (omega arith) (omega arith) (omega arith)
+    let word = rw c.zeros.ensures at c.word.ensures in
+    code_held _ c.args.function c.args.self.n (omega arith) (omega arith) (omega (arith, word))

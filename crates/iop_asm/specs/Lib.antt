@@ -1,0 +1,9 @@
+pub mod Texts
+pub mod Cells
+pub mod Operands
+pub mod Values
+pub mod Statements
+pub mod Drafts
+pub mod Assembly
+pub mod Units
+pub mod UnitFields

@@ -1,0 +1,14 @@
+/// What becomes of a label's address in the word that names it.
+#[derive(Clone, Copy, Debug, PartialEq, Eq)]
+pub(crate) enum ReferenceKind {
+    /// The address is the word.
+    Address,
+    /// The word is a jump to the address.
+    Jump,
+    /// The address's high half is the immediate.
+    High,
+    /// The address's low half is the immediate.
+    Low,
+    /// The word is a branch to the address.
+    Branch,
+}

@@ -1,0 +1,5 @@
+pub mod Files
+pub mod Building
+pub mod UnitParts
+pub mod Layouts
+pub mod Laws

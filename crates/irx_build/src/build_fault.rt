@@ -1,0 +1,18 @@
+use thiserror::Error;
+
+/// Why no file is built.
+#[derive(Clone, Copy, Debug, PartialEq, Eq, Error)]
+pub enum BuildFault {
+    /// The text has no instruction.
+    #[error("the text has no instruction")]
+    Empty,
+    /// The name holds a zero byte, or is too long.
+    #[error("the name holds a zero byte or is too long")]
+    Name,
+    /// The image in memory or the relocation entries are too long: how many bytes the longer has.
+    #[error("{0} bytes are too many")]
+    TooLong(u64),
+    /// Host memory ran out.
+    #[error("out of memory")]
+    Memory,
+}

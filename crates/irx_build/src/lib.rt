@@ -1,0 +1,15 @@
+//! The IRX file of a module's unit.
+#![tactic(auto)]
+
+mod build_fault;
+mod building;
+mod headers;
+pub mod laws;
+mod layout;
+mod parts;
+#[cfg(test)]
+mod tests;
+mod writing;
+
+pub use build_fault::BuildFault;
+pub use building::{LARGEST_UNIT, LONGEST_NAME, SHORTEST_TEXT, build};
