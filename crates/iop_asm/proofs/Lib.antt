@@ -1,2 +1,13 @@
 pub mod TextLemmas
+pub mod ReadLemmas
 pub mod StringLemmas
+pub mod LabelLemmas
+pub mod MissedLemmas
+pub mod NumberedCellLemmas
+pub mod DraftLemmas
+pub mod FoldLemmas
+pub mod SectionLemmas
+pub mod CommaLemmas
+pub mod OperandLemmas
+pub mod AllLemmas
+pub mod FillLemmas

@@ -12,7 +12,7 @@ use Rattle.iop_isa.specs.Words.{zeros}
 use Rattle.iop_isa.specs.Instructions.{with_number, word_with}
 use Rattle.iop_isa.specs.Registers.{register_named}
 use Rattle.iop_asm.specs.declared.number.Number.{Number}
-use Rattle.iop_asm.specs.Texts.{symbol_of, behind, before, number_of}
+use Rattle.iop_asm.specs.Texts.{and_rest, symbol_of, behind, before, number_of}
 use Rattle.iop_asm.specs.Cells.{Reference, Cell}
 use Rattle.iop_asm.specs.declared.reference.ReferenceKind.{ReferenceKind}
 use Rattle.iop_asm.specs.declared.reference.ReferenceKind.TheVariants.{High as HighHalf, Low as LowHalf, Branch, Jump}
@@ -77,8 +77,7 @@ operand_of operand word = valued operand (value_of operand word)
 
 abbrev pub place_operands : List ℕ × List ℕ → Option (List (Operand × Value))
 place_operands (offset, base) =
-    option_and_then (λ x. option_map (λ y. x ∷ y ∷ []) (operand_of Base base))
-    (operand_of Signed offset)
+    and_rest (operand_of Signed offset) (and_rest (operand_of Base base) (Some []))
 
 -- whether these two operands are left: one word gives both
 abbrev pub is_place : List Operand → Bool
@@ -90,10 +89,6 @@ abbrev pub last_place : List ℕ → List (List ℕ) → Option (List (Operand �
 last_place word [] = option_and_then place_operands (place_words word)
 last_place word rest = None
 
-abbrev pub before_operands : Option (Operand × Value) → Option (List (Operand × Value))
-    → Option (List (Operand × Value))
-before_operands first rest = option_and_then (λ x. option_map (λ xs. x ∷ xs) rest) first
-
 -- the operands with their values, one word for each, but for a place, which is two operands in one
 unfoldable pub operands_of : List Operand → List (List ℕ) → Option (List (Operand × Value))
 operands_of [] [] = Some []
@@ -101,7 +96,7 @@ operands_of [] (word ∷ words) = None
 operands_of (operand ∷ operands) [] = None
 operands_of (operand ∷ operands) (word ∷ words) =
     if is_place (operand ∷ operands) then last_place word words
-    else before_operands (operand_of operand word) (operands_of operands words)
+    else and_rest (operand_of operand word) (operands_of operands words)
 
 -- whether a number is at least minus the first of these and at most the second
 abbrev pub lies_within : ℕ → ℕ → Number → Bool
@@ -113,6 +108,7 @@ value_fits Sa (Numeric n) = lies_within 0 (2 ^ 5 - 1) n
 value_fits Code (Numeric n) = lies_within 0 (2 ^ 20 - 1) n
 value_fits Signed (Numeric n) = lies_within (2 ^ 15) (2 ^ 15 - 1) n
 value_fits Bits (Numeric n) = lies_within 0 (2 ^ 16 - 1) n
+value_fits operand (Numeric n) = false
 value_fits operand value = true
 
 abbrev pub operand_fits : Operand × Value → Bool
@@ -140,8 +136,8 @@ reference line kind label = Some (record { kind = kind; label = label; line = li
 
 -- the label that an operand of a line names, and how
 abbrev pub reference_by : ℕ → Operand → Value → Option Reference
-reference_by line Label (Symbol name) = reference line Branch name
 reference_by line Target (Symbol name) = reference line Jump name
+reference_by line operand (Symbol name) = reference line Branch name
 reference_by line operand (High name) = reference line HighHalf name
 reference_by line operand (Low name) = reference line LowHalf name
 reference_by line operand value = None
@@ -149,7 +145,7 @@ reference_by line operand value = None
 abbrev pub or_reference : ℕ → Option Reference → Operand × Value → Option Reference
 or_reference line found (operand, value) = option_or found (reference_by line operand value)
 
--- the label that the operands of a line name: at most one does
+-- the label that the operands of a line name: that of the first that names one
 abbrev pub reference_in : ℕ → List (Operand × Value) → Option Reference
 reference_in line operands = fold (or_reference line) None operands
 

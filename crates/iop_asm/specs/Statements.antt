@@ -6,6 +6,8 @@ use Rattle.std.specs.Option.{option_or}
 use Rattle.std.specs.Prelude.{find}
 use Rattle.std.specs.Str.{bytes_eq}
 use Rattle.iop_base.specs.Numbers.{word_at}
+use Rattle.iop_base.specs.Strings.{before_zero}
+use Rattle.iop_asm.specs.declared.keywords.TheConstants.{DIRECTIVES}
 use Rattle.iop_isa.specs.Writing.{Named, named}
 use Rattle.iop_asm.specs.declared.number.Number.{Number}
 use Rattle.iop_asm.specs.declared.directive.Directive.{Directive}
@@ -13,6 +15,7 @@ use Rattle.iop_asm.specs.declared.directive.Directive.TheVariants as directive
 use Rattle.iop_asm.specs.declared.fault.AsmKind.{AsmKind}
 use Rattle.iop_asm.specs.declared.fault.AsmKind.TheVariants.{Operand, Range}
 use Rattle.iop_asm.specs.declared.reference.ReferenceKind.TheVariants.{Address}
+use Rattle.iop_asm.specs.declared.tables.TheConstants.{LIBRARY_NAME_LEN}
 use Rattle.iop_asm.specs.Texts.{is_empty, symbol_of, before, after_blanks, words, comma_words, all_of, number_of, string_of}
 use Rattle.iop_asm.specs.Operands.{Value, Numeric, Symbol, operands_of, operand_fits, lies_within, complement, reference, instruction_cell}
 use Rattle.iop_asm.specs.Cells.{Cell, plain_cell}
@@ -25,31 +28,24 @@ pub data Keyword : Type 0 where
   -- the word 0
   Nop : Keyword
 
--- each directive's word
-abbrev pub directives : List (List ℕ × Directive)
-directives =
-    (codes ".name", directive.Name)
-    ∷ (codes ".version", directive.Version)
-    ∷ (codes ".entry", directive.Entry)
-    ∷ (codes ".bss", directive.Bss)
-    ∷ (codes ".text", directive.Text)
-    ∷ (codes ".data", directive.Data)
-    ∷ (codes ".import", directive.Import)
-    ∷ (codes ".fn", directive.Function)
-    ∷ (codes ".endi", directive.EndImport)
-    ∷ (codes ".export", directive.Export)
-    ∷ (codes ".ende", directive.EndExport)
-    ∷ (codes ".word", directive.Word)
-    ∷ (codes ".asciz", directive.String)
-    ∷ []
-
 unfoldable pub directive_of : List ℕ → Option Directive
 directive_of word =
-    option_map (λ entry. entry.1) (find (λ entry. bytes_eq entry.0 word) directives)
+    option_map (λ entry. entry.1) (find (λ entry. bytes_eq (before_zero entry.0) word) DIRECTIVES)
 
 -- the name before the colon that a word ends with
 unfoldable pub label_of : List ℕ → Option (List ℕ)
 label_of word = option_and_then symbol_of (before (codes ":") word)
+
+-- the label of a directive, by the words behind it
+abbrev pub label_behind : Directive → List (List ℕ) → Option (List ℕ)
+label_behind directive.Function (word ∷ rest) = symbol_of word
+label_behind other words = None
+
+-- the label that a line names as its own, by its words: the line may be bad otherwise
+unfoldable pub label_among : List (List ℕ) → Option (List ℕ)
+label_among [] = None
+label_among (word ∷ rest) =
+    option_or (label_of word) (option_and_then (λ d. label_behind d rest) (directive_of word))
 
 unfoldable pub keyword_of : List ℕ → Option Keyword
 keyword_of word =
@@ -119,9 +115,14 @@ bss_statement (word ∷ []) =
     option_map (λ n. ranged (lies_within 0 (2 ^ 32 - 1) n) (Reserves n.magnitude)) (number_of word)
 bss_statement words = None
 
--- a library's name: at most 8 bytes
+-- a library's name filled up with zeros to the length of its field
+abbrev pub padded_name : List ℕ → List ℕ
+padded_name name = name ++ replicate (LIBRARY_NAME_LEN - length name) 0
+
+-- a library's name, which is no longer than its field
 abbrev pub library_of : List ℕ → Option (List ℕ)
-library_of word = if nat_le (length word) 8 then symbol_of word else None
+library_of word =
+    if nat_le (length word) LIBRARY_NAME_LEN then option_map padded_name (symbol_of word) else None
 
 abbrev pub table_statement : (List ℕ → ℕ → Statement) → List (List ℕ)
     → Option (Result Statement AsmKind)
@@ -137,7 +138,8 @@ stub_statement words = None
 
 -- a word's value: a number or a label
 abbrev pub word_value : List ℕ → Option Value
-word_value word = option_or (option_map Numeric (number_of word)) (option_map Symbol (symbol_of word))
+word_value word =
+    option_or (option_map Numeric (number_of word)) (option_map Symbol (symbol_of word))
 
 abbrev pub is_word : Value → Bool
 is_word (Numeric n) = lies_within (2 ^ 31) (2 ^ 32 - 1) n
@@ -161,7 +163,8 @@ padded_string bytes = bytes ++ replicate (4 - length bytes % 4) 0
 
 -- the words of bytes, whose number is a multiple of 4
 abbrev pub byte_cells : List ℕ → List Cell
-byte_cells bytes = map (λ k. plain_cell (word_at bytes (4 * k))) (range_with_len 0 (length bytes / 4))
+byte_cells bytes =
+    map (λ k. plain_cell (word_at bytes (4 * k))) (range_with_len 0 (length bytes / 4))
 
 abbrev pub string_statement : Option (List ℕ) → Option (Result Statement AsmKind)
 string_statement string = option_map (λ bytes. Ok (Fills (byte_cells (padded_string bytes)))) string
@@ -186,7 +189,8 @@ directed line directive.Function text = formed (stub_statement (words text))
 directed line directive.EndImport text = alone EndsImport text
 directed line directive.Export text = formed (table_statement BeginsExport (words text))
 directed line directive.EndExport text = alone EndsExport text
-directed line directive.Word text = formed (option_and_then (words_statement line) (comma_words text))
+directed line directive.Word text =
+    formed (option_and_then (words_statement line) (comma_words text))
 directed line directive.String text = formed (string_statement (string_of text))
 
 -- the statement of a keyword on a line, with the text behind it

@@ -46,10 +46,14 @@ abbrev pub parts_behind : Option (List ℕ) → List (List ℕ)
 parts_behind None = []
 parts_behind (Some rest) = slice_split is_comma rest
 
+-- an item and those behind it, where all are there
+abbrev pub and_rest : {A : Type 0} → Option A → Option (List A) → Option (List A)
+and_rest first rest = option_and_then (λ x. option_map (λ xs. x ∷ xs) rest) first
+
 -- what all of these are, where each is there
 abbrev pub all_of : {A : Type 0} → List (Option A) → Option (List A)
 all_of [] = Some []
-all_of (first ∷ rest) = option_and_then (λ x. option_map (λ xs. x ∷ xs) (all_of rest)) first
+all_of (first ∷ rest) = and_rest first (all_of rest)
 
 -- the words between commas, one between each two; none of a text without a word
 unfoldable pub comma_words : List ℕ → Option (List (List ℕ))
@@ -135,23 +139,16 @@ escaped_byte b =
     else if is_backslash b || is_quote b then Some b
     else None
 
-abbrev pub before_string : Option ℕ → Option (List ℕ) → Option (List ℕ)
-before_string first rest = option_and_then (λ b. option_map (λ bs. b ∷ bs) rest) first
-
 -- the bytes of a string from some place behind its opening quote on, by whether a backslash that
 -- begins an escape stands right before it; only blanks follow the closing quote
 unfoldable pub string_rest : Bool → List ℕ → Option (List ℕ)
 string_rest escaped [] = None
-string_rest true (b ∷ rest) = before_string (escaped_byte b) (string_rest false rest)
+string_rest true (b ∷ rest) = and_rest (escaped_byte b) (string_rest false rest)
 string_rest false (b ∷ rest) =
     if is_quote b then (if list_all is_blank rest then Some [] else None)
     else if is_backslash b then string_rest true rest
-    else before_string (Some b) (string_rest false rest)
+    else and_rest (Some b) (string_rest false rest)
 
 -- the bytes of the string that a text is
-abbrev pub string_after : List ℕ → Option (List ℕ)
-string_after [] = None
-string_after (b ∷ rest) = if is_quote b then string_rest false rest else None
-
 abbrev pub string_of : List ℕ → Option (List ℕ)
-string_of text = string_after (after_blanks text)
+string_of text = option_and_then (string_rest false) (behind (codes "\"") (after_blanks text))

@@ -8,7 +8,7 @@ use Rattle.iop_asm.specs.Operands.{Value, Numeric, Register, Symbol, High, Low}
 
 abbrev pub view : Held → Value
 view (held.Numeric n) = Numeric n
-view (held.Register n) = Register n
+view (held.Register n) = Register n.number
 view (held.Symbol name) = Symbol name.now
 view (held.High name) = High name.now
 view (held.Low name) = Low name.now

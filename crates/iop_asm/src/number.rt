@@ -1,4 +1,5 @@
 ghost use Rattle.std.specs.Prelude.{◌≡◌, ◌≤◌};
+ghost use Rattle.iop_asm.specs.Operands.{complement, lies_within};
 ghost use Rattle.iop_asm.specs.Texts.{digits_number, number_of};
 
 /// A number as it is written: its sign and its magnitude.
@@ -8,6 +9,27 @@ pub(crate) struct Number {
     pub negative: bool,
     /// Its magnitude. A greater one than 2^64 - 1 counts as that.
     pub magnitude: u64,
+}
+
+impl Number {
+    /// Tells whether it is at least minus `low` and at most `high`.
+    pub fn lies_within(self, low: u64, high: u64) -> bool
+        ensures { result ≡ lies_within low high self }
+    {
+        self.magnitude <= if self.negative { low } else { high }
+    }
+
+    /// Gives its two's complement of so many bits, where it is negative, else the number itself.
+    pub fn complement(self, bits: u32) -> u64
+        requires { bits ≤ 32 }
+        ensures { result ≡ complement bits self }
+    {
+        if self.negative {
+            (1_u64 << bits).saturating_sub(self.magnitude) % (1_u64 << bits)
+        } else {
+            self.magnitude
+        }
+    }
 }
 
 /// Reads the number of a word: `0x` and hexadecimal digits, or decimal digits with or without a

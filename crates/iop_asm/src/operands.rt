@@ -2,21 +2,26 @@
 
 ghost use Rattle.std.specs.List.{before_first, position_or_len};
 ghost use Rattle.std.specs.Option.{option_copied};
-ghost use Rattle.std.specs.Prelude.{◌≡◌, [], ◌∷◌, codes, drop, length, option_and_then, option_map};
-ghost use Rattle.iop_asm.specs.Operands.{register_of, name_within, immediate_of, value_of, is_dollar, split_place, place_words, operand_of, place_operands, lies_within};
-ghost use Rattle.iop_asm.specs.Values.{view, argument};
+ghost use Rattle.std.specs.Prelude.{◌≡◌, [], ◌∷◌, ◌++◌, IfOk, codes, drop, length, map, option_and_then, option_map};
+ghost use Rattle.iop_asm.specs.Operands.{register_of, name_within, immediate_of, value_of, is_dollar, split_place, place_words, operand_of, place_operands, is_place, last_place, operands_of};
+ghost use Rattle.iop_asm.specs.Values.{view, argument, arguments};
 
 use crate::argument::Argument;
-use crate::number::{Number, number_of};
+use crate::number::number_of;
+use crate::register_number::RegisterNumber;
 use crate::texts::{before, behind, symbol_of};
 use crate::value::Value;
 use iop_isa::{Operand, Reg};
+use std::alloc::{AllocError, Global};
 
 /// Reads a register: `$` and its number or its name.
-fn register_of(word: &[u8]) -> Option<Reg>
-    ensures { result ≡ register_of word.now }
+fn register_of(word: &[u8]) -> Option<RegisterNumber>
+    ensures { option_map (λ register. register.number) result ≡ register_of word.now }
 {
-    Reg::named(behind(b"$", word)?)
+    let register = Reg::named(behind(b"$", word)?)?;
+    Some(RegisterNumber {
+        number: register.number(),
+    })
 }
 
 /// Reads the name between an opening text and the `)` at the end.
@@ -46,7 +51,7 @@ pub(crate) fn value_of(operand: Operand, word: &[u8]) -> Option<Value<'_>>
 {
     match operand {
         Operand::Rd | Operand::Rs | Operand::Rt | Operand::Base => {
-            Some(Value::Register(register_of(word)?.number()))
+            Some(Value::Register(register_of(word)?))
         }
         Operand::Sa | Operand::Code => Some(Value::Numeric(number_of(word)?)),
         Operand::Signed | Operand::Bits => immediate_of(word),
@@ -97,9 +102,60 @@ pub(crate) fn place_of(word: &[u8]) -> Option<(Argument<'_>, Argument<'_>)>
     ))
 }
 
-/// Tells whether a number is at least minus `low` and at most `high`.
-pub(crate) fn lies_within(low: u64, high: u64, number: Number) -> bool
-    ensures { result ≡ lies_within low high number }
+/// Says whether an offset and a register are left, which one word gives.
+fn is_place(operands: &[Operand]) -> bool
+    ensures { result ≡ is_place operands.now }
 {
-    number.magnitude <= if number.negative { low } else { high }
+    matches!(operands, [Operand::Signed, Operand::Base])
+}
+
+/// Reads the place that the last word is, behind the operands that were read before. None where the
+/// word is no place, or others follow it.
+fn with_place<'a>(
+    mut read: Vec<Argument<'a>>,
+    word: &'a [u8],
+    rest: &[&'a [u8]],
+) -> Result<Option<Vec<Argument<'a>>>, AllocError>
+    ensures { IfOk result (λ found. option_map (λ list. arguments list.items) found
+        ≡ option_map (λ last. arguments read.entry.items ++ last)
+        (last_place word.now (map (λ word. word.now) rest.now))) }
+{
+    if !rest.is_empty() {
+        return Ok(None);
+    }
+    let Some((offset, base)) = place_of(word) else {
+        return Ok(None);
+    };
+    read.push(offset)?;
+    read.push(base)?;
+    Ok(Some(read))
+}
+
+/// Reads the words of operands: one for each, but for a place, which is two operands in one. None
+/// where a word is not its operand, or where there are more or fewer words.
+#[tactic(auto, using(crate::proofs::OperandLemmas::operands))]
+pub(crate) fn operands_of<'a>(
+    alloc: Global,
+    operands: &[Operand],
+    words: &[&'a [u8]],
+) -> Result<Option<Vec<Argument<'a>>>, AllocError>
+    ensures { IfOk result (λ read. option_map (λ list. arguments list.items) read
+        ≡ operands_of operands.now (map (λ word. word.now) words.now)) }
+{
+    let mut read = Vec::new(alloc);
+    let mut left = operands;
+    for (index, word) in words.iter().enumerate() {
+        if is_place(left) {
+            return with_place(read, word, &words[index + 1..]);
+        }
+        let Some((operand, rest)) = left.split_first() else {
+            return Ok(None);
+        };
+        let Some(argument) = operand_of(*operand, word) else {
+            return Ok(None);
+        };
+        read.push(argument)?;
+        left = rest;
+    }
+    Ok(left.is_empty().then_some(read))
 }

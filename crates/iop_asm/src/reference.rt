@@ -12,3 +12,14 @@ pub(crate) enum ReferenceKind {
     /// The word is a branch to the address.
     Branch,
 }
+
+/// A label by its name or its number, with what becomes of its address.
+#[derive(Clone, Copy)]
+pub(crate) struct Reference<L> {
+    /// What becomes of the address.
+    pub kind: ReferenceKind,
+    /// The label.
+    pub label: L,
+    /// The number of the line that names it.
+    pub line: u32,
+}

@@ -3,7 +3,7 @@
 ghost use Rattle.std.specs.Prelude.{◌≡◌, IfOk, false, option_map};
 ghost use Rattle.iop_asm.specs.Texts.{escaped_byte, string_of, string_rest};
 
-use crate::texts::{after_blanks, is_all_blank};
+use crate::texts::{after_blanks, behind, is_all_blank};
 use std::alloc::{AllocError, Global};
 
 /// Gives the byte that an escape stands for: a line feed, a backslash or a quote.
@@ -50,7 +50,7 @@ pub(crate) fn string_of(alloc: Global, text: &[u8]) -> Result<Option<Vec<u8>>, A
     ensures { IfOk result
         (λ string. option_map (λ bytes. bytes.items) string ≡ string_of text.now) }
 {
-    match after_blanks(text).strip_prefix(b"\"") {
+    match behind(b"\"", after_blanks(text)) {
         None => Ok(None),
         Some(quoted) => string_rest(alloc, quoted),
     }

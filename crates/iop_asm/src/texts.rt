@@ -1,11 +1,12 @@
 //! Comments, words and names in a line of source.
 
-ghost use Rattle.std.specs.Prelude.{◌≡◌, ◌∷◌, [], MatchOption, drop, length, option_map, position, take_while};
+ghost use Rattle.std.specs.Prelude.{◌≡◌, ◌∷◌, [], IfOk, MatchOption, drop, length, map, option_map, position, take_while};
 ghost use Rattle.std.specs.List.{before_first, list_all, position_or_len, slice_split};
 ghost use Rattle.std.specs.Option.{option_copied};
-ghost use Rattle.iop_asm.specs.Texts.{is_blank, is_comma, is_name_byte, is_name, symbol_of, behind, before, before_comment, after_blanks, words, only, pair, triple, parts_behind};
+ghost use Rattle.iop_asm.specs.Texts.{is_blank, is_comma, is_name_byte, is_name, symbol_of, behind, before, before_comment, after_blanks, words, only, pair, triple, parts_behind, all_of, comma_words};
 
 use crate::quoting::Quoting;
+use std::alloc::{AllocError, Global};
 
 /// Says whether a byte is a space or a tab.
 pub(crate) fn is_blank(byte: u8) -> bool
@@ -125,6 +126,42 @@ pub(crate) fn split_comma(text: &[u8]) -> (&[u8], Option<&[u8]>)
     match first_comma(text) {
         None => (text, None),
         Some(comma) => (&text[..comma], Some(&text[comma + 1..])),
+    }
+}
+
+/// Gives the word of each part between commas. None where a part has more than one word or none.
+#[tactic(auto, using(crate::proofs::CommaLemmas::commas))]
+fn part_words<'a>(alloc: Global, text: &'a [u8]) -> Result<Option<Vec<&'a [u8]>>, AllocError>
+    ensures { IfOk result (λ found. option_map (λ list. map (λ word. word.now) list.items) found
+        ≡ all_of (map (λ part. only (words part)) (slice_split is_comma text.now))) }
+{
+    let mut found = Vec::new(alloc);
+    let mut left = Some(text);
+    while let Some(parts) = left {
+        let (part, rest) = split_comma(parts);
+        let Some(word) = one_word(part) else {
+            return Ok(None);
+        };
+        found.push(word)?;
+        left = rest;
+    }
+    Ok(Some(found))
+}
+
+/// Gives the words between commas, one between each two; none where the text has no word. None
+/// where another number of words stands between two commas.
+#[tactic(auto, unfolding(crate::specs::Texts::comma_words))]
+pub(crate) fn comma_words<'a>(
+    alloc: Global,
+    text: &'a [u8],
+) -> Result<Option<Vec<&'a [u8]>>, AllocError>
+    ensures { IfOk result (λ words. option_map (λ list. map (λ word. word.now) list.items) words
+        ≡ comma_words text.now) }
+{
+    if after_blanks(text).is_empty() {
+        Ok(Some(Vec::new(alloc)))
+    } else {
+        part_words(alloc, text)
     }
 }
 

@@ -32,25 +32,3 @@ impl Model for AsmUnit {
 
     ghost view = { unit_of };
 }
-
-#[cfg(test)]
-mod tests {
-    use super::*;
-    use std::test::Fail;
-
-    #[test]
-    fn unit(rt: HostRuntime) -> Result<(), Fail> {
-        let unit = AsmUnit {
-            name: Vec::new(rt.alloc()),
-            version: 0,
-            entry: 0,
-            gp: 0,
-            text: Vec::new(rt.alloc()),
-            data: Vec::new(rt.alloc()),
-            bss: 0,
-            relocations: Vec::new(rt.alloc()),
-        };
-        assert_eq!(rt; unit.text.len(), 0);
-        Ok(())
-    }
-}

@@ -4,6 +4,8 @@
 mod answering;
 mod buffer;
 mod command;
+#[cfg(test)]
+mod image_tests;
 mod limits;
 mod loading;
 mod reading;

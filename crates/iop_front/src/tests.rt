@@ -1,7 +1,8 @@
 ghost use Rattle.std.specs.Prelude.{◌≢◌};
 
 use crate::test_files::{
-    PLAIN, RETURN, STORES_OVER_ITS_STUB, Source, hello, hello_of, irx_file, of_words,
+    OVERFLOWS, PLAIN, RESERVED_WORD, RETURNS_65538, RETURNS_MINUS_ONE, STORES_OVER_ITS_STUB,
+    UNKNOWN_SERVICE, UNPAIRED, file_of, hello,
 };
 use crate::{Status, iop_main};
 use iop_base::{Kept, Width, laws};
@@ -40,7 +41,7 @@ fn runs(
 fn starts(
     rt: &impl Abort,
     alloc: Global,
-    source: &Source<'_>,
+    source: &str,
     size: &str,
     (status, text, rest): (Status, &str, &str),
 ) -> Result<(), Fail> {
@@ -48,7 +49,7 @@ fn starts(
     trace.push_str(size)?;
     trace.push_str("\n0 run 1\n")?;
     trace.push_str(rest)?;
-    let file = irx_file(rt, alloc, source)?;
+    let file = file_of(alloc, source)?;
     runs(rt, alloc, file, (status, text, &trace))
 }
 
@@ -56,62 +57,50 @@ fn starts(
 fn runs_modules_without_imports(rt: HostRuntime) -> Result<(), Fail> {
     let alloc = rt.alloc();
     let resident = (Status::Quiet, "", "2 result 1 0 resident\n3 end quiet\n");
-    starts(&rt, alloc, &of_words(&PLAIN), "08", resident)?;
-    let high = [0x3C02_0001, 0x3442_0002, RETURN, 0];
+    starts(&rt, alloc, PLAIN, "08", resident)?;
     let rest = "4 result 1 65538 removable\n5 end quiet\n";
-    starts(
-        &rt,
-        alloc,
-        &of_words(&high),
-        "10",
-        (Status::Quiet, "", rest),
-    )?;
-    let minus = [0x2402_FFFF, RETURN, 0];
+    let removable = (Status::Quiet, "", rest);
+    starts(&rt, alloc, RETURNS_65538, "10", removable)?;
     let removed = (Status::Quiet, "", "3 result 1 -1 removed\n4 end quiet\n");
-    starts(&rt, alloc, &of_words(&minus), "0c", removed)
+    starts(&rt, alloc, RETURNS_MINUS_ONE, "0c", removed)
 }
 
 #[test]
 fn tells_guest_faults(rt: HostRuntime) -> Result<(), Fail> {
     let alloc = rt.alloc();
-    let over = [0x3C02_7FFF, 0x3442_FFFF, 0x2042_0001];
     let overflow = (Status::GuestFault, "", "2 end fault overflow 00010008\n");
-    starts(&rt, alloc, &of_words(&over), "0c", overflow)?;
+    starts(&rt, alloc, OVERFLOWS, "0c", overflow)?;
     let reserved = (Status::GuestFault, "", "0 end fault reserved 00010000\n");
-    starts(&rt, alloc, &of_words(&[0xFFFF_FFFF]), "04", reserved)?;
+    starts(&rt, alloc, RESERVED_WORD, "04", reserved)?;
     let service = (Status::GuestFault, "", "0 end fault service 00010000\n");
-    starts(&rt, alloc, &of_words(&[0x0000_000C]), "04", service)
+    starts(&rt, alloc, UNKNOWN_SERVICE, "04", service)
 }
 
 /// Runs the module that prints `hi`, and compares the console and the rest of the trace.
 fn imports(
     rt: &impl Abort,
     alloc: Global,
-    (version, index, last): (u32, u16, u32),
+    (version, index, last): (&str, u16, &str),
     text: &str,
     rest: &str,
 ) -> Result<(), Fail> {
-    let words = hello(version, index, last);
-    starts(
-        rt,
-        alloc,
-        &hello_of(&words),
-        "40",
-        (Status::Quiet, text, rest),
-    )
+    let source = hello(alloc, version, index, last)?;
+    starts(rt, alloc, &source, "40", (Status::Quiet, text, rest))
 }
 
 #[test]
 fn runs_modules_that_import(rt: HostRuntime) -> Result<(), Fail> {
     let alloc = rt.alloc();
     let resident = "11 result 1 0 resident\n12 end quiet\n";
-    imports(&rt, alloc, (0x0101, 14, 0x0000_1021), "hi\n", resident)?;
-    imports(&rt, alloc, (0x0163, 14, 0x0000_1021), "hi\n", resident)?;
+    let zero = "addu $v0, $0, $0";
+    imports(&rt, alloc, ("1 1", 14, zero), "hi\n", resident)?;
+    imports(&rt, alloc, ("1 99", 14, zero), "hi\n", resident)?;
     let removed = "11 result 1 1 removed\n11 stub 00010014\n12 end quiet\n";
-    imports(&rt, alloc, (0x0101, 14, 0x2402_0001), "hi\n", removed)?;
+    let one = "addiu $v0, $0, 1";
+    imports(&rt, alloc, ("1 1", 14, one), "hi\n", removed)?;
     let not_there = "8 result 1 0 resident\n9 end quiet\n";
-    imports(&rt, alloc, (0x0101, 64, 0x0000_1021), "", not_there)?;
-    let other_major = irx_file(&rt, alloc, &hello_of(&hello(0x0201, 14, 0x0000_1021)))?;
+    imports(&rt, alloc, ("1 1", 64, zero), "", not_there)?;
+    let other_major = file_of(alloc, &hello(alloc, "2 1", 14, zero)?)?;
     let trace = "0 load 1 -200\n0 end quiet\n";
     runs(&rt, alloc, other_major, (Status::Quiet, "", trace))
 }
@@ -121,26 +110,20 @@ fn tells_a_store_over_a_stub(rt: HostRuntime) -> Result<(), Fail> {
     let alloc = rt.alloc();
     let rest = "4 stub 00010014\n11 result 1 0 resident\n12 end quiet\n";
     let wanted = (Status::Quiet, "", rest);
-    starts(&rt, alloc, &STORES_OVER_ITS_STUB, "48", wanted)
+    starts(&rt, alloc, STORES_OVER_ITS_STUB, "48", wanted)
 }
 
 #[test]
 fn refuses_files(rt: HostRuntime) -> Result<(), Fail> {
     let alloc = rt.alloc();
-    let mut cut = irx_file(&rt, alloc, &of_words(&PLAIN))?;
+    let mut cut = file_of(alloc, PLAIN)?;
     cut.truncate(151);
-    let mut for_another = irx_file(&rt, alloc, &of_words(&PLAIN))?;
+    let mut for_another = file_of(alloc, PLAIN)?;
     if let Some(machine) = for_another.get_mut(18) {
         *machine = 9;
     }
-    let mut unpaired = of_words(&PLAIN);
-    unpaired.entries = &[[0, 5], [4, 5]];
-    for file in [
-        cut,
-        for_another,
-        irx_file(&rt, alloc, &unpaired)?,
-        Vec::new(alloc),
-    ] {
+    let unpaired = file_of(alloc, UNPAIRED)?;
+    for file in [cut, for_another, unpaired, Vec::new(alloc)] {
         let trace = "0 load 1 -201\n0 end quiet\n";
         runs(&rt, alloc, file, (Status::Quiet, "", trace))?;
     }
@@ -149,8 +132,8 @@ fn refuses_files(rt: HostRuntime) -> Result<(), Fail> {
     runs(&rt, alloc, file, (Status::TooLong, "", too_long))
 }
 
-/// Runs the command where a call of the files and a write to the trace fail, 0 where none does, with
-/// so much room on the console. Compares the status, the console and the trace.
+/// Runs the command where a call of the files and a write to the trace fail, 0 where none does,
+/// with so much room on the console. Compares the status, the console and the trace.
 fn fails(
     rt: &impl Abort,
     alloc: Global,
@@ -159,7 +142,7 @@ fn fails(
     (status, text, trace): (Status, &str, &str),
 ) -> Result<(), Fail> {
     let mut files = MemFiles::new(alloc, vec![in alloc; call]?);
-    let file = irx_file(rt, alloc, &hello_of(&hello(0x0101, 14, 0)))?;
+    let file = file_of(alloc, &hello(alloc, "1 1", 14, "nop")?)?;
     files.add("t.irx", file)?;
     let mut console = MemSink::new(alloc, room, Vec::new(alloc))?;
     let mut lines = MemSink::new(alloc, 200, vec![in alloc; write]?)?;
@@ -220,7 +203,7 @@ fn answers_no_fault(
 fn never_faults_over_sure_ports(rt: HostRuntime) -> Result<(), Fail> {
     let alloc = rt.alloc();
     let mut files = SureFiles::new(alloc);
-    files.add("t.irx", irx_file(&rt, alloc, &of_words(&PLAIN))?)?;
+    files.add("t.irx", file_of(alloc, PLAIN)?)?;
     let mut console = CountSink::new();
     let mut trace = CountSink::new();
     let words = words(alloc, "t.irx")?;

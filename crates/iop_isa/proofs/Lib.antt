@@ -1,3 +1,4 @@
+pub mod Names
 mod Formats
 mod Rows
 mod Decimal

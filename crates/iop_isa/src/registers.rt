@@ -1,7 +1,8 @@
 //! Registers by name.
 
-ghost use Rattle.std.specs.Prelude.{◌≡◌, ◌<◌, IfSome, decimal};
+ghost use Rattle.std.specs.Prelude.{◌≡◌, ◌<◌, IfSome, decimal, position};
 ghost use Rattle.std.specs.Str.{bytes_eq};
+ghost use Rattle.iop_base.specs.Strings.{before_zero};
 ghost use Rattle.iop_isa.specs.Registers.{conventional, numbered, register_named};
 
 use crate::operands::Reg;
@@ -36,9 +37,14 @@ fn find_conventional(name: &[u8]) -> Option<usize>
     ensures found { result ≡ conventional name.now }
     ensures below { IfSome result (λ number. number < 32) }
 {
-    REGISTER_NAMES
-        .iter()
-        .position(|known| before_zero(known) == name)
+    find_name(&REGISTER_NAMES, name)
+}
+
+/// Finds the first of the names, which are filled up with zeros.
+fn find_name(names: &[[u8; 4]; 32], name: &[u8]) -> Option<usize>
+    ensures { result ≡ position (λ known. bytes_eq (before_zero known) name.now) names.now }
+{
+    names.iter().position(|known| before_zero(known) == name)
 }
 
 /// Finds the number of a register that a text is in decimal.

@@ -9,7 +9,6 @@ pub mod Advancing
 mod Bursting
 mod Performing
 mod Storing
-mod StringLemmas
 mod StubLemmas
 mod StubSteps
 mod LoadingLemmas

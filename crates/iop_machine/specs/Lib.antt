@@ -2,7 +2,6 @@ pub mod KernelArea
 pub mod Modules
 pub mod Iop
 pub mod World
-pub mod Strings
 pub mod Storing
 pub mod Services
 pub mod Loading

@@ -16,7 +16,7 @@ use Rattle.iop_machine.specs.declared.loader.Loader.TheVariants.{Dormant}
 use Rattle.iop_machine.specs.declared.service.Service.{Service}
 use Rattle.iop_machine.specs.declared.service.Service.TheVariants.{Kprintf, ThreadReturn, ModuleReturn}
 use Rattle.iop_machine.specs.Storing.{fills}
-use Rattle.iop_machine.specs.Strings.{string_at}
+use Rattle.iop_libs.specs.Strings.{string_at}
 use Rattle.iop_machine.specs.Iop.{Iop, Transition, silent, tells, and_then, with_state, later}
 
 -- the service of a code, if it has one that is built: service n of library L has the code L * 256 + n

@@ -14,7 +14,6 @@ mod module;
 mod progress;
 mod service;
 mod services;
-mod strings;
 #[cfg(test)]
 mod tests;
 

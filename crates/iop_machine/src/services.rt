@@ -5,14 +5,14 @@ ghost use Rattle.iop_exec.specs.Row.{reg};
 ghost use Rattle.iop_machine.specs.Iop.{Takes};
 ghost use Rattle.iop_exec.specs.Positions.{standing_at};
 ghost use Rattle.iop_machine.specs.Services.{faults_with, prints, keeps, returns, serves, calls, service_of};
-ghost use Rattle.iop_machine.specs.Strings.{string_at};
+ghost use Rattle.iop_libs.specs.Strings.{string_at};
 
 use crate::iop::Iop;
 use crate::loader::{Loaded, Loader};
 use crate::service::Service;
-use crate::strings::string_at;
 use iop_base::{GuestFault, Kept, Line, Lines, Stop};
 use iop_exec::Position;
+use iop_libs::string_at;
 
 impl Iop {
     /// Stops it with a fault of the instruction at pc.

@@ -4,8 +4,6 @@
 mod image;
 mod limits;
 mod relocating;
-#[cfg(test)]
-mod tests;
 
 pub use image::Image;
 pub use limits::{FIRST_BASE, LONGEST_FILE, most_bytes};

@@ -1,3 +1,6 @@
+ghost use Rattle.std.specs.Prelude.{◌≡◌};
+
+use std::alloc::AllocError;
 use thiserror::Error;
 
 /// Why no file is built.
@@ -15,4 +18,14 @@ pub enum BuildFault {
     /// Host memory ran out.
     #[error("out of memory")]
     Memory,
+}
+
+impl From<AllocError> for BuildFault {
+    ghost use Rattle.irx_build.specs.declared.build_fault.BuildFault.TheVariants.{Memory};
+
+    ghost from_gives = { λ _ fault. fault ≡ Memory };
+
+    fn from(_: AllocError) -> Self {
+        BuildFault::Memory
+    }
 }

@@ -3,9 +3,8 @@ ghost use Rattle.irx_elf.specs.Parts.{parts_or_rule};
 ghost use Rattle.irx_build.specs.Building.{Gives, file_or_refusal, refusal, greater_size, IsAccepted};
 ghost use Rattle.irx_build.specs.UnitParts.{unit_parts};
 
+use crate::accepted_unit::AcceptedUnit;
 use crate::build_fault::BuildFault;
-use crate::layout::Layout;
-use crate::parts::write_file;
 use iop_asm::AsmUnit;
 use iop_base::first_zero;
 use irx_elf::format::ENTRY_SIZE;
@@ -39,8 +38,7 @@ pub fn build(alloc: Global, unit: &AsmUnit) -> Result<Vec<u8>, BuildFault>
     ensures short { IfOk result (λ file. vec_len file < 2 ^ 32) }
 {
     check(unit)?;
-    let layout = Layout::of(unit);
-    write_file(alloc, unit, &layout).map_err(|_| BuildFault::Memory)
+    Ok(AcceptedUnit::of(unit).write_file(alloc)?)
 }
 
 /// Refuses a unit that no file is built for.

@@ -1,12 +1,14 @@
 //! The IRX file of a module's unit.
 #![tactic(auto)]
 
+mod accepted_unit;
 mod build_fault;
 mod building;
 mod headers;
 pub mod laws;
 mod layout;
-mod parts;
+#[cfg(test)]
+mod relocation_tests;
 #[cfg(test)]
 mod tests;
 mod writing;

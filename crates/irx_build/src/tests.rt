@@ -20,7 +20,13 @@ const PLAIN: &str = concat!(
 const TEXT: [u8; 8] = [0x08, 0, 0xE0, 0x03, 0x21, 0x10, 0, 0];
 
 /// A unit of version 1.1 with this name, text, data and zero bytes, and no relocation entries.
-fn unit(alloc: Global, name: &[u8], text: &[u8], data: &[u8], bss: u32) -> Result<AsmUnit, Fail> {
+pub(crate) fn unit(
+    alloc: Global,
+    name: &[u8],
+    text: &[u8],
+    data: &[u8],
+    bss: u32,
+) -> Result<AsmUnit, Fail> {
     Ok(AsmUnit {
         name: name.to_vec(alloc)?,
         version: 0x0101,

@@ -5,9 +5,7 @@ ghost use Rattle.irx_reloc.specs.Kinds.{type_of, is_named};
 
 use crate::kind::Kind;
 use iop_base::word_at;
-
-/// How many bytes an entry has in its section.
-const SIZE: usize = 8;
+use irx_elf::format::ENTRY_SIZE;
 
 /// A relocation entry.
 #[derive(Clone, Copy)]
@@ -26,7 +24,7 @@ impl Entry {
     pub fn count(section: &[u8]) -> usize
         ensures { result ≡ length (entries_of section.now) }
     {
-        section.len() / SIZE
+        section.len() / ENTRY_SIZE as usize
     }
 
     /// Reads the entry of this index in a section.
@@ -34,7 +32,7 @@ impl Entry {
         requires { index < length (entries_of section.now) }
         ensures { pair_of result ≡ slice_index_or (entries_of section.now) index (0, 0) }
     {
-        let place = SIZE * index;
+        let place = ENTRY_SIZE as usize * index;
         let info = word_at(section, place + 4);
         Entry {
             site: word_at(section, place),

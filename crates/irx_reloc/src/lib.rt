@@ -7,8 +7,6 @@ mod kind;
 mod low_halves;
 mod moving;
 mod relocating;
-#[cfg(test)]
-mod tests;
 mod words;
 
 pub use fitting::{Checked, check};

@@ -5,25 +5,35 @@
 //!   address: raw bytes. With no address it is 0x10000.
 //! - `irx_tool list FILE` writes a line for each little-endian word of a raw file, as it stands in
 //!   memory from address 0x10000 on.
+//! - `irx_tool as SOURCE` writes the IRX file of a module's source: raw bytes. Of a source with a bad
+//!   line it tells the number of the first, and what kind of fault that is.
 //!
 //! Where it cannot, it writes a line to standard error and ends with status 1.
 #![tactic(auto)]
 
-ghost use Rattle.std.specs.Prelude.{◌≤◌, IfOk, length};
+ghost use Rattle.std.specs.Prelude.{◌≡◌, ◌≤◌, IfOk, IsOkAnd, Ok, length};
+ghost use Rattle.iop_asm.specs.Assembly.{assembled};
+ghost use Rattle.irx_build.specs.Building.{file_or_refusal};
 
 use anyhow::{Result, bail, ensure};
+use iop_asm::assemble;
 use iop_disasm::listing;
 use iop_modload::{FIRST_BASE, LONGEST_FILE, most_bytes, relocate_file};
 use iop_ports::StreamSink;
 use iop_ram::Ram;
+use irx_build::build;
+use std::alloc::Global;
 use std::io::{Read, Write};
-use std::{env, fs};
+use std::{env, fs, str};
 
 /// How many bytes of memory this command works in: 2 MiB.
 const MEMORY_SIZE: u32 = 0x20_0000;
 
 /// The most bytes that a raw file may have.
 const LONGEST_RAW: u32 = 65_536;
+
+/// The most bytes that a source may have: 4 MiB.
+const LONGEST_SOURCE: u32 = 4_194_304;
 
 /// The bytes of a file, of which there may be no more than `most`.
 fn read_file(rt: &HostRuntime, name: &str, most: u32) -> Result<Vec<u8>>
@@ -33,7 +43,11 @@ fn read_file(rt: &HostRuntime, name: &str, most: u32) -> Result<Vec<u8>>
     let Ok(file) = fs::open(rt, name) else {
         bail!("{name} cannot be opened");
     };
-    file.take(u64::from(most) + 1).read_to_end(&mut bytes)?;
+    let is_read = file
+        .take(u64::from(most) + 1)
+        .read_to_end(&mut bytes)
+        .is_ok();
+    ensure!(is_read, "{name} cannot be read");
     ensure!(bytes.len() <= most as usize, "{name} is over {most} bytes");
     Ok(bytes)
 }
@@ -62,6 +76,28 @@ fn write_listing(rt: &HostRuntime, name: &str) -> Result<()> {
     Ok(())
 }
 
+/// The IRX file of a module's source. The name tells which source has a bad line.
+fn module_file(alloc: Global, name: &str, source: &str) -> Result<Vec<u8>>
+    ensures { IfOk result (λ file. IsOkAnd (assembled source.now)
+        (λ unit. file_or_refusal unit ≡ Ok file.items)) }
+{
+    match assemble(alloc, source) {
+        Ok(unit) => Ok(build(alloc, &unit)?),
+        Err(fault) => bail!("{name}: {fault}"),
+    }
+}
+
+/// Writes the IRX file of a module's source.
+fn write_module(rt: &HostRuntime, name: &str) -> Result<()> {
+    let bytes = read_file(rt, name, LONGEST_SOURCE)?;
+    let Ok(source) = str::from_utf8(&bytes) else {
+        bail!("{name} is no UTF-8 text");
+    };
+    let file = module_file(rt.alloc(), name, source)?;
+    rt.stdout().write_all(&file)?;
+    Ok(())
+}
+
 /// Does what the words of the command say.
 fn answer(rt: &HostRuntime, words: &[String]) -> Result<()> {
     match words {
@@ -70,7 +106,8 @@ fn answer(rt: &HostRuntime, words: &[String]) -> Result<()> {
         [verb, name, base] if verb.as_str() == "image" => {
             write_image(rt, name.as_str(), base.as_str().parse::<u32>()?)
         }
-        _ => bail!("write image FILE, image FILE ADDRESS, or list FILE"),
+        [verb, name] if verb.as_str() == "as" => write_module(rt, name.as_str()),
+        _ => bail!("write image FILE, image FILE ADDRESS, list FILE, or as SOURCE"),
     }
 }
 

@@ -1,6 +1,6 @@
 use Rattle.std.proofs.Common.{◌≡◌, drop, false}
 use Rattle.iop_asm.specs.Texts.{string_rest}
-use Rattle.iop_asm.proofs.StringLemmas.{read_on}
+use Rattle.iop_asm.proofs.ReadLemmas.{read_on}
 use Rattle.iop_asm.proofs.strings.string_rest.Given as goal
 
 abbrev pub invariant-loop-index : goal.invariant-loop-index

@@ -1,21 +1,23 @@
-use Rattle.std.proofs.Common.{◌≡◌, ◌^◌, ◌<◌, Ok}
-use Rattle.std.specs.Prelude.{vec_len}
+use Rattle.std.proofs.Common.{◌∙◌, ap, subst, length, arith}
 use Rattle.irx_elf.specs.Parts.{parts_or_rule}
-use Rattle.irx_build.specs.UnitParts.{unit_parts}
-use Rattle.irx_build.proofs.Built.{passed_on, parts_written, short_written}
+use Rattle.irx_build.specs.Building.{HasNumbers}
+use Rattle.irx_build.specs.Files.{info_of, file_of}
+use Rattle.irx_build.proofs.Built.{files_parsed}
+use Rattle.irx_build.proofs.Standing.{short_file}
 use Rattle.irx_build.proofs.building.build.Goals as goal
 
 pub returns-clause-parts : goal.returns-clause-parts
 returns-clause-parts c =
-    let unit = c.args.unit.now in
-    passed_on (λ file. parts_or_rule file.items ≡ Ok (unit_parts unit)) _ c.write_file.result
-    c.map_err.result c.map_err.ensures.cases
-    (parts_written unit c.in_ok-check.ensures.accepted c.write_file.result
-    c.write_file.ensures.file c.write_file.ensures.numbers)
+    let written = c.in_ok-write_file.ensures in
+    ap parts_or_rule (written.file ∙ ap file_of c.of.ensures)
+    ∙ files_parsed c.args.unit.now
+    (subst (λ unit. HasNumbers (info_of unit)) c.of.ensures written.numbers)
+    c.in_ok-check.ensures.accepted
 
 pub returns-clause-short : goal.returns-clause-short
 returns-clause-short c =
-    passed_on (λ file. vec_len file < 2 ^ 32) _ c.write_file.result c.map_err.result
-    c.map_err.ensures.cases
-    (short_written c.args.unit.now c.in_ok-check.ensures.accepted c.write_file.result
-    c.write_file.ensures.file)
+    omega (
+      arith,
+      ap length (c.in_ok-write_file.ensures.file ∙ ap file_of c.of.ensures),
+      short_file c.args.unit.now c.in_ok-check.ensures.accepted,
+    )

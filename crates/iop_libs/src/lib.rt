@@ -1,0 +1,13 @@
+//! The services of the kernel's libraries `loadcore`, `sysmem` and `stdio`.
+#![tactic(auto)]
+
+mod answer;
+mod calling;
+mod loadcore;
+mod strings;
+#[cfg(test)]
+mod tests;
+
+pub use answer::Answer;
+pub use calling::call;
+pub use strings::{LONGEST, string_at};

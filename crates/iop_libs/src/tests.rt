@@ -1,0 +1,173 @@
+use crate::{Answer, call};
+use iop_base::{Line, Lines, Width};
+use iop_exec::Cpu;
+use iop_registry::Registry;
+use iop_services::Service;
+use iop_stubs::{Guest, Stub};
+use iop_sysmem::Blocks;
+use std::alloc::Global;
+use std::process::Abort;
+use std::test::Fail;
+
+/// Keeps the length of the last text that it is told.
+#[derive(Drop)]
+struct LastText {
+    len: usize,
+}
+
+impl Lines for LastText {
+    ghost use Rattle.std.specs.Prelude.{None, false, []};
+
+    ghost output = { λ _. record {
+      console = None;
+      trace = None;
+      failed = false;
+      console_faults = 0;
+      trace_faults = 0;
+      names = [];
+    } };
+
+    fn line(&mut self, _t: u64, _line: Line) {}
+
+    fn text(&mut self, bytes: &[u8]) {
+        self.len = bytes.len();
+    }
+}
+
+/// What the services work on.
+#[derive(Drop)]
+struct World {
+    guest: Guest,
+    blocks: Blocks,
+    registry: Registry,
+    lines: LastText,
+}
+
+impl World {
+    fn new(alloc: Global) -> Result<Self, Fail> {
+        Ok(World {
+            guest: Guest::new(alloc, 0x20_0000)?,
+            blocks: Blocks::new(alloc, 0x20_0000)?,
+            registry: Registry::new(alloc)?,
+            lines: LastText { len: 0 },
+        })
+    }
+
+    /// Stores words from a place on.
+    fn put(&mut self, rt: &impl Abort, from: u32, words: &[u32]) {
+        let mut at = from;
+        for word in words {
+            let stored = self.guest.store(at, Width::Word, *word, 0, &mut self.lines);
+            assert_eq!(rt; stored, Ok(()));
+            at = at.wrapping_add(4);
+        }
+    }
+
+    /// Calls a service from a thread.
+    fn call(&mut self, library: u32, number: u32, a0: u32, a1: u32, a2: u32) -> Answer {
+        let mut regs = [0; 32];
+        regs[4] = a0;
+        regs[5] = a1;
+        regs[6] = a2;
+        let cpu = Cpu {
+            regs,
+            hi: 0,
+            lo: 0,
+            pc: 0,
+            next: 4,
+            in_slot: false,
+        };
+        call(
+            library,
+            number,
+            false,
+            &cpu,
+            &self.guest,
+            &mut self.blocks,
+            &mut self.registry,
+            &mut self.lines,
+        )
+    }
+}
+
+/// The word of a negative code.
+fn refusal(code: i32) -> Answer {
+    Answer::Value(code.cast_unsigned())
+}
+
+#[test]
+fn blocks(rt: HostRuntime) -> Result<(), Fail> {
+    let mut world = World::new(rt.alloc())?;
+    assert_eq!(rt; world.call(1, 4, 0, 8, 0), Answer::Value(0x1_0000));
+    assert_eq!(rt; world.call(1, 4, 0, 1, 0), Answer::Value(0x1_0100));
+    assert_eq!(rt; world.call(1, 4, 1, 0x200, 0), Answer::Value(0x1F_FE00));
+    assert_eq!(rt; world.call(1, 4, 2, 256, 0x1_0100), Answer::Value(0));
+    assert_eq!(rt; world.call(1, 5, 0x1_0100, 0, 0), Answer::Value(0));
+    assert_eq!(rt; world.call(1, 5, 0x1_0100, 0, 0), refusal(-1));
+    assert_eq!(rt; world.call(1, 5, 0, 0, 0), refusal(-1));
+    assert_eq!(rt; world.call(1, 6, 0, 0, 0), Answer::Value(0x20_0000));
+    assert_eq!(rt; world.call(1, 7, 0, 0, 0), Answer::Value(0x1E_FD00));
+    assert_eq!(rt; world.call(1, 8, 0, 0, 0), Answer::Value(0x1E_FD00));
+    assert_eq!(rt; world.call(1, 9, 0x1_0050, 0, 0), Answer::Value(0x1_0000));
+    assert_eq!(rt; world.call(1, 10, 0x1_0050, 0, 0), Answer::Value(0x100));
+    assert_eq!(rt;
+        world.call(1, 9, 0x2_0000, 0, 0),
+        Answer::Value(0xFFFF_FFFF)
+    );
+    Ok(())
+}
+
+/// An import of `sysmem`, bound to a service.
+const STUB: Stub = Stub {
+    at: 0x1_0014,
+    name: *b"sysmem\0\0",
+    major: 1,
+    index: 14,
+    target: 0x44E0,
+};
+
+/// Binds the stub where none is live.
+fn bind_stub(rt: &impl Abort, world: &mut World) {
+    world.put(rt, STUB.at, &[0x03E0_0008, 0x2400_000E]);
+    assert_eq!(rt; world.guest.ram().size(), 0x20_0000);
+    assert_eq!(rt; world.guest.room(), 65_536);
+    assert_eq!(rt; world.guest.ram().load32(STUB.at), Ok(0x03E0_0008));
+    assert_eq!(rt; world.guest.ram().load32(STUB.at + 4), Ok(0x2400_000E));
+    world.guest.bind(STUB);
+}
+
+#[test]
+fn libraries(rt: HostRuntime) -> Result<(), Fail> {
+    let mut world = World::new(rt.alloc())?;
+    world.put(
+        &rt,
+        0x1E00,
+        &[0x41C0_0000, 0, 0x0101, 0x6964_7473, 0x0000_006F],
+    );
+    bind_stub(&rt, &mut world);
+    assert_eq!(rt; world.call(0, 7, 0x1200, 0, 0), refusal(-215));
+    assert_eq!(rt; world.call(0, 7, 0x1E00, 0, 0), Answer::Value(0));
+    assert_eq!(rt; world.call(0, 7, 0x1E00, 0, 0), refusal(-213));
+    assert_eq!(rt; world.call(0, 6, 0x1E00, 0, 0), Answer::Value(0));
+    assert_eq!(rt; world.call(0, 6, 0x1E00, 0, 0), refusal(-212));
+    assert_eq!(rt; world.call(0, 6, 0x2_0000, 0, 0), refusal(-214));
+    assert_eq!(rt; world.call(0, 6, 0x1E02, 0, 0), Answer::Fault);
+    assert_eq!(rt; world.call(0, 6, 0x1F_FFF0, 0, 0), Answer::Fault);
+    Ok(())
+}
+
+#[test]
+fn texts_and_numbers(rt: HostRuntime) -> Result<(), Fail> {
+    let mut world = World::new(rt.alloc())?;
+    world.put(&rt, 0x2_0000, &[0x000A_6968]);
+    assert_eq!(rt; world.call(1, 14, 0x2_0000, 0, 0), Answer::Value(3));
+    assert_eq!(rt; world.lines.len, 3);
+    assert_eq!(rt; world.call(0, 4, 0, 0, 0), Answer::Value(0));
+    assert_eq!(rt; world.call(1, 63, 0, 0, 0), Answer::Unlisted);
+    assert_eq!(rt;
+        world.call(3, 4, 0, 0, 0),
+        Answer::Other(Service::CreateThread)
+    );
+    assert_eq!(rt; world.call(3, 26, 0, 0, 0), refusal(-100));
+    Ok(())
+}

@@ -1,0 +1,186 @@
+//! The table of services.
+
+ghost use Rattle.std.specs.Prelude.{◌≡◌};
+ghost use Rattle.iop_services.specs.Table.{find_row, row_of, loadcore, sysmem, intrman, thbase, thsemap, thevent, thmsgbx, stdio};
+
+use crate::context::Context;
+use crate::row::Row;
+use crate::service::Service;
+
+/// Finds the row of a number: a number, a service, and from where it may be called.
+macro_rules! find_row {
+    ($number:ident { $($row:literal $service:ident $context:ident)* }) => {
+        match $number {
+            $($row => Some(Row {
+                service: Service::$service,
+                context: Context::$context,
+            }),)*
+            _ => None,
+        }
+    };
+}
+
+/// Finds the service of a number of `loadcore` (ps2sdk's loadcore.h).
+fn loadcore(number: u32) -> Option<Row>
+    ensures { result ≡ find_row number loadcore }
+{
+    find_row!(number {
+        4 FlushIcache Both
+        5 FlushDcache Both
+        6 RegisterLibraryEntries Thread
+        7 ReleaseLibraryEntries Thread
+    })
+}
+
+/// Finds the service of a number of `sysmem` (ps2sdk's sysmem.h).
+fn sysmem(number: u32) -> Option<Row>
+    ensures { result ≡ find_row number sysmem }
+{
+    find_row!(number {
+        4 AllocSysMemory Both
+        5 FreeSysMemory Both
+        6 QueryMemSize Both
+        7 QueryMaxFreeMemSize Both
+        8 QueryTotalFreeMemSize Both
+        9 QueryBlockTopAddress Both
+        10 QueryBlockSize Both
+        14 Kprintf Both
+    })
+}
+
+/// Finds the service of a number of `intrman` (ps2sdk's intrman.h).
+fn intrman(number: u32) -> Option<Row>
+    ensures { result ≡ find_row number intrman }
+{
+    find_row!(number {
+        4 RegisterIntrHandler Thread
+        5 ReleaseIntrHandler Thread
+        6 EnableIntr Both
+        7 DisableIntr Both
+        8 CpuDisableIntr Both
+        9 CpuEnableIntr Both
+        17 CpuSuspendIntr Both
+        18 CpuResumeIntr Both
+        23 QueryIntrContext Both
+    })
+}
+
+/// Finds the service of a number of `thbase` (ps2sdk's thbase.h).
+fn thbase(number: u32) -> Option<Row>
+    ensures { result ≡ find_row number thbase }
+{
+    find_row!(number {
+        4 CreateThread Thread
+        5 DeleteThread Thread
+        6 StartThread Thread
+        8 ExitThread Thread
+        9 ExitDeleteThread Thread
+        10 TerminateThread Thread
+        11 TerminateThread Handler
+        12 DisableDispatchThread Thread
+        13 EnableDispatchThread Thread
+        14 ChangeThreadPriority Thread
+        15 ChangeThreadPriority Handler
+        16 RotateThreadReadyQueue Thread
+        17 RotateThreadReadyQueue Handler
+        18 ReleaseWaitThread Thread
+        19 ReleaseWaitThread Handler
+        20 GetThreadId Thread
+        22 ReferThreadStatus Thread
+        23 ReferThreadStatus Handler
+        24 SleepThread Thread
+        25 WakeupThread Thread
+        26 WakeupThread Handler
+        27 CancelWakeupThread Thread
+        28 CancelWakeupThread Handler
+        29 SuspendThread Thread
+        30 SuspendThread Handler
+        31 ResumeThread Thread
+        32 ResumeThread Handler
+        33 DelayThread Thread
+        34 GetSystemTime Both
+        35 SetAlarm Thread
+        36 SetAlarm Handler
+        37 CancelAlarm Thread
+        38 CancelAlarm Handler
+        39 USec2SysClock Both
+        40 SysClock2USec Both
+    })
+}
+
+/// Finds the service of a number of `thsemap` (ps2sdk's thsemap.h).
+fn thsemap(number: u32) -> Option<Row>
+    ensures { result ≡ find_row number thsemap }
+{
+    find_row!(number {
+        4 CreateSema Thread
+        5 DeleteSema Thread
+        6 SignalSema Thread
+        7 SignalSema Handler
+        8 WaitSema Thread
+        9 PollSema Thread
+        11 ReferSemaStatus Thread
+        12 ReferSemaStatus Handler
+    })
+}
+
+/// Finds the service of a number of `thevent` (ps2sdk's thevent.h).
+fn thevent(number: u32) -> Option<Row>
+    ensures { result ≡ find_row number thevent }
+{
+    find_row!(number {
+        4 CreateEventFlag Thread
+        5 DeleteEventFlag Thread
+        6 SetEventFlag Thread
+        7 SetEventFlag Handler
+        8 ClearEventFlag Thread
+        9 ClearEventFlag Handler
+        10 WaitEventFlag Thread
+        11 PollEventFlag Thread
+        13 ReferEventFlagStatus Thread
+        14 ReferEventFlagStatus Handler
+    })
+}
+
+/// Finds the service of a number of `thmsgbx` (ps2sdk's thmsgbx.h).
+fn thmsgbx(number: u32) -> Option<Row>
+    ensures { result ≡ find_row number thmsgbx }
+{
+    find_row!(number {
+        4 CreateMbx Thread
+        5 DeleteMbx Thread
+        6 SendMbx Thread
+        7 SendMbx Handler
+        8 ReceiveMbx Thread
+        9 PollMbx Thread
+        11 ReferMbxStatus Thread
+        12 ReferMbxStatus Handler
+    })
+}
+
+/// Finds the service of a number of `stdio` (ps2sdk's stdio.h).
+fn stdio(number: u32) -> Option<Row>
+    ensures { result ≡ find_row number stdio }
+{
+    find_row!(number {
+        4 Printf Both
+    })
+}
+
+/// Finds the service of a number of a kernel library, 0 to 7 in the order of `KERNEL_LIBRARIES` of
+/// iop_base. None exactly where the library lists no such number, or there is no such library.
+pub fn row_of(library: u32, number: u32) -> Option<Row>
+    ensures { result ≡ row_of library number }
+{
+    match library {
+        0 => loadcore(number),
+        1 => sysmem(number),
+        2 => intrman(number),
+        3 => thbase(number),
+        4 => thsemap(number),
+        5 => thevent(number),
+        6 => thmsgbx(number),
+        7 => stdio(number),
+        _ => None,
+    }
+}
