@@ -11,3 +11,4 @@ pub mod CommaLemmas
 pub mod OperandLemmas
 pub mod AllLemmas
 pub mod FillLemmas
+pub mod AddressLaws

@@ -43,12 +43,19 @@ is_near site address =
 abbrev pub branch_field : ℕ → ℕ → ℕ
 branch_field site address = (address + 4 * 2 ^ 16 - (site + 4)) / 4 % 2 ^ 16
 
+-- the target of a jump to an address
+abbrev pub jump_field : ℕ → ℕ
+jump_field address = address / 4 % 2 ^ 26
+
+abbrev pub low_half : ℕ → ℕ
+low_half address = address % 2 ^ 16
+
 -- what an address adds to the word at a site
 abbrev pub field_by : ReferenceKind → ℕ → ℕ → ℕ
 field_by Address site address = address
-field_by Jump site address = address / 4 % 2 ^ 26
+field_by Jump site address = jump_field address
 field_by High site address = high_half address
-field_by Low site address = address % 2 ^ 16
+field_by Low site address = low_half address
 field_by Branch site address = branch_field site address
 
 -- the word of a cell at a site

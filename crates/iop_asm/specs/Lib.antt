@@ -14,5 +14,6 @@ pub mod NumberedCells
 pub mod MissedLabels
 pub mod DraftFields
 pub mod Answers
+pub mod Laws
 pub mod Units
 pub mod UnitFields

@@ -16,6 +16,7 @@ mod keyword;
 mod keywords;
 mod label;
 mod labels;
+pub mod laws;
 mod line_fault;
 mod number;
 mod operands;

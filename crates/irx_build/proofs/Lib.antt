@@ -9,3 +9,4 @@ mod Parsing
 mod Standing
 mod Built
 mod ReadEntries
+pub mod Moved

@@ -3,3 +3,4 @@ pub mod Building
 pub mod UnitParts
 pub mod Layouts
 pub mod Laws
+pub mod Moving

@@ -4,6 +4,7 @@ ghost use Rattle.std.specs.Prelude.{◌≡◌, ◌++◌, ◌<◌, ◌^◌, OnOk}
 ghost use Rattle.irx_build.specs.Files.{halves, words, padding};
 
 use crate::layout::ALIGNMENT;
+use byteorder::{ByteOrder, LittleEndian};
 use std::alloc::AllocError;
 
 /// Adds half words.
@@ -11,7 +12,9 @@ pub(crate) fn push_halves(file: &mut Vec<u8>, numbers: &[u16]) -> Result<(), All
     ensures { OnOk result (file.new.items ≡ file.old.items ++ halves numbers.now) }
 {
     for number in numbers {
-        file.extend_from_slice(&number.to_le_bytes())?;
+        let mut bytes = [0; 2];
+        LittleEndian::write_u16(&mut bytes, *number);
+        file.extend_from_slice(&bytes)?;
     }
     Ok(())
 }
@@ -21,7 +24,9 @@ pub(crate) fn push_words(file: &mut Vec<u8>, numbers: &[u32]) -> Result<(), Allo
     ensures { OnOk result (file.new.items ≡ file.old.items ++ words numbers.now) }
 {
     for number in numbers {
-        file.extend_from_slice(&number.to_le_bytes())?;
+        let mut bytes = [0; 4];
+        LittleEndian::write_u32(&mut bytes, *number);
+        file.extend_from_slice(&bytes)?;
     }
     Ok(())
 }

@@ -1,0 +1,24 @@
+//! Facts about the definitions that no call computes. Each is the contract of a function that does
+//! nothing.
+
+ghost use Rattle.iop_asm.specs.Laws.{BranchesArrive, BranchesReachTheNear, JumpsArrive, HalvesMakeAddresses};
+
+/// A branch to a near label goes there.
+pub fn branches_arrive()
+    ensures { BranchesArrive }
+{}
+
+/// An address to which some branch goes is near.
+pub fn branches_reach_the_near()
+    ensures { BranchesReachTheNear }
+{}
+
+/// A jump to a label of the same 2^28 bytes goes there.
+pub fn jumps_arrive()
+    ensures { JumpsArrive }
+{}
+
+/// The halves of an address make it, the low one as a signed number.
+pub fn halves_make_addresses()
+    ensures { HalvesMakeAddresses }
+{}
