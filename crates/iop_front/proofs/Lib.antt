@@ -1,8 +1,12 @@
+pub mod WordLemmas
 pub mod ReadingLemmas
-pub mod LoadingLemmas
+pub mod OpeningLemmas
+pub mod TakingLemmas
+pub mod RoomLemmas
+pub mod SendingLemmas
 pub mod RunLemmas
 pub mod AnswerLemmas
-pub mod AskingLemmas
+pub mod FrontLemmas
 pub mod ConsoleLemmas
 pub mod Endings
 pub mod CauseLemmas

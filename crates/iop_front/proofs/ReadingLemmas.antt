@@ -1,5 +1,6 @@
 -- The steps of reading a file.
-use Rattle.std.proofs.Common.{◌≡◌, ℕ, ◌+◌, ◌-◌, ◌<◌, ◌≤◌, true, Option, Some, None, Ok, IfSome, option_map, List, ◌++◌, length, take, drop, arith, ap, sym, ◌∙◌, subst}
+use Rattle.std.proofs.Common.{◌≡◌, ℕ, ◌+◌, ◌-◌, ◌<◌, ◌≤◌, true, Option, Some, None, Ok, IfSome, option_map, List, ◌++◌, length}
+use Rattle.std.proofs.Common.{take, drop, arith, ap, sym, ◌∙◌, subst}
 use Rattle.std.proofs.Math.Seq.{take-add}
 use Rattle.std.proofs.lemmas.List.{take_at, drop_at, take-append-le, length-take-le, drop-drop, length-drop, take_all, drop_all}
 use borrow.Rule.Slice.PartMut.{put_mid, post_of}

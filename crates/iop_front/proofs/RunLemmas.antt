@@ -1,55 +1,21 @@
 -- The run of the machine and the line that ends it, as the outcome of the run.
-use Rattle.std.proofs.Common.{◌≡◌, ℕ, suc, Bool, true, false, not, cond, List, [], ◌∷◌, refl, ap, sym, ◌∙◌, subst, append-nil}
+use Rattle.std.proofs.Common.{◌≡◌, ℕ, suc, Bool, true, false, not, cond, List, [], ◌∷◌, sym, ◌∙◌, subst}
 use Rattle.iop_base.specs.Piece.{Piece, Traced}
-use Rattle.iop_base.specs.Output.{Output, Adds, HasNoFault, StopsShort, extended}
+use Rattle.iop_base.specs.Output.{Output, Adds, HasNoFault, StopsShort}
 use Rattle.iop_base.specs.Text.{line_bytes}
 use Rattle.iop_base.specs.declared.stop.Stop.{Stop}
 use Rattle.iop_base.specs.declared.line.Line.TheVariants.{End}
-use Rattle.iop_base.proofs.Giving.{extended-nil, adds_then, stops_before, stops_after}
+use Rattle.iop_base.proofs.Giving.{adds_then, stops_before, stops_after}
 use Rattle.iop_machine.specs.Running.{Finishes, Faults}
 use Rattle.iop_machine.specs.Stepping.{Ran, steps, run_of}
 use Rattle.iop_machine.specs.World.{World}
 use Rattle.iop_machine.proofs.Advancing.{stops_short}
 use Rattle.iop_machine.proofs.Lasting.{runs_are_computed, goes_further}
-use Rattle.iop_ports.specs.Sinks.{SinkTold, Sends}
-use Rattle.iop_trace.specs.Outs.{Leaves, output_with}
+use Rattle.iop_trace.specs.Outs.{Leaves}
 use Rattle.iop_front.specs.Outcome.{Comes, outcome_of_run, end_line}
 use Rattle.iop_front.specs.Statuses.{status_of}
 use Rattle.iop_front.specs.declared.status.Status.{Status}
 use Rattle.iop_front.specs.declared.status.Status.TheVariants.{SinkFault}
-
--- a line that was sent to the trace
-pub sent_leaves : (whole : Bool) (line : List ℕ) (console old new : SinkTold)
-    → Sends whole line old new
-    → Leaves (not whole) (output_with console old false []) (output_with console new false [])
-    (Traced line ∷ [])
-sent_leaves true line console old new h = (
-  record {
-    console = sym (extended-nil console.taken);
-    trace = ap (λ (told : SinkTold). told.taken) h
-        ∙ ap (extended old.taken) (sym (append-nil line));
-  },
-  record { console = refl; trace = ap (λ (told : SinkTold). told.faults) h },
-)
-sent_leaves false line console old new h = record {
-  before = [];
-  part = Traced h.part;
-  piece = Traced line;
-  after = [];
-  pieces_are = refl;
-  is_part = h.is_front;
-  adds = record {
-    console = sym (extended-nil console.taken);
-    trace = h.fails.taken ∙ ap (extended old.taken) (sym (append-nil h.part));
-  };
-  fails = (h.fails.cause, refl);
-}
-
--- the same line, by whether it is whole
-pub sent_as : (result whole : Bool) (sent line : List ℕ) (old new : SinkTold)
-    → result ≡ whole → sent ≡ line → Sends result sent old new → Sends whole line old new
-sent_as result whole sent line old new e f h =
-    subst (λ b. Sends b line old new) e (subst (λ x. Sends result x old new) f h)
 
 module _ (w : World) (n : ℕ) (old : Output) where
   -- a write failed during the run

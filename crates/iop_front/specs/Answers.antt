@@ -1,13 +1,16 @@
 -- How the command comes to each of its answers.
-use Rattle.std.specs.Prelude.{◌≡◌, ℕ, Option, Some, None, IsSome, List, take}
+use Rattle.std.specs.Prelude.{◌≡◌, ◌⊎◌, ℕ, ◌<◌, Option, Some, None, IsSome, IfSome, List, [], ◌∷◌, ◌++◌, All, Contains, length, map, take}
 use Rattle.iop_base.specs.Counts.{HasCause}
 use Rattle.iop_base.specs.Output.{Output}
+use Rattle.iop_machine.specs.Modules.{NamedFile}
+use Rattle.iop_modload.specs.declared.limits.TheConstants.{LONGEST_FILE}
 use Rattle.iop_ports.specs.Files.{FilesTold, IsAskedName}
 use Rattle.iop_ports.specs.Sinks.{SinkTold}
 use Rattle.iop_trace.specs.Outs.{sinks}
 use Rattle.iop_front.specs.declared.status.Status.{Status}
-use Rattle.iop_front.specs.declared.status.Status.TheVariants.{BadWords, CannotRead}
-use Rattle.iop_front.specs.Outcome.{Meets, OpensAndReads, Refuses, outcome_of_file, bad_words_line, cannot_read_line, read_limit}
+use Rattle.iop_front.specs.declared.status.Status.TheVariants.{BadWords, CannotRead, NoMemory}
+use Rattle.iop_front.specs.Outcome.{Meets, OpensInOrder, Refuses, outcome_of_files, first_too_long, bad_words_line}
+use Rattle.iop_front.specs.Outcome.{cannot_read_line, too_long_line, read_limit}
 use Rattle.iop_front.specs.Reading.{file_named}
 
 -- what can be seen outside: what the files tell, how often they have failed, and the two sinks
@@ -26,37 +29,36 @@ module _ {F C T : Type 0} where
     sinks = sinks console_told trace_told console trace;
   }
 
--- where the files tell, one was opened and read as far as said
-abbrev pub FilesRead : List ℕ → ℕ → Option FilesTold → Option FilesTold → Type 0
-FilesRead name faults None new = new ≡ None
-FilesRead name faults (Some files) None = ⊥
-FilesRead name faults (Some files) (Some after) = OpensAndReads name faults files after
+-- where the files tell, these were opened and read in order, as far as said
+abbrev pub FilesRead : List (List ℕ) → ℕ → Option FilesTold → Option FilesTold → Type 0
+FilesRead names faults None new = new ≡ None
+FilesRead names faults (Some files) None = ⊥
+FilesRead names faults (Some files) (Some after) = OpensInOrder faults names files after
 
--- the content has the file that the words name, if they name one
-abbrev pub HasFileNamed : Option (List ℕ) → FilesTold → Type 0
-HasFileNamed None files = Unit {0}
-HasFileNamed (Some name) files = IsSome (files.content name)
+-- the content has all files that the words name, if they name any
+abbrev pub HasFilesNamed : Option (List (List ℕ)) → FilesTold → Type 0
+HasFilesNamed None files = Unit {0}
+HasFilesNamed (Some names) files = All (λ name. IsSome (files.content name)) names
 
--- the file that the words name is the one last asked for, or there is no such file; and before its
--- opening so many faults stood
-abbrev pub IsNameAsked : Option (List ℕ) → ℕ → FilesTold → Type 0
-IsNameAsked None faults files = Unit {0}
-IsNameAsked (Some name) faults files =
+-- a name is the one last asked for, or there is no such file; and before its opening so many faults stood
+abbrev pub IsNameAsked : List ℕ → ℕ → FilesTold → Type 0
+IsNameAsked name faults files =
     IsAskedName files.asked name (files.content name) × (files.faults_before ≡ faults)
 
--- this file was read: where the files tell, the first bytes of the one of that name
-abbrev pub IsFileOf : List ℕ → List ℕ → Option FilesTold → Type 0
-IsFileOf name file None = Unit {0}
-IsFileOf name file (Some files) = file ≡ take read_limit (file_named files name)
+-- these files were read: where the files tell, the first bytes of those of these names
+abbrev pub AreFilesOf : List (List ℕ) → List NamedFile → Option FilesTold → Type 0
+AreFilesOf names files None = map (λ named. named.name) files ≡ names
+AreFilesOf names files (Some told) =
+    files ≡ map (λ name. record { name = name; file = take read_limit (file_named told name) }) names
 
-pub record HasReadFile (name file : List ℕ) (old new : Outside) : Type 0 where
-  pub is_file : IsFileOf name file old.told
-  pub files : FilesRead name old.faults old.told new.told
+pub record HasReadFiles (names : List (List ℕ)) (files : List NamedFile) (old new : Outside) : Type 0 where
+  pub are_files : AreFilesOf names files old.told
+  pub read : FilesRead names old.faults old.told new.told
   pub no_fault : new.faults ≡ old.faults
 
--- a file that the words name could not be read: a call of the files failed
-pub record HasNotReadFile (name : List ℕ) (old new : Outside) : Type 0 where
-  pub files : FilesRead name old.faults old.told new.told
+-- after others a file could not be read: a call of the files failed
+pub record HasNotReadFile (before : List (List ℕ)) (name : List ℕ) (old new : Outside) : Type 0 where
+  pub files : FilesRead (before ++ name ∷ []) old.faults old.told new.told
   pub cause : HasCause old.faults new.faults
   pub line : Refuses (cannot_read_line name) old.sinks new.sinks
 
@@ -66,12 +68,45 @@ pub record HasNoCommand (old new : Outside) : Type 0 where
   pub faults : new.faults ≡ old.faults
   pub line : Refuses bad_words_line old.sinks new.sinks
 
--- by the file that the words name
-pub data Answers : Option (List ℕ) → Status → Outside → Outside → Type 0 where
+-- reading ended here: no name is left, or the last file is too long
+abbrev pub EndsReading : List NamedFile → List (List ℕ) → Type 0
+EndsReading files left = (left ≡ []) ⊎ IsSome (first_too_long files)
+
+-- by the files that the words name
+pub data Answers : Option (List (List ℕ)) → Status → Outside → Outside → Type 0 where
   bad_words : {old new : Outside} → HasNoCommand old new → Answers None BadWords old new
-  cannot_read : {name : List ℕ} {old new : Outside}
-      → HasNotReadFile name old new → Answers (Some name) CannotRead old new
-  from_file : {name : List ℕ} {status : Status} {old new : Outside} (file : List ℕ)
-      → HasReadFile name file old new
-      → Meets (outcome_of_file name file) status old.sinks new.sinks
-      → Answers (Some name) status old new
+  cannot_read : {old new : Outside} (before : List (List ℕ)) (name : List ℕ) (left : List (List ℕ))
+      → HasNotReadFile before name old new
+      → Answers (Some (before ++ name ∷ left)) CannotRead old new
+  no_memory : {old new : Outside} (names left : List (List ℕ))
+      → FilesRead names old.faults old.told new.told → new.faults ≡ old.faults
+      → new.sinks ≡ old.sinks → Answers (Some (names ++ left)) NoMemory old new
+  from_files : {status : Status} {old new : Outside} (names left : List (List ℕ))
+      (files : List NamedFile) → HasReadFiles names files old new → EndsReading files left
+      → Meets (outcome_of_files files) status old.sinks new.sinks
+      → Answers (Some (names ++ left)) status old new
+
+-- 22: a file that is named was not read. Its line was written, and where the files tell, its name is the
+-- one last asked for, or there is no such file; and before its opening no call had failed
+pub record IsUnread (names : List (List ℕ)) (faults : ℕ) (told : Option FilesTold) (old new : Output) : Type 0 where
+  pub name : List ℕ
+  pub named : Contains names name
+  pub line : Refuses (cannot_read_line name) old new
+  pub asked : IfSome told (IsNameAsked name faults)
+
+-- 23: a file that is named is too long, and its line was written. Where the files tell, its name is the one
+-- last asked for, or there is no such file; and it has more bytes than a file may have
+pub record IsTooLong (names : List (List ℕ)) (faults : ℕ) (before after : Option FilesTold)
+    (old new : Output) : Type 0 where
+  pub name : List ℕ
+  pub named : Contains names name
+  pub line : Refuses (too_long_line name) old new
+  pub asked : IfSome after (IsNameAsked name faults)
+  pub long : IfSome before (λ files. LONGEST_FILE < length (file_named files name))
+
+-- the first of these names were opened in order, and no other file
+pub record OpensFirst (names : List (List ℕ)) (faults : ℕ) (old new : Option FilesTold) : Type 0 where
+  pub opened : List (List ℕ)
+  pub left : List (List ℕ)
+  pub are_first : names ≡ opened ++ left
+  pub files : FilesRead opened faults old new

@@ -1,5 +1,5 @@
 pub mod Answers
-pub mod Loading
+pub mod Modules
 pub mod Outcome
 pub mod Reading
 pub mod Statuses

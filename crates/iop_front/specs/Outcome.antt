@@ -1,23 +1,21 @@
 -- What a command is to write and to answer, by its words and the contents of the files: this
 -- project's profile.
-use Rattle.std.specs.Prelude.{◌≡◌, ◌⊎◌, ℕ, ◌+◌, ◌≤◌, nat_lt, Bool, true, false, if◌then◌else◌, Option, Some, None, Result, List, [], ◌∷◌, ◌++◌, codes, length}
+use Rattle.std.specs.Prelude.{◌≡◌, ◌⊎◌, ℕ, ◌+◌, ◌≤◌, nat_lt, Bool, if◌then◌else◌, Option, Some, None, List, [], ◌∷◌}
+use Rattle.std.specs.Prelude.{◌++◌, codes, find, length, map}
 use Rattle.iop_base.specs.Piece.{Piece, Traced}
 use Rattle.iop_base.specs.Output.{Output}
 use Rattle.iop_base.specs.Text.{line_bytes}
-use Rattle.iop_base.specs.declared.code.Code.{Code}
 use Rattle.iop_base.specs.declared.line.Line.TheVariants.{End}
-use Rattle.iop_machine.specs.Modules.{Module}
+use Rattle.iop_machine.specs.Modules.{NamedFile, modules_from}
 use Rattle.iop_machine.specs.Stepping.{Ran, run_of}
 use Rattle.iop_machine.specs.World.{beginning}
-use Rattle.iop_modload.specs.Limits.{most_bytes}
 use Rattle.iop_modload.specs.declared.limits.TheConstants.{LONGEST_FILE}
 use Rattle.iop_ports.specs.Files.{FilesTold}
 use Rattle.iop_trace.specs.Outs.{Leaves}
 use Rattle.iop_front.specs.declared.limits.TheConstants.{BUDGET, MEMORY_SIZE}
 use Rattle.iop_front.specs.declared.status.Status.{Status}
 use Rattle.iop_front.specs.declared.status.Status.TheVariants.{BadWords, TooLong, SinkFault, NoMemory}
-use Rattle.iop_front.specs.Words.{module_named}
-use Rattle.iop_front.specs.Loading.{module_of_file}
+use Rattle.iop_front.specs.Words.{modules_named}
 use Rattle.iop_front.specs.Reading.{file_named, opened_with, left_after}
 use Rattle.iop_front.specs.Statuses.{status_code, status_of}
 
@@ -52,26 +50,35 @@ outcome_of_run ran = record {
   status_if_cut = SinkFault;
 }
 
--- the run of the machine that loads this module first, or refuses it
-abbrev pub outcome_of_module : Result Module Code → Outcome
-outcome_of_module given = outcome_of_run (run_of BUDGET (beginning MEMORY_SIZE given))
+-- the run of the machine that loads these modules, one after the other
+abbrev pub outcome_of_modules : List NamedFile → Outcome
+outcome_of_modules files =
+    outcome_of_run (run_of BUDGET (beginning MEMORY_SIZE (modules_from [] 1 files)))
 
--- of a file that is too long, or not
-abbrev pub outcome_by : Bool → List ℕ → List ℕ → Outcome
-outcome_by true name file = refusal TooLong (too_long_line name)
-outcome_by false name file = outcome_of_module (module_of_file name file (most_bytes MEMORY_SIZE))
+-- the first file that is too long
+abbrev pub first_too_long : List NamedFile → Option NamedFile
+first_too_long files = find (λ named. nat_lt LONGEST_FILE (length named.file)) files
 
--- of a file, by its name
-abbrev pub outcome_of_file : List ℕ → List ℕ → Outcome
-outcome_of_file name file = outcome_by (nat_lt LONGEST_FILE (length file)) name file
+-- it decides, and else the modules are run
+abbrev pub outcome_by : Option NamedFile → List NamedFile → Outcome
+outcome_by (Some long) files = refusal TooLong (too_long_line long.name)
+outcome_by None files = outcome_of_modules files
 
-abbrev pub outcome_named : FilesTold → Option (List ℕ) → Outcome
-outcome_named files None = refusal BadWords bad_words_line
-outcome_named files (Some name) = outcome_of_file name (file_named files name)
+-- of files, in order
+abbrev pub outcome_of_files : List NamedFile → Outcome
+outcome_of_files files = outcome_by (first_too_long files) files
+
+-- the files of these names; a name that the content does not have counts as an empty file
+abbrev pub files_named : FilesTold → List (List ℕ) → List NamedFile
+files_named told names = map (λ name. record { name = name; file = file_named told name }) names
+
+abbrev pub outcome_named : FilesTold → Option (List (List ℕ)) → Outcome
+outcome_named told None = refusal BadWords bad_words_line
+outcome_named told (Some names) = outcome_of_files (files_named told names)
 
 -- the outcome of a command
 abbrev pub outcome_of : List (List ℕ) → FilesTold → Outcome
-outcome_of words files = outcome_named files (module_named words)
+outcome_of words told = outcome_named told (modules_named words)
 
 -- a refusal's line was written to the trace, or a front of it, and a write failed
 abbrev pub Refuses : List ℕ → Output → Output → Type 0
@@ -103,3 +110,16 @@ pub record OpensAndReads (name : List ℕ) (faults : ℕ) (old new : FilesTold) 
   pub taken : ℕ
   pub within : taken ≤ read_limit
   pub files : new ≡ opened_with name opens faults (left_after name opens taken old) old
+
+-- another file may be opened behind this one only where it is not too long
+abbrev pub MayGoOn : (file : List ℕ) → List (List ℕ) → Type 0
+MayGoOn file [] = Unit {0}
+MayGoOn file (next ∷ names) = length file ≤ LONGEST_FILE
+
+-- so were these, one after the other, none behind one that is too long; before each opening so many
+-- faults stood
+pub data OpensInOrder (faults : ℕ) : List (List ℕ) → FilesTold → FilesTold → Type 0 where
+  none : {files : FilesTold} → OpensInOrder faults [] files files
+  more : {name : List ℕ} {names : List (List ℕ)} {old between new : FilesTold}
+      → OpensAndReads name faults old between → MayGoOn (file_named old name) names
+      → OpensInOrder faults names between new → OpensInOrder faults (name ∷ names) old new

@@ -1,5 +1,6 @@
 -- What reading a file does to the files, where they tell, and what it puts into a buffer.
-use Rattle.std.specs.Prelude.{◌≡◌, ℕ, ◌≤◌, min, Bool, true, if◌then◌else◌, Option, Some, None, Result, Ok, Err, unwrap_or, List, [], length, take, drop}
+use Rattle.std.specs.Prelude.{◌≡◌, ℕ, ◌≤◌, min, Bool, true, if◌then◌else◌, Option, Some, None, Result, Ok, Err, unwrap_or, List}
+use Rattle.std.specs.Prelude.{[], length, take, drop}
 use Rattle.iop_ports.specs.Files.{FilesTold, after_opening}
 use Rattle.iop_ports.specs.declared.ports.Failed.{Failed}
 

@@ -3,7 +3,8 @@ use Rattle.std.specs.Prelude.{◌≡◌, ◌⊎◌, ℕ}
 use Rattle.iop_base.specs.declared.stop.Stop.{Stop}
 use Rattle.iop_base.specs.declared.stop.Stop.TheVariants as stops
 use Rattle.iop_front.specs.declared.status.Status.{Status}
-use Rattle.iop_front.specs.declared.status.Status.TheVariants.{Quiet, Budget, GuestFault, BadWords, CannotRead, TooLong, SinkFault, NoMemory}
+use Rattle.iop_front.specs.declared.status.Status.TheVariants.{Quiet, Budget, GuestFault, BadWords, CannotRead, TooLong}
+use Rattle.iop_front.specs.declared.status.Status.TheVariants.{SinkFault, NoMemory}
 
 abbrev pub status_code : Status → ℕ
 status_code Quiet = 0

@@ -1,21 +1,23 @@
-ghost use Rattle.std.specs.Prelude.{◌≡◌, ◌≢◌, ◌↔◌, ◌⊎◌, ℕ, List, Some, None, IfSome, map, string_bytes};
+ghost use Rattle.std.specs.Prelude.{◌≡◌, ◌≢◌, ◌↔◌, ◌⊎◌, ℕ, List, Some, None, map, string_bytes};
 ghost use Rattle.iop_base.specs.Counts.{HasCause};
 ghost use Rattle.iop_ports.specs.Files.{FilesTold};
 ghost use Rattle.iop_trace.specs.Outs.{sinks};
-ghost use Rattle.iop_front.specs.Answers.{FilesRead, IsNameAsked, HasFileNamed};
-ghost use Rattle.iop_front.specs.Words.{module_named};
-ghost use Rattle.iop_front.specs.Outcome.{Refuses, MeetsCode, bad_words_line, cannot_read_line, too_long_line, outcome_of};
-ghost use Rattle.iop_front.specs.Statuses.{IsRefusalCode, IsExitCode, IsCutCode};
+ghost use Rattle.iop_front.specs.Answers.{FilesRead, OpensFirst, HasFilesNamed, IsUnread, IsTooLong};
+ghost use Rattle.iop_front.specs.Words.{modules_named};
+ghost use Rattle.iop_front.specs.Outcome.{Refuses, MeetsCode, bad_words_line, outcome_of};
+ghost use Rattle.iop_front.specs.Statuses.{IsRunCode, IsRefusalCode, IsExitCode, IsCutCode};
 
 use crate::answering::answer;
 use iop_ports::{Files, Sink};
 use std::alloc::Global;
 
-/// The command `iop`: opens and reads the file that its words name, loads its module, links it to
-/// the kernel's libraries and runs it. It writes the lines of the run to the trace and the module's
-/// texts to the console, and answers the exit status (`Status::code`).
+/// The command `iop`: opens and reads the files that its words name, loads their modules one after the
+/// other, links them to the registered libraries and runs them. It writes the lines of the run to the
+/// trace and the modules' texts to the console, and answers the exit status (`Status::code`).
 ///
-/// The words are without the program's name. At most 4,194,305 bytes of the file are read.
+/// The words are without the program's name. The first file that cannot be read, or is too long,
+/// decides, and no later one is opened. At most 4,194,305 bytes of each are read. Memory for the machine
+/// is taken only after the last.
 pub fn iop_main<F: Files, C: Sink, T: Sink>(
     alloc: Global,
     words: &[String],
@@ -32,7 +34,7 @@ pub fn iop_main<F: Files, C: Sink, T: Sink>(
         (sinks C.told T.told console.new trace.new) }
 
     // 20: exactly where the words are no command. No file is opened then.
-    ensures bad_words { (result ≡ 20) ↔ (module_named (map string_bytes words.now) ≡ None) }
+    ensures bad_words { (result ≡ 20) ↔ (modules_named (map string_bytes words.now) ≡ None) }
     ensures bad_words_line { result ≡ 20 → Refuses bad_words_line
         (sinks C.told T.told console.old trace.old)
         (sinks C.told T.told console.new trace.new) }
@@ -41,26 +43,29 @@ pub fn iop_main<F: Files, C: Sink, T: Sink>(
     // 22: only where a call of the files failed, and always there.
     ensures unread { result ≡ 22 → HasCause (F.faults files.old) (F.faults files.new) }
     ensures unread_shows { F.faults files.new ≢ F.faults files.old → result ≡ 22 }
-    ensures unread_line { (name : List ℕ) → module_named (map string_bytes words.now) ≡ Some name
-        → result ≡ 22 → Refuses (cannot_read_line name)
+    ensures unread_line { (names : List (List ℕ))
+        → modules_named (map string_bytes words.now) ≡ Some names
+        → result ≡ 22 → IsUnread names (F.faults files.old) (F.told files.new)
         (sinks C.told T.told console.old trace.old)
         (sinks C.told T.told console.new trace.new) }
 
-    // Where the files tell, the file that the words name is opened, no other, and at most 4,194,305
-    // bytes of it are read.
-    ensures read { (name : List ℕ) → module_named (map string_bytes words.now) ≡ Some name
-        → FilesRead name (F.faults files.old) (F.told files.old) (F.told files.new) }
-    ensures asked { result ≡ 22 → IfSome (F.told files.new)
-        (IsNameAsked (module_named (map string_bytes words.now)) (F.faults files.old)) }
+    // Where the files tell, those that the words name are opened in order, no other, none behind one
+    // that is too long, and at most 4,194,305 bytes of each are read: all of them before a run.
+    ensures read { (names : List (List ℕ))
+        → modules_named (map string_bytes words.now) ≡ Some names
+        → OpensFirst names (F.faults files.old) (F.told files.old) (F.told files.new) }
+    ensures read_all { (names : List (List ℕ))
+        → modules_named (map string_bytes words.now) ≡ Some names → IsRunCode result
+        → FilesRead names (F.faults files.old) (F.told files.old) (F.told files.new) }
     ensures no_stray { (before after : FilesTold)
         → F.told files.old ≡ Some before → F.told files.new ≡ Some after
-        → HasFileNamed (module_named (map string_bytes words.now)) before
+        → HasFilesNamed (modules_named (map string_bytes words.now)) before
         → after.strays ≡ before.strays }
 
-    // 23: its line.
-    ensures too_long_line { (name : List ℕ)
-        → module_named (map string_bytes words.now) ≡ Some name
-        → result ≡ 23 → Refuses (too_long_line name)
+    // 23: the line of a file that is too long.
+    ensures too_long_line { (names : List (List ℕ))
+        → modules_named (map string_bytes words.now) ≡ Some names
+        → result ≡ 23 → IsTooLong names (F.faults files.old) (F.told files.old) (F.told files.new)
         (sinks C.told T.told console.old trace.old)
         (sinks C.told T.told console.new trace.new) }
 

@@ -1,6 +1,6 @@
 use crate::test_files::{PLAIN, UNPAIRED, file_of, hello};
 use iop_base::Code;
-use iop_modload::relocate_file;
+use iop_modload::ModuleFile;
 use std::alloc::Global;
 use std::process::Abort;
 use std::test::Fail;
@@ -47,39 +47,24 @@ fn padded_hello(alloc: Global) -> Result<Vec<u8>, Fail> {
     file_of(alloc, &source)
 }
 
-/// Relocates a file for 0x10000, in room for so many bytes that hold other bytes before, and
-/// compares the image.
-fn relocates(
-    rt: &impl Abort,
-    alloc: Global,
-    file: &[u8],
-    size: usize,
-    words: &[u32],
-) -> Result<(), Fail> {
+/// Relocates a file for 0x10000 and compares the image.
+fn relocates(rt: &impl Abort, alloc: Global, file: &[u8], words: &[u32]) -> Result<(), Fail> {
     assert!(rt; file.len() <= 4096);
     let mut wanted = Vec::new(alloc);
     for word in words {
         wanted.extend_from_slice(&word.to_le_bytes())?;
     }
-    let mut room = vec![in alloc; 0xFF; size]?;
-    let image = relocate_file(file, 0x1_0000, &mut room)?;
-    assert_eq!(rt; image.bytes, wanted.as_slice());
+    let parsed = ModuleFile::parse(file)?;
+    let mut image = vec![in alloc; 0xFF; parsed.length() as usize]?;
+    parsed.write_image(&mut image, 0x1_0000);
+    assert_eq!(rt; image.as_slice(), wanted.as_slice());
     Ok(())
 }
 
-/// Relocates a file that is refused, in room for so many bytes, and compares the code.
-fn refuses(
-    rt: &impl Abort,
-    alloc: Global,
-    file: &[u8],
-    size: usize,
-    code: Code,
-) -> Result<(), Fail> {
+/// Reads a file that is refused.
+fn refuses(rt: &impl Abort, file: &[u8]) {
     assert!(rt; file.len() <= 4096);
-    let mut room = vec![in alloc; 0xFF; size]?;
-    let answer = relocate_file(file, 0x1_0000, &mut room);
-    assert_eq!(rt; answer.err(), Some(code));
-    Ok(())
+    assert_eq!(rt; ModuleFile::parse(file).err(), Some(Code::ILLEGAL_OBJECT));
 }
 
 #[test]
@@ -93,20 +78,15 @@ fn makes_the_plain_file(rt: HostRuntime) -> Result<(), Fail> {
 #[test]
 fn relocates_files(rt: HostRuntime) -> Result<(), Fail> {
     let alloc = rt.alloc();
-    relocates(&rt, alloc, &file_of(alloc, PLAIN)?, 8, &PLAIN_IMAGE)?;
-    relocates(&rt, alloc, &padded_hello(alloc)?, 100, &HELLO_IMAGE)
+    relocates(&rt, alloc, &file_of(alloc, PLAIN)?, &PLAIN_IMAGE)?;
+    relocates(&rt, alloc, &padded_hello(alloc)?, &HELLO_IMAGE)
 }
 
 #[test]
 fn refuses_to_relocate(rt: HostRuntime) -> Result<(), Fail> {
     let alloc = rt.alloc();
     let plain = file_of(alloc, PLAIN)?;
-    let cut = plain.get(..151).ok_or("a short file")?;
-    let hello = padded_hello(alloc)?;
-    let unpaired = file_of(alloc, UNPAIRED)?;
-    refuses(&rt, alloc, &plain, 7, Code::NO_MEMORY)?;
-    refuses(&rt, alloc, cut, 8, Code::ILLEGAL_OBJECT)?;
-    refuses(&rt, alloc, &hello, 71, Code::NO_MEMORY)?;
-    refuses(&rt, alloc, &unpaired, 100, Code::ILLEGAL_OBJECT)?;
-    refuses(&rt, alloc, &unpaired, 0, Code::ILLEGAL_OBJECT)
+    refuses(&rt, plain.get(..151).ok_or("a short file")?);
+    refuses(&rt, &file_of(alloc, UNPAIRED)?);
+    Ok(())
 }

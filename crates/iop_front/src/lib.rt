@@ -1,13 +1,14 @@
-//! The command: its words, the file that it reads, the run, and what it answers.
+//! The command: its words, the files that it reads, the run, and what it answers.
 #![tactic(auto)]
 
 mod answering;
-mod buffer;
 mod command;
 #[cfg(test)]
 mod image_tests;
 mod limits;
-mod loading;
+mod modules;
+#[cfg(test)]
+mod order_tests;
 mod reading;
 mod refusing;
 mod running;
@@ -16,6 +17,7 @@ mod status;
 mod test_files;
 #[cfg(test)]
 mod tests;
+mod unread;
 mod words;
 
 pub use command::iop_main;

@@ -31,7 +31,7 @@ fn write_end<T: Sink>(now: u64, stop: Stop, trace: &mut T) -> Status
 
 /// Runs the machine, and writes the line of the run's end.
 pub(crate) fn run_to_end<C: Sink, T: Sink>(
-    machine: &mut Machine<'_>,
+    machine: &mut Machine,
     console: &mut C,
     trace: &mut T,
 ) -> Status

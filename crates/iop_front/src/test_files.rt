@@ -48,10 +48,10 @@ pub const RESERVED_WORD: &str = "
     .word 0xFFFFFFFF
 ";
 
-/// A module that calls a service which the kernel does not have.
+/// A module that calls a library which the kernel does not have.
 pub const UNKNOWN_SERVICE: &str = "
     .name t
-    syscall 0
+    syscall 2048
 ";
 
 /// A module whose high halves have no low half behind them.
@@ -80,6 +80,129 @@ main:
     jr $s0
     addu $v0, $0, $0
 ";
+
+/// A module that imports from a library which is there and from one which is not.
+pub const IMPORTS_MISSING: &str = "
+    .name t
+    .import sysmem 1 1
+    .fn Kprintf 14
+    .endi
+    .import nolib 1 1
+    .fn missing 4
+    .endi
+    .entry main
+main:
+    jr $ra
+    addu $v0, $0, $0
+";
+
+/// A module that gives its own block back, at 0x10000, and then returns 1.
+pub const FREES_ITSELF: &str = "
+    .name frees
+    .import sysmem 1 1
+    .fn FreeSysMemory 5
+    .endi
+    .entry main
+main:
+    addu $s0, $ra, $0
+    lui $a0, 1
+    jal FreeSysMemory
+    nop
+    jr $s0
+    addiu $v0, $0, 1
+";
+
+/// A module that gives its own block back, at 0x10000, takes one of 512 bytes there, and then returns
+/// 1.
+pub const TAKES_ITSELF_AGAIN: &str = "
+    .name takes
+    .import sysmem 1 1
+    .fn AllocSysMemory 4
+    .fn FreeSysMemory 5
+    .endi
+    .entry main
+main:
+    addu $s0, $ra, $0
+    jal FreeSysMemory
+    lui $a0, 1
+    addu $a0, $0, $0
+    jal AllocSysMemory
+    addiu $a1, $0, 512
+    jr $s0
+    addiu $v0, $0, 1
+";
+
+/// A module that calls the first function of the library `shouts`.
+pub const IMPORTS_SHOUT: &str = "
+    .name user
+    .import shouts 1 1
+    .fn shout 0
+    .endi
+    .entry main
+main:
+    addu $s0, $ra, $0
+    jal shout
+    nop
+    jr $s0
+    addu $v0, $0, $0
+";
+
+/// A module that puts a function of its own, which prints `ho`, in the place of `Kprintf` in the
+/// export table of `sysmem`, by its address in KSEG0.
+pub const PUTS_IN_A_FUNCTION: &str = r#"
+    .name puts
+    .entry main
+main:
+    lui $t0, 0x8001
+    ori $t0, $t0, 0x14
+    sw $t0, 0x124C($0)
+    jr $ra
+    addu $v0, $0, $0
+print:
+    lui $a0, %hi(text)
+    addiu $a0, $a0, %lo(text)
+    syscall 270
+    jr $ra
+    nop
+    .data
+text:
+    .asciz "ho\n"
+"#;
+
+/// Makes the source of a module that registers the library `shouts`, whose function prints `hi`, and
+/// whose last instruction is `last`.
+pub fn exports(alloc: Global, last: &str) -> Result<String, AllocError> {
+    format!(in alloc;
+        r#"
+    .name lib
+    .import loadcore 1 1
+    .fn RegisterLibraryEntries 6
+    .endi
+    .import sysmem 1 1
+    .fn Kprintf 14
+    .endi
+table:
+    .export shouts 1 1
+    .word shout
+    .ende
+    .entry main
+shout:
+    lui $a0, %hi(text)
+    j Kprintf
+    addiu $a0, $a0, %lo(text)
+main:
+    addu $s0, $ra, $0
+    lui $a0, %hi(table)
+    jal RegisterLibraryEntries
+    addiu $a0, $a0, %lo(table)
+    jr $s0
+    {last}
+    .data
+text:
+    .asciz "hi\n"
+"#
+    )
+}
 
 /// Makes the source of a module that prints `hi` by function `index` of this version of `sysmem`,
 /// and whose last instruction is `last`.

@@ -100,6 +100,8 @@ fn runs_modules_that_import(rt: HostRuntime) -> Result<(), Fail> {
     imports(&rt, alloc, ("1 1", 14, one), "hi\n", removed)?;
     let not_there = "8 result 1 0 resident\n9 end quiet\n";
     imports(&rt, alloc, ("1 1", 64, zero), "", not_there)?;
+    let unlisted = "6 service sysmem 63\n11 result 1 0 resident\n12 end quiet\n";
+    imports(&rt, alloc, ("1 1", 63, zero), "", unlisted)?;
     let other_major = file_of(alloc, &hello(alloc, "2 1", 14, zero)?)?;
     let trace = "0 load 1 -200\n0 end quiet\n";
     runs(&rt, alloc, other_major, (Status::Quiet, "", trace))

@@ -1,14 +1,46 @@
-ghost use Rattle.std.specs.Prelude.{◌≡◌, ◌≤◌, length, map, string_bytes, option_map};
-ghost use Rattle.iop_front.specs.Words.{is_module_word, module_named};
+ghost use Rattle.std.specs.Prelude.{◌≡◌, ◌≤◌, ◌&&◌, nat_le, true, length, map, string_bytes, option_map};
+ghost use Rattle.std.specs.List.{list_all};
+ghost use Rattle.iop_machine.specs.declared.module.TheConstants.{MOST_MODULES};
+ghost use Rattle.iop_front.specs.Words.{is_module_word, modules_named};
 ghost use Rattle.iop_front.specs.declared.limits.TheConstants.{LONGEST_WORD};
 
 use crate::limits::LONGEST_WORD;
+use iop_machine::MOST_MODULES;
 
 /// The word of a command that names a module's file.
 #[derive(Clone, Copy, Debug)]
 pub(crate) struct ModuleWord<'a> {
     pub(crate) text: &'a str,
     ghost short: { length text.now ≤ LONGEST_WORD },
+}
+
+/// The words of a command, each of which names a module's file.
+#[derive(Clone, Copy, Debug)]
+pub(crate) struct ModuleWords<'a> {
+    pub(crate) texts: &'a [String],
+    ghost few: { length texts.now ≤ MOST_MODULES },
+    ghost good: { list_all (λ text. is_module_word (string_bytes text)) texts.now ≡ true },
+}
+
+impl<'a> ModuleWords<'a> {
+    /// The words of a command, if they name modules.
+    pub(crate) fn of(words: &'a [String]) -> Option<Self>
+        ensures { option_map (λ named. map string_bytes named.texts.now) result
+            ≡ modules_named (map string_bytes words.now) }
+    {
+        if are_modules(words) {
+            Some(ModuleWords { texts: words })
+        } else {
+            None
+        }
+    }
+}
+
+/// Tells whether a command may name so many modules.
+fn is_module_count(count: usize) -> bool
+    ensures { result ≡ (nat_le 1 count && nat_le count MOST_MODULES) }
+{
+    (1..=MOST_MODULES).contains(&count)
 }
 
 /// Tells whether a word names a module.
@@ -23,15 +55,17 @@ fn is_module(word: &str) -> bool
     }
 }
 
-/// Finds the word that names a module, if the words of a command are one such word.
-pub(crate) fn module_word(words: &[String]) -> Option<ModuleWord<'_>>
-    ensures { option_map (λ word. word.text.now) result
-        ≡ module_named (map string_bytes words.now) }
+/// Tells whether each word names a module.
+fn is_each_module(words: &[String]) -> bool
+    ensures { result ≡ list_all (λ word. is_module_word (string_bytes word)) words.now }
 {
-    match words {
-        [word] if is_module(word.as_str()) => Some(ModuleWord {
-            text: word.as_str(),
-        }),
-        _ => None,
-    }
+    words.iter().all(|word| is_module(word.as_str()))
+}
+
+/// Tells whether the words of a command name modules: one at least, and `MOST_MODULES` at most.
+fn are_modules(words: &[String]) -> bool
+    ensures { result ≡ (nat_le 1 (length words.now) && nat_le (length words.now) MOST_MODULES
+        && list_all (λ word. is_module_word (string_bytes word)) words.now) }
+{
+    is_module_count(words.len()) && is_each_module(words)
 }

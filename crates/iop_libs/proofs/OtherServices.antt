@@ -5,7 +5,7 @@ use Rattle.iop_sysmem.specs.BlockMap.{BlockMap}
 use Rattle.iop_services.specs.declared.service.Service.{Service}
 use Rattle.iop_services.specs.declared.service.Service.TheVariants as service
 use Rattle.iop_libs.specs.declared.answer.Answer.TheVariants.{Other}
-use Rattle.iop_libs.specs.Calls.{Sight, answers, Serves, service_pieces}
+use Rattle.iop_libs.specs.Calls.{Sight, answers, serves, service_pieces}
 
 -- it is none of those that are served here
 pub record IsOther (s : Service) : Type 0 where
@@ -25,7 +25,7 @@ pub record IsOther (s : Service) : Type 0 where
 
 module _ (sight : Sight) (blocks : BlockMap) (libraries : List Entry) where
   pub other_serves : (s : Service) → IsOther s →
-      Serves sight blocks libraries s (answers sight blocks libraries (Other s))
+      serves sight blocks libraries s ≡ answers sight blocks libraries (Other s)
   other_serves service.FlushIcache o = absurd (o.not_0 refl)
   other_serves service.FlushDcache o = absurd (o.not_1 refl)
   other_serves service.RegisterLibraryEntries o = absurd (o.not_2 refl)

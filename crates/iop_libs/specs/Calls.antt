@@ -1,7 +1,7 @@
 -- What the services of loadcore, sysmem and stdio do (ps2sdk's loadcore.h, sysmem.h, stdio.h; the codes
 -- are those of its kerr.h). The order of refusals, the answers of the queries for memory, and that a text
 -- is printed as it stands, are this project's own profile.
-use Rattle.std.specs.Prelude.{◌≡◌, ℕ, ◌+◌, ◌/◌, ◌%◌, ◌==◌, Bool, if◌then◌else◌, MatchBool, is_some, Option, Some, None, option_map, unwrap_or, List, [], ◌∷◌, length, find}
+use Rattle.std.specs.Prelude.{ℕ, ◌+◌, ◌/◌, ◌%◌, ◌==◌, Bool, if◌then◌else◌, is_some, Option, Some, None, option_map, unwrap_or, List, [], ◌∷◌, length, find}
 use Rattle.std.specs.Int.{cast_unsigned, w32}
 use Rattle.iop_base.specs.Piece.{Piece, Told}
 use Rattle.iop_base.specs.Places.{phys, range_at}
@@ -13,7 +13,8 @@ use Rattle.irx_tables.specs.Exports.{header_of}
 use Rattle.irx_tables.specs.declared.words.TheConstants.{HEADER_BYTES}
 use Rattle.iop_registry.specs.declared.registry.Entry.{Entry}
 use Rattle.iop_registry.specs.Entries.{register, release, library_of}
-use Rattle.iop_sysmem.specs.BlockMap.{BlockMap, Allocates, freeing, IsMostFree, used_bytes, holder}
+use Rattle.iop_sysmem.specs.BlockMap.{BlockMap, freeing, holder}
+use Rattle.iop_sysmem.specs.Allocating.{allocating, most_free, free_bytes}
 use Rattle.iop_sysmem.specs.declared.blocks.TheConstants.{NOWHERE}
 use Rattle.iop_stubs.specs.Stubs.{Memory, is_of}
 use Rattle.iop_services.specs.declared.row.Row.{Row}
@@ -90,42 +91,40 @@ module _ (s : Sight) (blocks : BlockMap) (libraries : List Entry) where
   answers answer = record { answer = answer; blocks = blocks; libraries = libraries }
 
   -- what a service comes to and leaves
-  abbrev pub Serves : Service → After → Type 0
-  Serves service.FlushIcache after = after ≡ answers (Value 0)
-  Serves service.FlushDcache after = after ≡ answers (Value 0)
-  Serves service.RegisterLibraryEntries after =
+  abbrev pub serves : Service → After
+  serves service.FlushIcache = answers (Value 0)
+  serves service.FlushDcache = answers (Value 0)
+  serves service.RegisterLibraryEntries =
       let done = registers s.memory.ram libraries (argument s 0) in
-      after ≡ record (answers done.0) { libraries = done.1 }
-  Serves service.ReleaseLibraryEntries after =
+      record (answers done.0) { libraries = done.1 }
+  serves service.ReleaseLibraryEntries =
       let done = releases s.memory libraries (argument s 0) in
-      after ≡ record (answers (code_value done.0)) { libraries = done.1 }
-  Serves service.AllocSysMemory after =
-      (place : ℕ) × (after.answer ≡ Value place) × (after.libraries ≡ libraries)
-      × Allocates blocks after.blocks (argument s 0) (argument s 1) (argument s 2) place
-  Serves service.FreeSysMemory after =
+      record (answers (code_value done.0)) { libraries = done.1 }
+  serves service.AllocSysMemory =
+      let done = allocating blocks (argument s 0) (argument s 1) (argument s 2) in
+      record (answers (Value done.0)) { blocks = done.1 }
+  serves service.FreeSysMemory =
       let done = freeing blocks (argument s 0) in
-      after ≡ record (answers (code_value done.0)) { blocks = done.1 }
-  Serves service.QueryMemSize after = after ≡ answers (Value blocks.size)
-  Serves service.QueryMaxFreeMemSize after =
-      (most : ℕ) × IsMostFree blocks most × (after ≡ answers (Value most))
-  Serves service.QueryTotalFreeMemSize after =
-      (free : ℕ) × (free + used_bytes blocks.used ≡ blocks.size) × (after ≡ answers (Value free))
-  Serves service.QueryBlockTopAddress after =
-      after ≡ answers (Value (unwrap_or (option_map (λ block. block.start)
+      record (answers (code_value done.0)) { blocks = done.1 }
+  serves service.QueryMemSize = answers (Value blocks.size)
+  serves service.QueryMaxFreeMemSize = answers (Value (most_free blocks))
+  serves service.QueryTotalFreeMemSize = answers (Value (free_bytes blocks))
+  serves service.QueryBlockTopAddress =
+      answers (Value (unwrap_or (option_map (λ block. block.start)
       (holder blocks (argument s 0))) NOWHERE))
-  Serves service.QueryBlockSize after =
-      after ≡ answers (Value (unwrap_or (option_map (λ block. block.size)
+  serves service.QueryBlockSize =
+      answers (Value (unwrap_or (option_map (λ block. block.size)
       (holder blocks (argument s 0))) NOWHERE))
-  Serves service.Kprintf after = after ≡ answers (Value (length (text_of s)))
-  Serves service.Printf after = after ≡ answers (Value (length (text_of s)))
-  Serves other after = after ≡ answers (Other other)
+  serves service.Kprintf = answers (Value (length (text_of s)))
+  serves service.Printf = answers (Value (length (text_of s)))
+  serves other = answers (Other other)
 
-  -- what a call of a row comes to, from a handler or from a thread
-  abbrev pub CallsRow : (in_handler : Bool) → Option Row → After → Type 0
-  CallsRow in_handler None after = after ≡ answers Unlisted
-  CallsRow in_handler (Some row) after =
-      MatchBool (allows row.context in_handler) (Serves row.service after)
-      (after ≡ answers (code_value ILLEGAL_CONTEXT))
+  -- what a call of a row comes to and leaves, from a handler or from a thread
+  abbrev pub calls_row : (in_handler : Bool) → Option Row → After
+  calls_row in_handler None = answers Unlisted
+  calls_row in_handler (Some row) =
+      if allows row.context in_handler then serves row.service
+      else answers (code_value ILLEGAL_CONTEXT)
 
 -- what a service gives to the console
 abbrev pub service_pieces : Sight → Service → List Piece

@@ -3,7 +3,7 @@
 ghost use Rattle.std.specs.Prelude.{◌≡◌, length};
 ghost use Rattle.iop_base.specs.Output.{Gives};
 ghost use Rattle.iop_services.specs.Table.{row_of};
-ghost use Rattle.iop_libs.specs.Calls.{Sight, text_of, Serves, CallsRow, service_pieces, row_pieces};
+ghost use Rattle.iop_libs.specs.Calls.{Sight, text_of, serves, calls_row, service_pieces, row_pieces};
 
 use crate::answer::Answer;
 use crate::loadcore::{register_library, release_library};
@@ -38,8 +38,8 @@ fn serve<L: Lines>(
     lines: &mut L,
 ) -> Answer
     ensures answer { let s : Sight = record { memory = guest.now; cpu = cpu.now } in
-        Serves s blocks.old registry.old service
-        (record { answer = result; blocks = blocks.new; libraries = registry.new }) }
+        record { answer = result; blocks = blocks.new; libraries = registry.new }
+        ≡ serves s blocks.old registry.old service }
     ensures lines { let s : Sight = record { memory = guest.now; cpu = cpu.now } in
         Gives (L.output lines.old) (L.output lines.new) (service_pieces s service) }
 {
@@ -81,8 +81,8 @@ pub fn call<L: Lines>(
     lines: &mut L,
 ) -> Answer
     ensures answer { let s : Sight = record { memory = guest.now; cpu = cpu.now } in
-        CallsRow s blocks.old registry.old in_handler (row_of library number)
-        (record { answer = result; blocks = blocks.new; libraries = registry.new }) }
+        record { answer = result; blocks = blocks.new; libraries = registry.new }
+        ≡ calls_row s blocks.old registry.old in_handler (row_of library number) }
     ensures lines { let s : Sight = record { memory = guest.now; cpu = cpu.now } in
         Gives (L.output lines.old) (L.output lines.new)
         (row_pieces s in_handler (row_of library number)) }

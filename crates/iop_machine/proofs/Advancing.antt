@@ -14,7 +14,8 @@ use Rattle.iop_machine.specs.Running.{GoesOnFor, Finishes, Faults}
 use Rattle.iop_machine.specs.Stepping.{step, steps, executed}
 use Rattle.iop_machine.specs.World.{World}
 use Rattle.iop_machine.specs.Iop.{Transition}
-use Rattle.iop_machine.proofs.Lasting.{steps_more, executed_more, goes_on_both, few_steps}
+use Rattle.iop_machine.proofs.Lasting.{goes_on_both, few_steps}
+use Rattle.iop_machine.proofs.Composing.{steps_more, executed_more}
 use Rattle.iop_machine.proofs.Reaching.{Reached, here, told, steps_suc}
 use Rattle.iop_machine.proofs.Resting.{rest, clock_steps}
 

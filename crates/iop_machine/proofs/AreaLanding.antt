@@ -1,29 +1,27 @@
--- The kernel's area stays as it is read while a module is loaded.
-use Rattle.std.proofs.Common.{◌≡◌, ℕ, ◌+◌, ◌%◌, ◌<◌, ◌≤◌, nat_le, cond, Option, Some, None, Result, Ok, Err, List, [], ◌∷◌, length, replicate, refl, sym, ◌∙◌, arith, subst, inl, inr}
-use Rattle.std.specs.Prelude.{IfOk}
-use Rattle.std.proofs.lemmas.List.{length-append, length-replicate}
+-- The kernel's area stays as it is read while modules are loaded.
+use Rattle.std.proofs.Common.{◌≡◌, ℕ, ◌+◌, ◌*◌, ◌%◌, ◌<◌, ◌≤◌, nat_le, true, cond, Option, Some, None, Result, Ok, Err, List, [], ◌∷◌, ◌++◌, length, replicate, take, drop, get_or, slice_index, All, refl, sym, ◌∙◌, arith, subst, inr, length-append, length-take-le, length-drop, get_or-drop, get_or-take, ext_get_or}
+use Rattle.std.proofs.lemmas.List.{length-replicate}
+use Rattle.std.proofs.lemmas.List.Elements.{All-head, All-tail}
+use Rattle.iop_base.specs.Numbers.{bytes_of}
 use Rattle.iop_base.specs.Places.{phys, range_at}
 use Rattle.iop_base.specs.declared.code.Code.{Code}
-use Rattle.iop_linker.specs.Linking.{linking, linked_memory}
-use Rattle.iop_linker.specs.declared.link_fault.LinkFault.{LinkFault}
-use Rattle.iop_linker.proofs.Soundness.{linking_keeps_below}
-use Rattle.iop_modload.specs.declared.limits.TheConstants.{FIRST_BASE}
-use Rattle.iop_stubs.specs.Binding.{IsSound}
+use Rattle.iop_modload.specs.Laws.{HasBlocks}
+use Rattle.iop_modload.specs.declared.loaded.Loaded.{Loaded}
+use Rattle.iop_modload.proofs.LoadingLemmas.{loading_keeps}
 use Rattle.iop_stubs.specs.Stubs.{Memory, after_store, range_place}
-use Rattle.iop_stubs.specs.declared.live_stub.Stub.{Stub}
+use Rattle.iop_sysmem.specs.declared.blocks.TheConstants.{KERNEL}
 use Rattle.iop_machine.specs.declared.arguments.TheConstants.{ARGUMENTS, ARGUMENTS_LEN}
-use Rattle.iop_machine.specs.AreaLaws.{HasKernel, LoadingKeepsKernel}
+use Rattle.iop_machine.specs.AreaLaws.{HasKernel, BootingKeepsKernel}
 use Rattle.iop_machine.specs.Iop.{Iop, Transition}
-use Rattle.iop_machine.specs.Laws.{CanBeLoaded}
-use Rattle.iop_machine.specs.Loading.{with_kernel, copies, enters, boots, passes_arguments}
-use Rattle.iop_machine.specs.Modules.{Module, argument_block}
+use Rattle.iop_machine.specs.Loading.{with_kernel, loading_of, places, passes, enters_or, loads_first, boots}
+use Rattle.iop_machine.specs.Modules.{Module, HasRoom, addresses, strings, argument_block}
 use Rattle.iop_machine.specs.Storing.{fills, stores_bytes}
-use Rattle.iop_machine.specs.World.{reset, beginning}
+use Rattle.iop_machine.specs.World.{beginning}
 use Rattle.iop_machine.proofs.AreaLemmas.{HoldsArea, IsOutside, area_holds, store_holds}
 use Rattle.iop_machine.proofs.AreaReading.{area_is_read}
-use Rattle.iop_machine.proofs.Keeping.{range_by}
-use Rattle.iop_machine.proofs.Landing.{may_link, reset_sound}
-use Rattle.iop_machine.proofs.LoadingLemmas.{length-zeros}
+use Rattle.iop_machine.proofs.ArgumentLemmas.{length-addresses}
+use Rattle.iop_machine.proofs.Inside.{range_by}
+use Rattle.iop_machine.proofs.Landing.{area_blocks, begins_as_machine}
 use Rattle.iop_machine.proofs.Stepping.{step_begins}
 use Rattle.iop_machine.proofs.StubLemmas.{chosen}
 
@@ -48,61 +46,92 @@ store_by memory at bytes (Some p) low e outside holds =
     store_holds holds p bytes (range_by (phys size at) size at (length bytes) p refl e)
     (subst (λ q. IsOutside q (length bytes)) (sym is) outside)
 
-stores_hold : (s : Iop) (at : ℕ) (bytes : List ℕ) → at < 0x20000000 → IsOutside at (length bytes)
-    → HoldsArea s.memory.ram → HoldsArea (stores_bytes s at bytes).state.memory.ram
-stores_hold s at bytes low outside holds = store_by s.memory at bytes _ low refl outside holds
+-- bytes that fit the argument block
+block_holds : (s : Iop) (bytes : List ℕ) → length bytes ≤ ARGUMENTS_LEN → HoldsArea s.memory.ram
+    → HoldsArea (stores_bytes s ARGUMENTS bytes).state.memory.ram
+block_holds s bytes short =
+    store_by s.memory ARGUMENTS bytes _ (omega arith) refl
+    (inr (omega arith, omega (arith, short)))
 
-length-argument_block : (name : List ℕ) → length (argument_block (name ∷ [])) ≡ length name + 9
+argument_block-short : (m : Module) → HasRoom m → length (argument_block m.words) ≤ ARGUMENTS_LEN
 unfolding argument_block
-length-argument_block name = omega (arith, length-append name (0 ∷ []))
+argument_block-short m room =
+    let first = addresses (ARGUMENTS + 4 * (length m.words + 1)) m.words in
+    let few = room.words in
+    let short = room.strings in
+    omega (
+      arith,
+      few,
+      short,
+      length-append first (bytes_of 4 0 ++ strings m.words),
+      length-append (first ++ bytes_of 4 0) (strings m.words),
+      length-append first (bytes_of 4 0),
+      length-append (bytes_of 4 0) (strings m.words),
+      length-addresses (ARGUMENTS + 4 * (length m.words + 1)) m.words,
+    )
 
-arguments_hold : (s : Iop) (m : Module) → length m.name ≤ 255 → HoldsArea s.memory.ram
-    → HoldsArea (passes_arguments s m).state.memory.ram
-arguments_hold s m short holds =
-    let block = argument_block (m.name ∷ []) in
-    let zeroed = stores_hold s ARGUMENTS (replicate ARGUMENTS_LEN 0) (omega arith)
-    (inr (omega arith, omega (arith, length-replicate {A = ℕ} ARGUMENTS_LEN 0))) holds in
-    stores_hold (fills s ARGUMENTS ARGUMENTS_LEN).state ARGUMENTS block (omega arith)
-    (inr (omega arith, omega (arith, short, length-argument_block m.name))) zeroed
+passes_hold : (s : Iop) (m : Module) → HasRoom m → HoldsArea s.memory.ram
+    → HoldsArea (passes s (argument_block m.words)).state.memory.ram
+passes_hold s m room holds =
+    block_holds (fills s ARGUMENTS ARGUMENTS_LEN).state (argument_block m.words)
+    (argument_block-short m room)
+    (block_holds s (replicate ARGUMENTS_LEN 0)
+    (omega (arith, length-replicate {A = ℕ} ARGUMENTS_LEN 0)) holds)
 
-module _ (s : Iop) (sound : IsSound s.memory) (none : s.memory.live ≡ []) where
-  area_there : HoldsArea (with_kernel s).memory.ram
-  area_there = area_holds s.memory.ram
+-- bytes that are the same one by one
+same_part : (a b : List ℕ) (p n : ℕ) → p + n ≤ length a → length a ≡ length b
+    → ((k : ℕ) → k < n → get_or a (p + k) 0 ≡ get_or b (p + k) 0)
+    → take n (drop p a) ≡ take n (drop p b)
+same_part a b p n fits long same =
+    let first = length-take-le n (drop p a) (omega (arith, fits, length-drop p a)) in
+    let second = length-take-le n (drop p b) (omega (arith, fits, long, length-drop p b)) in
+    ext_get_or 0 _ _ (first ∙ sym second) (λ k lt.
+    let below : k < n = omega (arith, lt, first) in
+    get_or-take n (drop p a) k 0 below ∙ get_or-drop p a k 0 ∙ same k below
+    ∙ sym (get_or-take n (drop p b) k 0 below ∙ get_or-drop p b k 0))
 
-  module _ (m : Module) (can : CanBeLoaded (length s.memory.ram) m) (short : length m.name ≤ 255)
-    where
-      abbrev copied : Iop
-      copied = (copies (with_kernel s) m).state
+-- memory whose bytes of the kernel's block are as they were
+as_before : (old new : List ℕ) → length new ≡ length old
+    → ((p : ℕ) → p < KERNEL.size → slice_index new p ≡ slice_index old p) → HoldsArea old
+    → HoldsArea new
+as_before old new size same holds = record {
+  long = omega (arith, holds.long, size);
+  word = λ p aligned low fixed.
+      same_part new old p 4 (omega (arith, low, aligned, holds.long, size)) size
+      (λ k lt. same (p + k) (omega (arith, lt, low, aligned)))
+      ∙ holds.word p aligned low fixed;
+}
 
-      copy_holds : HoldsArea copied.memory.ram
-      copy_holds =
-          stores_hold (with_kernel s) FIRST_BASE m.image.bytes (omega arith) (inl (omega arith))
-          area_there
+enters_hold : (next : Iop → Transition Iop) (s : Iop) (m : Module) (r : Result Loaded Code)
+    → HasRoom m → HoldsArea s.memory.ram → HoldsArea (next s).state.memory.ram
+    → HoldsArea (enters_or next s m r).state.memory.ram
+enters_hold next s m (Ok loaded) room holds later = passes_hold s m room holds
+enters_hold next s m (Err code) room holds later = later
 
-      entered_holds : (r : Result (List Stub) LinkFault)
-          → linking copied.memory copied.libraries FIRST_BASE m.image.text ≡ r
-          → HoldsArea (enters copied m r).state.memory.ram
-      entered_holds (Ok stubs) e =
-          let linked = record copied { memory = linked_memory copied.memory stubs } in
-          let below = linking_keeps_below copied.memory copied.libraries FIRST_BASE m.image.text stubs
-          (may_link s sound none m can) e in
-          arguments_hold linked m short (record {
-            long = omega (arith, copy_holds.long, below.size);
-            word = λ p aligned low fixed.
-                below.bytes p 4 (omega arith) ∙ copy_holds.word p aligned low fixed;
-          })
-      entered_holds (Err fault) e = copy_holds
+loads_first_hold : (modules : List Module) (s : Iop) → All HasRoom modules
+    → HasBlocks s.memory s.blocks → HoldsArea s.memory.ram
+    → HoldsArea (loads_first modules s).state.memory.ram
+unfolding loads_first
+loads_first_hold [] s room has holds = holds
+loads_first_hold (m ∷ rest) s room has holds =
+    let loading = loading_of s m in
+    let kept = loading_keeps s.clock s.memory s.blocks s.libraries has m.file in
+    let placed = (places s rest loading).state in
+    let still = as_before s.memory.ram placed.memory.ram kept.size kept.kernel holds in
+    enters_hold (loads_first rest) placed m loading.answer (All-head HasRoom m rest room) still
+    (loads_first_hold rest placed (All-tail HasRoom m rest room) kept.whole still)
 
-  boots_hold : (m : Result Module Code) → IfOk m (CanBeLoaded (length s.memory.ram))
-      → IfOk m (λ m. length m.name ≤ 255) → HoldsArea (boots s m).state.memory.ram
-  unfolding boots
-  boots_hold (Ok m) can short = entered_holds m can short _ refl
-  boots_hold (Err code) can short = area_there
+boots_hold : (s : Iop) → All HasRoom s.modules → HasBlocks s.memory s.blocks → s.memory.live ≡ []
+    → HoldsArea (boots s).state.memory.ram
+unfolding boots
+boots_hold s room has none =
+    loads_first_hold s.modules (with_kernel s) room (area_blocks s has none)
+    (area_holds s.memory.ram)
 
-pub loading_keeps_kernel : LoadingKeepsKernel
-loading_keeps_kernel = λ size m sized can short.
-    let start = beginning size m in
-    let fits = subst (λ n. IfOk m (CanBeLoaded n)) (sym (length-zeros size)) can in
+pub booting_keeps_kernel : BootingKeepsKernel
+booting_keeps_kernel = λ size modules sized room.
+    let start = beginning size modules in
+    let machine = begins_as_machine size modules sized in
     subst (λ (t : Transition _). HasKernel t.state.iop.memory.ram)
-    (sym (step_begins start (Some m) refl refl))
-    (area_is_read (boots_hold (reset size) (reset_sound size sized) refl m fits short))
+    (sym (step_begins start true refl refl))
+    (area_is_read (boots_hold start.iop room machine.whole (machine.none_live refl)))

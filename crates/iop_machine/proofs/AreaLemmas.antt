@@ -13,7 +13,7 @@ use Rattle.iop_machine.specs.KernelArea.{service_at, table_word, service_word, k
 use Rattle.iop_machine.proofs.Area.{length-kernel_words}
 
 -- a part of the first of two lists
-part_of_first : (a b : List ℕ) (p n : ℕ) → p + n ≤ length a
+pub part_of_first : (a b : List ℕ) (p n : ℕ) → p + n ≤ length a
     → take n (drop p (a ++ b)) ≡ take n (drop p a)
 part_of_first a b p n fits =
     ap (take n) (drop-append-le p a b (omega arith))
@@ -33,7 +33,7 @@ word_of_words (suc n) i lt =
     ∙ ap (take 4) (drop-append_seam (kernel_words n) next))
     i (omega arith)
 
-length-kernel_area : length kernel_area ≡ 0x10000
+pub length-kernel_area : length kernel_area ≡ 0x10000
 unfolding kernel_area
 length-kernel_area = length-kernel_words 0x4000
 

@@ -1,236 +1,240 @@
--- What each step keeps: one record, and one lemma a case.
-use Rattle.std.proofs.Common.{◌≡◌, ℕ, ◌+◌, ◌≤◌, nat_le, Bool, true, false, cond, Option, Some, None, List, [], ◌++◌, length, refl, sym, ◌∙◌, arith, not, inl, inr}
-use Rattle.std.specs.Prelude.{◌⊎◌, Contains, replicate}
-use Rattle.std.proofs.lemmas.Bool.Decides.{nat_tests}
-use Rattle.std.proofs.lemmas.List.Elements.{All-filter, All-contains, All-contains_itself, Contains-append_left, Contains-append_right}
-use Rattle.iop_base.specs.Keeping.{kept_of}
+-- What stays of memory and its blocks, whatever is stored, loaded, finished or called.
+use Rattle.std.proofs.Common.{◌⊎◌, inl, inr, ℕ, false, Option, Some, None, Result, Ok, Err, List, [], ◌∷◌, ◌++◌, length, replicate, Contains, refl, sym, ◌∙◌, arith, not}
+use Rattle.std.proofs.lemmas.List.Elements.{All-filter, All-contains, All-contains_itself, Contains-append_cases, Contains-append_left, Contains-append_right}
 use Rattle.iop_base.specs.Numbers.{width_bytes, bytes_of}
 use Rattle.iop_base.specs.Piece.{Piece}
-use Rattle.iop_base.specs.Places.{phys, range_at}
-use Rattle.iop_base.specs.declared.kept.Kept.{Kept}
-use Rattle.iop_base.specs.declared.kept.Kept.TheVariants.{Resident, Removed, Removable}
-use Rattle.iop_base.proofs.Memory.{length-with_bytes}
+use Rattle.iop_base.specs.Places.{phys}
+use Rattle.iop_base.specs.declared.code.Code.{Code}
+use Rattle.iop_base.specs.declared.line.Line.{Line}
+use Rattle.iop_base.specs.declared.line.Line.TheVariants.{Load, Refused}
 use Rattle.iop_exec.specs.declared.cpu.Cpu.{Cpu}
-use Rattle.iop_exec.specs.Laws.{cpu_after}
-use Rattle.iop_exec.specs.Positions.{IsStraight}
-use Rattle.iop_exec.proofs.Following.{row_follows}
 use Rattle.iop_exec.specs.Row.{Row, Goes, Serves, Faults, Storing, at_next, reg, row}
-use Rattle.iop_stubs.specs.Binding.{IsSound}
+use Rattle.iop_libs.specs.Calls.{Sight, calls_row}
+use Rattle.iop_libs.specs.declared.answer.Answer.{Answer}
+use Rattle.iop_libs.specs.declared.answer.Answer.TheVariants.{Value, Unlisted, Fault, Other}
+use Rattle.iop_modload.specs.Laws.{HasBlocks, IsLiveOrTold, Keeps as LoadingKeeps}
+use Rattle.iop_modload.specs.declared.loaded.Loaded.{Loaded}
+use Rattle.iop_modload.proofs.LoadingLemmas.{loading_keeps}
+use Rattle.iop_modload.proofs.FinishingLemmas.{finishing_keeps}
+use Rattle.iop_services.specs.Table.{row_of}
 use Rattle.iop_stubs.specs.Stubs.{access_place, Memory, after_store, meets, stub_line, store_lines}
 use Rattle.iop_stubs.specs.declared.live_stub.Stub.{Stub}
-use Rattle.iop_base.proofs.Lists.{length-bytes_of}
 use Rattle.iop_stubs.proofs.Storing.{store_sound}
-use Rattle.iop_machine.specs.declared.loader.Loaded.{Loaded}
+use Rattle.iop_sysmem.specs.BlockMap.{BlockMap}
+use Rattle.iop_machine.specs.declared.arguments.TheConstants.{ARGUMENTS, ARGUMENTS_LEN}
+use Rattle.iop_machine.specs.declared.call.Call.{Call}
+use Rattle.iop_machine.specs.declared.call.Call.TheVariants.{Library, ThreadReturn, ModuleReturn}
+use Rattle.iop_machine.specs.declared.loader.Begun.{Begun}
 use Rattle.iop_machine.specs.declared.loader.Loader.{Loader}
 use Rattle.iop_machine.specs.declared.loader.Loader.TheVariants.{Dormant, Ready, Running}
-use Rattle.iop_machine.specs.declared.service.Service.{Service}
-use Rattle.iop_machine.specs.declared.service.Service.TheVariants.{Kprintf, ThreadReturn, ModuleReturn}
-use Rattle.iop_machine.specs.Services.{service_of, calls, returns, keeps}
-use Rattle.iop_machine.specs.Stepping.{performs, stores_it, goes_by, executes_by, one_if}
-use Rattle.iop_machine.specs.Storing.{stores_bytes}
-use Rattle.iop_base.specs.declared.line.Line.TheVariants.{Returned}
 use Rattle.iop_machine.specs.Iop.{Iop, Transition, tells}
+use Rattle.iop_machine.specs.Loading.{loading_of, places, passes, enters_or, loads_first}
+use Rattle.iop_machine.specs.Modules.{Module, argument_block}
+use Rattle.iop_machine.specs.Services.{call_of, calls, returns, serves, leaves, answers_by}
+use Rattle.iop_machine.specs.Stepping.{performs, stores_it, goes_by}
+use Rattle.iop_machine.specs.Storing.{stores_bytes, fills}
+use Rattle.iop_machine.proofs.BlockKeeping.{call_keeps}
 use Rattle.iop_machine.proofs.Elements.{fails_or_passes}
+use Rattle.iop_machine.proofs.Inside.{LiesInside, range_by, number_inside, length-after_store}
 
--- no module waits to begin
-abbrev pub HasBegun : Loader → Type 0
-HasBegun (Ready m) = ⊥
-HasBegun (Running m) = Unit {0}
-HasBegun Dormant = Unit {0}
-
--- what stays of memory, where these pieces were given at this moment
-pub record Stays (clock : ℕ) (old new : Memory) (pieces : List Piece) : Type 0 where
-  pub size : length new.ram ≡ length old.ram
-  pub sound : IsSound old → IsSound new
-  -- no stub becomes live
-  pub live : (stub : Stub) → Contains new.live stub → Contains old.live stub
-  -- and one that is no longer live has its line
-  pub line : (stub : Stub) → Contains old.live stub
+-- what stays of memory at a moment, which has these blocks then, where these pieces were given and these
+-- stubs bound
+pub record Stays (clock : ℕ) (old new : Memory) (blocks : BlockMap) (pieces : List Piece)
+    (bound : List Stub) : Type 0 where
+  pub whole : HasBlocks new blocks
+  -- no stub is live but those that were, and those that were bound
+  pub live : (stub : Stub) → Contains new.live stub → Contains old.live stub ⊎ Contains bound stub
+  -- each of these is live, or has its line
+  pub line : (stub : Stub) → Contains old.live stub ⊎ Contains bound stub
       → Contains new.live stub ⊎ Contains pieces (stub_line clock stub)
 
--- what stays of the core
-pub record Keeps (ticks : ℕ) (s : Iop) (t : Transition Iop) : Type 0 where
-  pub clock : t.state.clock ≤ s.clock + ticks
-  pub begun : HasBegun s.loader → HasBegun t.state.loader
-  pub straight : IsStraight s.cpu → IsStraight t.state.cpu
-  pub memory : Stays s.clock s.memory t.state.memory t.pieces
+-- over a transition of the core
+abbrev pub Keeps : Iop → Transition Iop → Type 0
+Keeps s t = Stays s.clock s.memory t.state.memory t.state.blocks t.pieces t.bound
 
-same : (clock : ℕ) (memory : Memory) (pieces : List Piece) → Stays clock memory memory pieces
-same clock memory pieces =
-    record { size = refl; sound = λ h. h; live = λ stub h. h; line = λ stub h. inl h }
+-- one that was live, where none was bound
+only_old : (live : List Stub) (stub : Stub) → Contains live stub ⊎ Contains [] stub
+    → Contains live stub
+only_old live stub (inl old) = old
+only_old live stub (inr none) = absurd (omega (arith, none.1))
 
--- a range that has a place lies in memory
-in_range : (b : Bool) (p size len q : ℕ) → nat_le (p + len) size ≡ b → cond b (Some p) None ≡ Some q
-    → q + len ≤ size
-in_range true p size len q t e =
-    let fits : p + len ≤ size = grind (arith, nat_tests, t) in
-    let is : p ≡ q = cc e in
-    omega (arith, fits, is)
-in_range false p size len q t e = absurd (cc e)
+pub same : (clock : ℕ) (memory : Memory) (blocks : BlockMap) (pieces : List Piece)
+    → HasBlocks memory blocks → Stays clock memory memory blocks pieces []
+same clock memory blocks pieces h =
+    record { whole = h; live = λ stub x. inl x; line = λ stub x. inl (only_old memory.live stub x) }
 
-pub range_by : (o : Option ℕ) (size at len q : ℕ) → phys size at ≡ o → range_at size at len ≡ Some q
-    → q + len ≤ size
-range_by None size at len q f e = let none : range_at size at len ≡ None =
-    rw f refl in absurd (cc (none, e))
-range_by (Some p) size at len q f e =
-    let is : range_at size at len ≡ cond (nat_le (p + len) size) (Some p) None = rw f refl in
-    in_range (nat_le (p + len) size) p size len q refl (sym is ∙ e)
-
-access_by : (b : Bool) (size at width q : ℕ) → cond b (range_at size at width) None ≡ Some q
-    → q + width ≤ size
-access_by true size at width q e = range_by (phys size at) size at width q refl e
-access_by false size at width q e = absurd (cc e)
-
--- a store at a place, where its bytes lie in memory
-stays_store : (clock : ℕ) (old : Memory) (place : Option ℕ) (bytes : List ℕ)
-    → ((p : ℕ) → place ≡ Some p → p + length bytes ≤ length old.ram)
-    → Stays clock old (after_store old place bytes) (store_lines clock old place (length bytes))
-stays_store clock old None bytes inside = same clock old []
-stays_store clock old (Some p) bytes inside =
+-- a store
+stays_store : (clock : ℕ) (old : Memory) (blocks : BlockMap) (place : Option ℕ) (bytes : List ℕ)
+    → LiesInside old place bytes → HasBlocks old blocks
+    → Stays clock old (after_store old place bytes) blocks
+    (store_lines clock old place (length bytes)) []
+stays_store clock old blocks None bytes inside h = same clock old blocks [] h
+stays_store clock old blocks (Some p) bytes inside h =
     let test = meets p (length bytes) in
     record {
-      size = length-with_bytes old.ram p bytes (inside p refl);
-      sound = store_sound old _ _ p (length bytes) bytes refl refl refl (inside p refl);
-      live = λ stub h. All-contains (Contains old.live) _ stub
-          (All-filter (λ x. not (test x)) (Contains old.live) old.live
-          (All-contains_itself old.live)) h;
-      line = fails_or_passes test (stub_line clock) old.live;
+      whole = record {
+        sound = store_sound old _ _ p (length bytes) bytes refl refl refl (inside p refl) h.sound;
+        are_blocks = h.are_blocks;
+        same_size = h.same_size ∙ sym (length-after_store old (Some p) bytes inside);
+      };
+      live = λ stub x. inl (All-contains (Contains old.live) _ stub
+          (All-filter (λ y. not (test y)) (Contains old.live) old.live
+          (All-contains_itself old.live)) x);
+      line = λ stub x. fails_or_passes test (stub_line clock) old.live stub
+          (only_old old.live stub x);
     }
 
 -- bytes that the kernel stores at an address
-pub stays_stores : (s : Iop) (at : ℕ) (bytes : List ℕ)
-    → Stays s.clock s.memory (stores_bytes s at bytes).state.memory (stores_bytes s at bytes).pieces
+stays_stores : (s : Iop) (at : ℕ) (bytes : List ℕ) → HasBlocks s.memory s.blocks
+    → Keeps s (stores_bytes s at bytes)
 stays_stores s at bytes =
     let size = length s.memory.ram in
-    stays_store s.clock s.memory _ bytes
+    stays_store s.clock s.memory s.blocks _ bytes
     (λ p e. range_by (phys size at) size at (length bytes) p refl e)
 
-stays_number : (s : Iop) (storing : Storing)
-    → Stays s.clock s.memory (stores_it s (Some storing)).state.memory
-    (stores_it s (Some storing)).pieces
+stays_number : (s : Iop) (storing : Storing) → HasBlocks s.memory s.blocks
+    → Keeps s (stores_it s (Some storing))
 stays_number s storing =
-    let n = width_bytes storing.width in
-    stays_store s.clock s.memory (access_place s.memory storing.at storing.width)
-    (bytes_of n storing.value)
-    (λ p e. let fits = access_by _ (length s.memory.ram) storing.at n p e in omega
-    (arith, fits, length-bytes_of n storing.value))
+    stays_store s.clock s.memory s.blocks (access_place s.memory storing.at storing.width)
+    (bytes_of (width_bytes storing.width) storing.value) (number_inside s.memory storing)
 
 -- one change of memory and then another
-pub stays_then : {clock : ℕ} {a b c : Memory} {first second : List Piece}
-    → Stays clock a b first → Stays clock b c second → Stays clock a c (first ++ second)
-stays_then {clock} {a} {b} {c} {first} {second} g h = record {
-  size = h.size ∙ g.size;
-  sound = λ x. h.sound (g.sound x);
-  live = λ stub x. g.live stub (h.live stub x);
-  line = λ stub x. elim (g.line stub x) [
-    | inl stays ↦ elim (h.line stub stays) [
-      | inl all ↦ inl all
-      | inr told ↦ inr (Contains-append_right first second _ told)
+module _ {clock : ℕ} {a b c : Memory} {between blocks : BlockMap} {first second : List Piece}
+    {new newer : List Stub} (g : Stays clock a b between first new)
+    (h : Stays clock b c blocks second newer) where
+  live_then : (stub : Stub) → Contains c.live stub → Contains a.live stub ⊎ Contains (new ++ newer) stub
+  live_then stub x = elim (h.live stub x) [
+    | inl there ↦ elim (g.live stub there) [
+      | inl old ↦ inl old
+      | inr one ↦ inr (Contains-append_left new newer stub one)
     ]
+    | inr one ↦ inr (Contains-append_right new newer stub one)
+  ]
+
+  -- from the state between
+  line_from : (stub : Stub) → Contains b.live stub ⊎ Contains newer stub
+      → Contains c.live stub ⊎ Contains (first ++ second) (stub_line clock stub)
+  line_from stub x = elim (h.line stub x) [
+    | inl all ↦ inl all
+    | inr told ↦ inr (Contains-append_right first second _ told)
+  ]
+
+  line_old : (stub : Stub) → Contains a.live stub ⊎ Contains new stub
+      → Contains c.live stub ⊎ Contains (first ++ second) (stub_line clock stub)
+  line_old stub x = elim (g.line stub x) [
+    | inl there ↦ line_from stub (inl there)
     | inr told ↦ inr (Contains-append_left first second _ told)
+  ]
+
+  line_then : (stub : Stub) → Contains a.live stub ⊎ Contains (new ++ newer) stub
+      → Contains c.live stub ⊎ Contains (first ++ second) (stub_line clock stub)
+  line_then stub (inl old) = line_old stub (inl old)
+  line_then stub (inr bound) = elim (Contains-append_cases new newer stub bound) [
+    | inl one ↦ line_old stub (inr one)
+    | inr one ↦ line_from stub (inr one)
+  ]
+
+  pub stays_then : Stays clock a c blocks (first ++ second) (new ++ newer)
+  stays_then = record { whole = h.whole; live = live_then; line = line_then }
+
+-- a loading or a finishing
+stays_as : {clock : ℕ} {old new : Memory} {blocks : BlockMap} {bound : List Stub}
+    {pieces : List Piece} → LoadingKeeps clock old new blocks bound pieces
+    → Stays clock old new blocks pieces bound
+stays_as {clock} {old} {new} {blocks} {bound} {pieces} h = record {
+  whole = h.whole;
+  live = λ stub x.
+      All-contains (λ y. Contains old.live y ⊎ Contains bound y) new.live stub h.others x;
+  line = λ stub x. elim x [
+    | inl there ↦ All-contains (IsLiveOrTold clock new pieces) old.live stub h.were_live there
+    | inr one ↦ All-contains (IsLiveOrTold clock new pieces) bound stub h.were_bound one
   ];
 }
 
--- what becomes of a module
-keeps_keep : (s : Iop) (m : Loaded) (k : Kept) → Keeps 0 s (keeps s m k)
-keeps_keep s m Resident =
-    record {
-      clock = omega arith;
-      begun = λ h. h;
-      straight = λ h. h;
-      memory =
-          same s.clock s.memory [];
-    }
-keeps_keep s m Removable =
-    record {
-      clock = omega arith;
-      begun = λ h. h;
-      straight = λ h. h;
-      memory =
-          same s.clock s.memory [];
-    }
-keeps_keep s m Removed = record {
-  clock = omega arith;
-  begun = λ h. h;
-  straight = λ h. h;
-  memory = stays_stores s m.base (replicate m.size 0);
-}
+passes_keeps : (s : Iop) (block : List ℕ) → HasBlocks s.memory s.blocks → Keeps s (passes s block)
+passes_keeps s block h =
+    let filled = stays_stores s ARGUMENTS (replicate ARGUMENTS_LEN 0) h in
+    stays_then filled
+    (stays_stores (fills s ARGUMENTS ARGUMENTS_LEN).state ARGUMENTS block filled.whole)
 
-returns_keeps : (s : Iop) (m : Loaded) (value : ℕ) → Keeps 1 s (returns s m value)
+-- a line, and then a transition
+told : (s : Iop) (line : Line) (t : Transition Iop) → HasBlocks s.memory s.blocks → Keeps s t
+    → Stays s.clock s.memory t.state.memory t.state.blocks ((tells s line).pieces ++ t.pieces)
+    t.bound
+told s line t h keeps = stays_then (same s.clock s.memory s.blocks (tells s line).pieces h) keeps
+
+-- by what the loading came to, where the next one keeps it
+enters_keeps : (next : Iop → Transition Iop)
+    → ((v : Iop) → HasBlocks v.memory v.blocks → Keeps v (next v)) → (s : Iop) (m : Module)
+    (r : Result Loaded Code) → HasBlocks s.memory s.blocks → Keeps s (enters_or next s m r)
+enters_keeps next keeps s m (Ok loaded) h =
+    let block = argument_block m.words in
+    told s (Load m.number loaded.base loaded.len) (passes s block) h (passes_keeps s block h)
+enters_keeps next keeps s m (Err code) h = told s (Refused m.number code) (next s) h (keeps s h)
+
+pub loads_first_keeps : (modules : List Module) (s : Iop) → HasBlocks s.memory s.blocks
+    → Keeps s (loads_first modules s)
+unfolding loads_first
+loads_first_keeps [] s h = same s.clock s.memory s.blocks [] h
+loads_first_keeps (m ∷ rest) s h =
+    let loading = loading_of s m in
+    let placed : Keeps s (places s rest loading) =
+    stays_as (loading_keeps s.clock s.memory s.blocks s.libraries h m.file) in
+    stays_then placed (enters_keeps (loads_first rest) (loads_first_keeps rest)
+    (places s rest loading).state m loading.answer placed.whole)
+
+returns_keep : (s : Iop) (m : Begun) (value : ℕ) → HasBlocks s.memory s.blocks
+    → Keeps s (returns s m value)
 unfolding returns
-returns_keeps s m value =
-    let line = (tells s (Returned m.number value (kept_of value))).pieces in
-    let kept = keeps_keep s m (kept_of value) in
-    record {
-      clock = let clock = kept.clock in omega (arith, clock);
-      begun = λ h. tt;
-      straight = kept.straight;
-      memory = stays_then (same s.clock s.memory line) kept.memory;
-    }
+returns_keep s m value h =
+    let ended = stays_as (finishing_keeps s.clock s.memory s.blocks s.libraries h m.number
+    m.loaded value) in
+    stays_then ended (loads_first_keeps s.modules _ ended.whole)
 
--- the processor moved on before
-by_cpu : {ticks : ℕ} {t : Transition Iop} (s : Iop) (after : Cpu)
-    → (IsStraight s.cpu → IsStraight after)
-    → Keeps ticks (record s { cpu = after }) t → Keeps ticks s t
-by_cpu s after f h = record
-    { clock = h.clock; begun = h.begun; straight = λ x. h.straight (f x); memory = h.memory }
+-- a service of a library
+module _ (before : Cpu) (library number : ℕ) where
+  answers_keep : (s : Iop) (answer : Answer) → HasBlocks s.memory s.blocks
+      → Keeps s (answers_by before library number s answer)
+  answers_keep s (Value value) h = same s.clock s.memory s.blocks _ h
+  answers_keep s Unlisted h = same s.clock s.memory s.blocks _ h
+  answers_keep s Fault h = same s.clock s.memory s.blocks _ h
+  answers_keep s (Other service) h = same s.clock s.memory s.blocks _ h
 
-calls_keep : (s : Iop) (m : Loaded) (after : Cpu) (o : Option Service)
-    → (IsStraight s.cpu → IsStraight after) → Keeps 1 s (calls s m after o)
-calls_keep s m after None f =
-    record {
-      clock = omega arith;
-      begun = λ h. h;
-      straight = λ h. h;
-      memory =
-          same s.clock s.memory [];
-    }
-calls_keep s m after (Some Kprintf) f =
-    record {
-      clock = omega arith;
-      begun = λ h. h;
-      straight = λ h. f h;
-      memory =
-          same s.clock s.memory _;
-    }
-calls_keep s m after (Some ThreadReturn) f =
-    by_cpu s after f (returns_keeps (record s { cpu = after }) m 0)
-calls_keep s m after (Some ModuleReturn) f =
-    by_cpu s after f (returns_keeps (record s { cpu = after }) m (reg after 2))
+  serves_keep : (s : Iop) → HasBlocks s.memory s.blocks → Keeps s (serves before library number s)
+  unfolding serves
+  serves_keep s h =
+      let sight : Sight = record { memory = s.memory; cpu = s.cpu } in
+      let row = row_of library number in
+      let after = calls_row sight s.blocks s.libraries false row in
+      let kept = call_keeps sight s.blocks s.libraries h.are_blocks false row in
+      let left = leaves before library number s sight after in
+      let whole : HasBlocks s.memory after.blocks = record {
+        sound = h.sound;
+        are_blocks = kept.are_blocks;
+        same_size = kept.size ∙ h.same_size;
+      } in
+      stays_then (same s.clock s.memory after.blocks left.pieces whole)
+      (answers_keep left.state after.answer whole)
 
-performs_keeps : (s : Iop) (m : Loaded) (r : Row)
-    → (IsStraight s.cpu → IsStraight (cpu_after s.cpu r)) → Keeps 1 s (performs s m r)
-performs_keeps s m (Goes after None) f =
-    record {
-      clock = omega arith;
-      begun = λ h. h;
-      straight = λ h. f h;
-      memory =
-          same s.clock s.memory [];
-    }
-performs_keeps s m (Goes after (Some storing)) f =
-    record {
-      clock = omega arith;
-      begun = λ h. h;
-      straight = λ h. f h;
-      memory =
-          stays_number (record s { cpu = after }) storing;
-    }
-performs_keeps s m (Serves code) f = calls_keep s m (at_next s.cpu) (service_of code) f
-performs_keeps s m (Faults kind) f =
-    record {
-      clock = omega arith;
-      begun = λ h. h;
-      straight = λ h. h;
-      memory =
-          same s.clock s.memory [];
-    }
+calls_keep : (s : Iop) (m : Begun) (after : Cpu) (o : Option Call) → HasBlocks s.memory s.blocks
+    → Keeps s (calls s m after o)
+calls_keep s m after None h = same s.clock s.memory s.blocks [] h
+calls_keep s m after (Some ThreadReturn) h = returns_keep (record s { cpu = after }) m 0 h
+calls_keep s m after (Some ModuleReturn) h =
+    returns_keep (record s { cpu = after }) m (reg after 2) h
+calls_keep s m after (Some (Library library number)) h =
+    serves_keep s.cpu library number (record s { cpu = after }) h
 
--- a step of the core
-pub goes_keep : (s : Iop) (l : Loader) → Keeps (one_if (executes_by None None l)) s (goes_by s l)
-goes_keep s (Ready m) = record
-    { clock = omega arith; begun = λ h. tt; straight = λ h. h; memory = same s.clock s.memory _ }
-goes_keep s (Running m) =
-    performs_keeps s m (row s.memory.ram s.cpu) (row_follows s.memory.ram s.cpu).straight
-goes_keep s Dormant = record
-    { clock = omega arith; begun = λ h. h; straight = λ h. h; memory = same s.clock s.memory [] }
+performs_keeps : (s : Iop) (m : Begun) (r : Row) → HasBlocks s.memory s.blocks
+    → Keeps s (performs s m r)
+performs_keeps s m (Goes after None) h = same s.clock s.memory s.blocks [] h
+performs_keeps s m (Goes after (Some storing)) h =
+    stays_number (record s { cpu = after }) storing h
+performs_keeps s m (Serves code) h = calls_keep s m (at_next s.cpu) (call_of code) h
+performs_keeps s m (Faults kind) h = same s.clock s.memory s.blocks [] h
+
+-- a step of the core that was booted
+pub goes_keep : (s : Iop) (l : Loader) → HasBlocks s.memory s.blocks → Keeps s (goes_by s l)
+goes_keep s (Ready m) h = same s.clock s.memory s.blocks _ h
+goes_keep s (Running m) h = performs_keeps s m (row s.memory.ram s.cpu) h
+goes_keep s Dormant h = same s.clock s.memory s.blocks [] h

@@ -1,53 +1,28 @@
 -- What lasts over whole runs.
-use Rattle.std.proofs.Common.{◌≡◌, ℕ, zero, suc, ◌+◌, ◌-◌, ◌<◌, ◌≤◌, Bool, true, false, Option, Some, None, List, [], ◌++◌, refl, ap, sym, ◌∙◌, arith, subst, append-nil, append_assoc, add-zero, add-suc, inl, inr, nat_lt}
+use Rattle.std.proofs.Common.{◌≡◌, ℕ, zero, suc, ◌+◌, ◌-◌, ◌<◌, ◌≤◌, Bool, true, false, Option, Some, None, List, [], ◌++◌, refl, ap, sym, ◌∙◌, arith, subst, inl, inr, nat_lt}
 use Rattle.std.specs.Prelude.{◌⊎◌}
 use Rattle.std.proofs.lemmas.Bool.Decides.{nat_tests}
 use Rattle.iop_base.specs.Piece.{Piece}
 use Rattle.iop_base.specs.declared.stop.Stop.{Stop}
-use Rattle.iop_machine.specs.Laws.{StepsCompose, RunsCompose, RunsAreDetermined, OverStays, RunsEnd, RunsAreComputed}
+use Rattle.iop_machine.specs.Laws.{RunsCompose, RunsAreDetermined, OverStays, RunsEnd, RunsAreComputed}
 use Rattle.iop_machine.specs.Running.{Ends, GoesOn, GoesOnFor}
 use Rattle.iop_machine.specs.Stepping.{step, steps, executes, executed, one_if, stop_at, stops_by, Ran, ran_by, run_within, run_of}
 use Rattle.iop_machine.specs.World.{World}
 use Rattle.iop_machine.specs.Iop.{Transition, silent, and_then}
+use Rattle.iop_machine.proofs.Composing.{steps_more, executed_more, steps_front, executed_front}
 use Rattle.iop_machine.proofs.Reaching.{steps_zero, steps_suc, executed_suc, not_over}
 use Rattle.iop_machine.proofs.Resting.{rest, rest_few, rest_step}
 use Rattle.iop_machine.proofs.Stepping.{step_over}
-
-pub steps_more : (w : World) (k j : ℕ)
-    → steps (k + j) w ≡ record {
-      state = (steps j (steps k w).state).state;
-      pieces =
-          (steps k w).pieces ++ (steps j (steps k w).state).pieces;
-    }
-unfolding steps
-steps_more w k zero =
-    ap (λ n. steps n w) (add-zero k)
-    ∙ ap (λ p. record { state = (steps k w).state; pieces = p })
-    (sym (append-nil (steps k w).pieces))
-steps_more w k (suc j) =
-    ap (λ n. steps n w) (add-suc k j) ∙ ap (λ d. and_then d step) (steps_more w k j)
-    ∙ ap (λ p. record { state = (step (steps j (steps k w).state).state).state; pieces = p })
-    (append_assoc (steps k w).pieces (steps j (steps k w).state).pieces
-    (step (steps j (steps k w).state).state).pieces)
-
-pub steps_compose : StepsCompose
-steps_compose = λ w k j. steps_more w k j
-
-pub executed_more : (w : World) (k j : ℕ)
-    → executed (k + j) w ≡ executed k w + executed j (steps k w).state
-unfolding executed
-executed_more w k zero = ap (λ n. executed n w) (add-zero k) ∙ sym (add-zero (executed k w))
-executed_more w k (suc j) =
-    let more = ap (λ n. executed n w) (add-suc k j) ∙ executed_suc (k + j) w in
-    let same = ap (λ (d : Transition World). one_if (executes d.state)) (steps_more w k j) in
-    omega (arith, more, same, executed_more w k j)
 
 over_steps : (w : World) (k : ℕ) (stop : Stop) → w.iop.over ≡ Some stop → steps k w ≡ silent w
 over_steps w zero stop e = steps_zero w
 over_steps w (suc k) stop e =
     steps_suc k w ∙ ap (λ d. and_then d step) (over_steps w k stop e)
-    ∙ ap (λ (d : Transition World). record { state = d.state; pieces = [] ++ d.pieces })
-    (step_over w stop e)
+    ∙ ap (λ (d : Transition World). record {
+      state = d.state;
+      pieces = [] ++ d.pieces;
+      bound = [] ++ d.bound;
+    }) (step_over w stop e)
 
 over_ends : (w : World) (n : ℕ) (stop : Stop) → w.iop.over ≡ Some stop → Ends w n 0 stop
 over_ends w n stop e = record {
@@ -155,30 +130,6 @@ pub runs_compose : RunsCompose
 runs_compose = λ w n m k j a b p q.
     elim (at_end _ _ _ a p.now)
     [ inl o ↦ compose_over w n m k j a b p q o | inr z ↦ compose_budget w n m k j a b p q z ]
-
--- the first step comes first
-pub steps_front : (w : World) (j : ℕ)
-    → steps (suc j) w ≡ record {
-      state = (steps j (step w).state).state;
-      pieces =
-          (step w).pieces ++ (steps j (step w).state).pieces;
-    }
-unfolding steps
-steps_front w zero = ap (λ p. record { state = (step w).state; pieces = p })
-    (sym (append-nil (step w).pieces))
-steps_front w (suc j) =
-    ap (λ d. and_then d step) (steps_front w j)
-    ∙ ap (λ p. record { state = (step (steps j (step w).state).state).state; pieces = p })
-    (append_assoc (step w).pieces (steps j (step w).state).pieces
-    (step (steps j (step w).state).state).pieces)
-
-executed_front : (w : World) (j : ℕ)
-    → executed (suc j) w ≡ one_if (executes w) + executed j (step w).state
-unfolding executed steps
-executed_front w zero = omega arith
-executed_front w (suc j) =
-    let same = ap (λ (d : Transition World). one_if (executes d.state)) (steps_front w j) in
-    omega (arith, executed_suc (suc j) w, executed_suc j (step w).state, same, executed_front w j)
 
 goes_later : (w : World) (n j : ℕ)
     → stop_at (steps j (step w).state).state (n - one_if (executes w) - executed j (step w).state) ≡

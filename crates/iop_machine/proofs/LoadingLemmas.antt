@@ -1,153 +1,174 @@
--- How a module comes into memory.
-use Rattle.std.proofs.Common.{◌≡◌, ℕ, Option, Some, None, Result, Ok, Err, List, [], ◌∷◌, length, get_or, replicate, suc, refl, ap, sym, ◌∙◌}
-use Rattle.std.proofs.lemmas.List.{length-replicate}
-use Rattle.iop_base.specs.Output.{Output, Gives}
-use Rattle.iop_base.specs.Keeping.{kept_of}
-use Rattle.iop_base.specs.declared.kept.Kept.{Kept}
-use Rattle.iop_base.specs.declared.line.Line.TheVariants.{Returned}
-use Rattle.iop_base.specs.Places.{range_at}
-use Rattle.iop_base.specs.declared.code.Code.{Code}
+-- How the machine begins, and how its modules come into memory.
+use Rattle.std.proofs.Common.{◌≡◌, ℕ, suc, Some, None, Result, Ok, Err, List, [], ◌∷◌, length, drop, get_or, replicate, refl, ap, sym, ◌∙◌}
+use Rattle.std.specs.List.{slice_get}
 use Rattle.iop_exec.specs.declared.cpu.Cpu.{Cpu}
-use Rattle.iop_linker.specs.Linking.{answer_of, after_linking, links}
-use Rattle.iop_linker.specs.declared.link_fault.LinkFault.{LinkFault}
 use Rattle.iop_registry.specs.declared.registry.Entry.{Entry}
 use Rattle.iop_registry.specs.KernelLibraries.{kernel_libraries}
-use Rattle.iop_stubs.specs.Stubs.{Memory, after_store, remaining_stubs}
-use Rattle.iop_base.specs.BlockSizes.{block_len}
-use Rattle.iop_stubs.specs.declared.live_stub.Stub.{Stub}
-use Rattle.iop_modload.specs.declared.limits.TheConstants.{FIRST_BASE}
-use Rattle.iop_machine.specs.declared.loader.Loaded.{Loaded}
+use Rattle.iop_stubs.specs.Stubs.{Memory}
+use Rattle.iop_sysmem.specs.BlockMap.{BlockMap}
+use Rattle.iop_sysmem.specs.declared.blocks.TheConstants.{KERNEL}
+use Rattle.iop_base.specs.Output.{Output, Gives}
+use Rattle.iop_base.specs.declared.code.Code.{Code}
+use Rattle.iop_base.specs.declared.line.Line.TheVariants.{Load, Refused}
+use Rattle.iop_modload.specs.declared.loaded.Loaded.{Loaded}
+use Rattle.iop_machine.specs.declared.loader.Begun.{Begun}
 use Rattle.iop_machine.specs.declared.loader.Loader.TheVariants.{Dormant, Ready}
-use Rattle.iop_machine.specs.Modules.{Module, cpu_at, module_start}
-use Rattle.iop_machine.specs.Services.{keeps, returns, rests}
-use Rattle.iop_machine.specs.Loading.{with_kernel, copies, enters, enters_it, loaded_of, begins, links_text, loads, boots}
-use Rattle.iop_machine.specs.Iop.{Iop, Takes, tells, and_then, with_state}
+use Rattle.iop_machine.specs.Loading.{with_kernel, boots, loading_of, places, passes, begins, enters, enters_or, loads_first}
+use Rattle.iop_machine.specs.Modules.{Module, cpu_at, argument_block, module_start}
+use Rattle.iop_machine.specs.Iop.{Iop, Transition, Takes, Remains, silent, tells, and_then, with_state}
 use Rattle.iop_machine.specs.World.{reset, zeros}
-use Rattle.iop_machine.proofs.Taking.{takes_as, takes_then, takes_with, silent_then}
-
--- no stub is live after a store where none was
-none_after : (memory : Memory) (place : Option ℕ) (bytes : List ℕ) → memory.live ≡ []
-    → (after_store memory place bytes).live ≡ []
-none_after memory None bytes e = e
-none_after memory (Some p) bytes e = ap (remaining_stubs p (length bytes)) e
-
-pub copied_none : (s : Iop) (m : Module) → s.memory.live ≡ [] → (copies s m).state.memory.live ≡ []
-copied_none s m e = none_after s.memory
-    (range_at (length s.memory.ram) FIRST_BASE (length m.image.bytes)) m.image.bytes e
-
--- the text was linked, and the module is ready to begin
-entered_by : (s : Iop) (m : Module) (memory : Memory) (r : Result (List Stub) LinkFault) {now : Iop}
-    {a b : Output}
-    → answer_of r ≡ Ok (tt {0}) → memory ≡ after_linking s.memory r
-    → Takes (enters_it (record s { memory = memory }) m) now a b → Takes (enters s m r) now a b
-entered_by s m memory (Ok stubs) e f h =
-    takes_as (ap (λ x. enters_it (record s { memory = x }) m) f) h
-entered_by s m memory (Err fault) e f h = absurd (cc e)
-
-pub entered_as : {v self : Iop} (m : Module) (memory : Memory) {now : Iop} {a b : Output} → v ≡ self
-    → answer_of (links v.memory.ram v.libraries (length v.memory.live) FIRST_BASE m.image.text) ≡ Ok
-    (tt {0})
-    → memory ≡ after_linking v.memory
-    (links v.memory.ram v.libraries (length v.memory.live) FIRST_BASE m.image.text)
-    → Takes (enters_it (record v { memory = memory }) m) now a b → Takes (links_text self m) now a b
-entered_as {v} m memory same e f h =
-    takes_as (ap (λ s. links_text s m) same) (entered_by v m memory _ e f h)
-
--- it is ready to begin
-pub begins_as : {v self : Iop} (m : Module) (cpu : Cpu) (size : ℕ) → v ≡ self
-    → cpu ≡ module_start FIRST_BASE m.image.entry_offset m.image.gp_offset
-    → size ≡ block_len (length m.image.bytes)
-    → begins self m ≡ record v
-    { loader = Ready (record { number = 1; base = FIRST_BASE; size = size }); cpu = cpu }
-begins_as {v} m cpu size same e f =
-    ap (λ s. begins s m) (sym same)
-    ∙ ap (λ x. record v { loader = Ready (loaded_of m); cpu = x }) (sym e)
-    ∙ ap (λ n. record v {
-      loader = Ready (record { number = 1; base = FIRST_BASE; size = n });
-      cpu =
-          cpu;
-    }) (sym f)
-
--- a module's return was told, and then it was kept or filled
-pub returned_as : (s : Iop) (m : Loaded) (value : ℕ) (kept : Kept) {a b c : Output} {filled : Iop}
-    → kept ≡ kept_of value
-    → Takes (tells s (Returned m.number value kept)) s a b → Takes (keeps s m kept) filled b c
-    → Takes (returns s m value) (rests filled) a c
-unfolding returns
-returned_as s m value kept {a} {b} {c} {filled} e g h =
-    takes_as (ap (λ k. and_then (tells s (Returned m.number value k))
-    (λ v. with_state rests (keeps v m k))) e)
-    (takes_then g (λ v. with_state rests (keeps v m kept)) (takes_with h rests))
-
--- the kernel's area was written, and then the module was loaded
-booted_by : (s : Iop) (m : Result Module Code) (memory : Memory) {now : Iop} {a b c : Output}
-    → memory ≡ (with_kernel s).memory
-    → Gives a b [] → Takes (loads (record s { memory = memory }) m) now b c
-    → Takes (boots s m) now a c
-unfolding boots
-booted_by s m memory is g h =
-    silent_then g (takes_as (ap (λ x. loads (record s { memory = x }) m) is) h)
-
-pub booted_as : {v self : Iop} (m given : Result Module Code) (memory : Memory) {now : Iop}
-    {a b c : Output}
-    → v ≡ self → given ≡ m
-    → memory ≡ (with_kernel v).memory → Gives a b []
-    → Takes (loads (record v { memory = memory }) m) now b c
-    → Takes (boots self given) now a c
-booted_as {v} {self} m given memory same e is g h =
-    takes_as (ap (λ s. boots s m) same ∙ ap (boots self) (sym e)) (booted_by v m memory is g h)
+use Rattle.iop_machine.proofs.Taking.{silent_takes, silent_then, takes_as, takes_then, takes_to, takes_with}
 
 zeros_are : (xs : List ℕ) → ((p : ℕ) → get_or xs p 0 ≡ 0) → xs ≡ replicate (length xs) 0
 zeros_are [] f = refl
 zeros_are (x ∷ xs) f = ap (λ y. y ∷ xs) (f 0) ∙ ap (λ ys. 0 ∷ ys) (zeros_are xs (λ p. f (suc p)))
 
-pub length-zeros : (size : ℕ) → length (zeros size) ≡ size
+-- the memory as it begins
+zero_memory : (n : ℕ) (memory : Memory) → ((p : ℕ) → get_or memory.ram p 0 ≡ 0)
+    → memory.live ≡ [] → length memory.ram ≡ n → memory ≡ record { ram = zeros n; live = [] }
 unfolding zeros
-length-zeros size = length-replicate size 0
+zero_memory n memory zero none size =
+    let ram = zeros_are memory.ram zero ∙ ap (λ k. replicate k 0) size in
+    ap (λ r. record { ram = r; live = memory.live }) ram
+    ∙ ap (λ l. record { ram = zeros n; live = l }) none
 
 -- the core as it begins
-pub reset_is : (n : ℕ) (memory : Memory) (libraries : List Entry) (cpu : Cpu)
-    → ((p : ℕ) → get_or memory.ram p 0 ≡ 0)
-    → memory.live ≡ [] → length memory.ram ≡ n → libraries ≡ kernel_libraries → cpu ≡ cpu_at 0
+pub reset_is : (n : ℕ) (memory : Memory) (blocks : BlockMap) (libraries : List Entry)
+    (modules : List Module) (cpu : Cpu)
+    → ((p : ℕ) → get_or memory.ram p 0 ≡ 0) → memory.live ≡ [] → length memory.ram ≡ n
+    → blocks ≡ record { size = n; used = KERNEL ∷ [] } → libraries ≡ kernel_libraries
+    → cpu ≡ cpu_at 0
     → record {
       clock = 0;
       memory = memory;
+      blocks = blocks;
       libraries = libraries;
-      loader = Dormant;
-      cpu =
-          cpu;
-      over = None;
-    } ≡ reset n
-unfolding zeros
-reset_is n memory libraries cpu zero none size e f =
-    let ram = zeros_are memory.ram zero ∙ ap (λ k. replicate k 0) size in
-    let all : memory ≡ record { ram = zeros n; live = [] } =
-    ap (λ r. record { ram = r; live = memory.live }) ram
-    ∙ ap (λ l. record { ram = zeros n; live = l }) none in
-    ap (λ x. record {
-      clock = 0;
-      memory = x;
-      libraries = libraries;
-      loader = Dormant;
-      cpu =
-          cpu;
-      over = None;
-    }) all
-    ∙ ap (λ x. record {
-      clock = 0;
-      memory = record { ram = zeros n; live = [] };
-      libraries =
-          x;
+      modules = modules;
       loader = Dormant;
       cpu = cpu;
       over = None;
-    }) e
-    ∙ ap (λ x. record {
-      clock = 0;
-      memory = record { ram = zeros n; live = [] };
-      libraries =
-          kernel_libraries;
-      loader = Dormant;
-      cpu = x;
-      over = None;
-    }) f
+    } ≡ reset n modules
+reset_is n memory blocks libraries modules cpu zero none size map e f =
+    let start = reset n modules in
+    ap (λ (x : Memory). record start
+    { memory = x; blocks = blocks; libraries = libraries; cpu = cpu })
+    (zero_memory n memory zero none size)
+    ∙ ap (λ (x : BlockMap). record start { blocks = x; libraries = libraries; cpu = cpu }) map
+    ∙ ap (λ (x : List Entry). record start { libraries = x; cpu = cpu }) e
+    ∙ ap (λ (x : Cpu). record start { cpu = x }) f
+
+-- a module was told to be loaded, its argument block was written, and it is ready to begin
+pub enters_takes : {self passed : Iop} {a b c : Output} (begun : Begun) (words : ℕ) (cpu : Cpu)
+    (block : List ℕ)
+    → Takes (tells self (Load begun.number begun.loaded.base begun.loaded.len)) self a b
+    → Takes (passes self block) passed b c → cpu ≡ module_start begun.loaded words
+    → Takes (enters self begun words block) (record passed { loader = Ready begun; cpu = cpu }) a c
+enters_takes {self} {passed} begun words cpu block told written start =
+    takes_to (ap (λ x. record passed { loader = Ready begun; cpu = x }) (sym start))
+    (takes_then told (λ v. with_state (λ u. begins u begun words) (passes v block))
+    (takes_with written (λ u. begins u begun words)))
+
+first_is : {X : Type 0} (xs : List X) (x : X) → Some x ≡ slice_get xs 0 → xs ≡ x ∷ drop 1 xs
+first_is [] x e = absurd (cc e)
+first_is (y ∷ ys) x e = ap (λ z. z ∷ ys) (cc e)
+
+none_is : {X : Type 0} (xs : List X) → None ≡ slice_get xs 0 → xs ≡ []
+none_is [] e = refl
+none_is (x ∷ xs) e = absurd (cc e)
+
+-- the first of these modules is loaded
+loads_it : (s : Iop) (m : Module) (modules : List Module) → modules ≡ m ∷ drop 1 modules
+    → loads_first modules s ≡ and_then (places s (drop 1 modules) (loading_of s m))
+    (λ v. enters_or (loads_first (drop 1 modules)) v m (loading_of s m).answer)
+unfolding loads_first
+loads_it s m modules e = ap (λ ms. loads_first ms s) e
+
+nothing_loads : (s : Iop) → s.modules ≡ []
+    → loads_first s.modules s ≡ silent (record s { loader = Dormant })
+unfolding loads_first
+nothing_loads s e =
+    ap (λ ms. loads_first ms s) e ∙ ap (λ (ms : List Module). silent (record s { modules = ms; loader = Dormant })) (sym e)
+
+-- no module is left
+pub none_left : {v self : Iop} (a : Output) → v ≡ self → None ≡ slice_get v.modules 0
+    → Takes (loads_first self.modules self) (record v { loader = Dormant }) a a
+none_left {v} a same none =
+    takes_as (sym (nothing_loads v (none_is v.modules none)) ∙ ap (λ (s : Iop). loads_first s.modules s) same)
+    (silent_takes a refl)
+
+module _ {v self : Iop} (same : v ≡ self) (m : Module) (first : Some m ≡ slice_get v.modules 0) where
+  abbrev placing : Transition Iop
+  placing = places v (drop 1 v.modules) (loading_of v m)
+
+  first_loads : and_then placing
+      (λ s. enters_or (loads_first (drop 1 v.modules)) s m (loading_of v m).answer)
+      ≡ loads_first self.modules self
+  first_loads = sym (loads_it v m v.modules (first_is v.modules m first))
+      ∙ ap (λ (s : Iop). loads_first s.modules s) same
+
+  -- the first module was loaded or refused, and taken out
+  pub record Places (answer : Result Loaded Code) (placed : Iop) (a b : Output) : Type 0 where
+    pub takes : Takes placing placed a b
+    pub answer_is : answer ≡ (loading_of v m).answer
+    pub modules : placed.modules ≡ drop 1 v.modules
+
+  pub places_as : {a b : Output} (answer : Result Loaded Code) (memory : Memory) (blocks : BlockMap)
+      (modules : List Module)
+      → answer ≡ (loading_of v m).answer → memory ≡ (loading_of v m).memory
+      → blocks ≡ (loading_of v m).blocks → Gives a b (loading_of v m).pieces
+      → modules ≡ drop 1 v.modules
+      → Places answer (record v { memory = memory; blocks = blocks; modules = modules }) a b
+  places_as answer memory blocks modules is e f lines rest =
+      let loading = loading_of v m in
+      record {
+        takes = record {
+          state = ap (λ (x : Memory). record v { memory = x; blocks = blocks; modules = modules }) e
+              ∙ ap (λ (x : BlockMap). record v
+              { memory = loading.memory; blocks = x; modules = modules }) f
+              ∙ ap (λ (x : List Module). record v
+              { memory = loading.memory; blocks = loading.blocks; modules = x }) rest;
+          gives = lines;
+        };
+        answer_is = is;
+        modules = rest;
+      }
+
+  module _ {answer : Result Loaded Code} {placed : Iop} {a b : Output}
+      (h : Places answer placed a b) where
+    -- then by its answer
+    then_by : (r : Result Loaded Code) → answer ≡ r → {new : Iop} {d : Output}
+        → Takes (enters_or (loads_first (drop 1 v.modules)) placed m r) new b d
+        → Takes (loads_first self.modules self) new a d
+    then_by r is {new} {d} t =
+        takes_as first_loads
+        (takes_then h.takes (λ s. enters_or (loads_first (drop 1 v.modules)) s m (loading_of v m).answer)
+        (takes_as (ap (enters_or (loads_first (drop 1 v.modules)) placed m) (sym is ∙ h.answer_is)) t))
+
+    -- it is ready to begin with what it is handed
+    pub loaded_takes : {new : Iop} {c : Output} (loaded : Loaded) (words : ℕ) (block : List ℕ)
+        → answer ≡ Ok loaded → words ≡ length m.words → block ≡ argument_block m.words
+        → Takes (enters placed (record { number = m.number; loaded = loaded }) words block) new b c
+        → Takes (loads_first self.modules self) new a c
+    loaded_takes loaded words block is few handed t =
+        let begun : Begun = record { number = m.number; loaded = loaded } in
+        then_by (Ok loaded) is
+        (takes_as (ap (λ n. enters placed begun n block) few
+        ∙ ap (enters placed begun (length m.words)) handed) t)
+
+    -- it was told to be refused, and the next ones remain
+    pub refused_remains : {c : Output} (code : Code) → answer ≡ Err code
+        → Takes (tells placed (Refused m.number code)) placed b c
+        → Remains (loads_first self.modules self) (loads_first placed.modules placed) a c
+    refused_remains code is told = λ later last t.
+        then_by (Err code) is (takes_then told (loads_first (drop 1 v.modules))
+        (takes_as (ap (λ ms. loads_first ms placed) h.modules) t))
+
+-- the kernel's area was written, and then the first module that loads is ready to begin
+pub boots_takes : {v self : Iop} {a b c : Output} {now : Iop} (memory : Memory) → v ≡ self
+    → memory ≡ (with_kernel v).memory → Gives a b []
+    → Takes (loads_first v.modules (record v { memory = memory })) now b c
+    → Takes (boots self) now a c
+unfolding boots
+boots_takes {v} memory same is lines h =
+    takes_as (ap boots same) (silent_then lines
+    (takes_as (ap (λ x. loads_first v.modules (record v { memory = x })) is) h))

@@ -9,7 +9,7 @@ use Rattle.iop_exec.specs.Row.{Row, Goes, Faults, Storing, row}
 use Rattle.iop_exec.specs.declared.cpu.Cpu.{Cpu}
 use Rattle.iop_stubs.specs.Binding.{IsSound}
 use Rattle.iop_stubs.specs.declared.live_stub.Stub.{Stub}
-use Rattle.iop_machine.specs.declared.loader.Loaded.{Loaded}
+use Rattle.iop_machine.specs.declared.loader.Begun.{Begun}
 use Rattle.iop_machine.specs.Iop.{Iop, Transition, with_state}
 use Rattle.iop_machine.specs.Laws.{StubsAreFollowed, behind_stub, stub_target}
 use Rattle.iop_machine.specs.Running.{Runs}
@@ -20,13 +20,13 @@ use Rattle.iop_machine.proofs.Stepping.{next_executes}
 use Rattle.iop_machine.proofs.StubLemmas.{reaches}
 
 -- an instruction that goes on leaves its processor
-cpu_of : (s : Iop) (m : Loaded) (after : Cpu) (storing : Option Storing)
+cpu_of : (s : Iop) (m : Begun) (after : Cpu) (storing : Option Storing)
     → (performs s m (Goes after storing)).state.cpu ≡ after
 cpu_of s m after None = refl
 cpu_of s m after (Some storing) = refl
 
 -- the step of a module that runs
-executes_as : (s : Iop) (m : Loaded) (r : Row) → Runs s m → row s.memory.ram s.cpu ≡ r
+executes_as : (s : Iop) (m : Begun) (r : Row) → Runs s m → row s.memory.ram s.cpu ≡ r
     → step (booted s) ≡ with_state booted (performs s m r)
 executes_as s m r runs e =
     (next_executes s 1 m runs (omega arith)).step_is
@@ -38,7 +38,7 @@ two_steps w =
     ∙ ap (λ (t : Transition World). (step t.state).state) (steps_suc 0 w)
     ∙ ap (λ (t : Transition World). (step (step t.state).state).state) (steps_zero w)
 
-module _ (s : Iop) (m : Loaded) (stub : Stub) (runs : Runs s m) (sound : IsSound s.memory)
+module _ (s : Iop) (m : Begun) (stub : Stub) (runs : Runs s m) (sound : IsSound s.memory)
     (has : Contains s.memory.live stub) (place : phys (length s.memory.ram) s.cpu.pc ≡ Some stub.at)
     (out : s.cpu.in_slot ≡ false) where
   abbrev behind : Iop

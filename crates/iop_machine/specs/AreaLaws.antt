@@ -1,20 +1,20 @@
 -- What the kernel's area says to those who read it: the linker its export tables (ps2sdk's irx.h),
 -- the processor its instructions (MIPS I). Places, codes and the number of functions are this
 -- project's own profile.
-use Rattle.std.specs.Prelude.{◌≡◌, ℕ, ◌+◌, ◌*◌, ◌<◌, ◌≤◌, Some, Result, List, length, IfOk}
+use Rattle.std.specs.Prelude.{◌≡◌, ℕ, ◌+◌, ◌*◌, ◌<◌, Some, List, length, All}
 use Rattle.std.specs.List.{slice_get}
 use Rattle.iop_base.specs.Numbers.{number_at, with_bytes}
 use Rattle.iop_base.specs.Places.{IsRamSize}
-use Rattle.iop_base.specs.declared.code.Code.{Code}
 use Rattle.iop_base.specs.declared.words.TheConstants.{JUMP_BACK}
 use Rattle.iop_isa.specs.Instructions.{inst_of}
 use Rattle.iop_isa.specs.declared.instruction.Inst.TheVariants.{Jr, Syscall}
 use Rattle.iop_registry.specs.KernelLibraries.{kernel_libraries}
 use Rattle.iop_registry.specs.declared.registry.Entry.{Entry}
 use Rattle.irx_tables.specs.Exports.{header_of, functions}
+use Rattle.iop_machine.specs.declared.arguments.TheConstants.{MODULE_RETURN}
+use Rattle.iop_machine.specs.declared.kernel_area.TheConstants.{SERVICES}
 use Rattle.iop_machine.specs.KernelArea.{syscall_word, service_at, kernel_area}
-use Rattle.iop_machine.specs.Laws.{CanBeLoaded}
-use Rattle.iop_machine.specs.Modules.{Module}
+use Rattle.iop_machine.specs.Modules.{Module, HasRoom}
 use Rattle.iop_machine.specs.Stepping.{step}
 use Rattle.iop_machine.specs.World.{beginning}
 
@@ -30,14 +30,14 @@ pub record HasService (memory : List ℕ) (at code : ℕ) : Type 0 where
   pub jump : inst_of (number_at memory (at + 4) 4) ≡ Some (Jr 31)
   pub slot : number_at memory (at + 8) 4 ≡ 0
 
--- the export table of a kernel library: its name, its version, whose minor part is 1, and 64
+-- the export table of a kernel library: its name, its version, whose minor part is 1, and its
 -- functions, of which each calls the kernel with a code of its own
 pub record HasLibrary (memory : List ℕ) (library : ℕ) (entry : Entry) : Type 0 where
   pub header : header_of memory entry.table ≡ Some (entry.name, entry.major * 256 + 1)
-  pub count : length (functions memory entry.table) ≡ 64
-  pub function : (number : ℕ) → number < 64
+  pub count : length (functions memory entry.table) ≡ SERVICES
+  pub function : (number : ℕ) → number < SERVICES
       → slice_get (functions memory entry.table) number ≡ Some (service_at library number)
-  pub service : (number : ℕ) → number < 64
+  pub service : (number : ℕ) → number < SERVICES
       → HasService memory (service_at library number) (library * 256 + number)
 
 -- the export tables of all kernel libraries stand where the registry has them, and the returns of a
@@ -47,15 +47,14 @@ pub record HasKernel (memory : List ℕ) : Type 0 where
       → HasLibrary memory number entry
   pub thread_return : HasCall memory 0x3000 0xF00
   pub handler_return : HasCall memory 0x3010 0xF01
-  pub module_return : HasCall memory 0x3020 0xF02
+  pub module_return : HasCall memory MODULE_RETURN 0xF02
 
 -- the area is read so whatever else stands in memory
 abbrev pub KernelAreaIsRead : Type 0
 KernelAreaIsRead = (ram : List ℕ) → HasKernel (with_bytes ram 0 kernel_area)
 
--- and loading a module, whose name has at most 255 bytes, leaves it so
-abbrev pub LoadingKeepsKernel : Type 0
-LoadingKeepsKernel =
-    (size : ℕ) (m : Result Module Code) → IsRamSize size → IfOk m (CanBeLoaded size)
-    → IfOk m (λ m. length m.name ≤ 255)
-    → HasKernel (step (beginning size m)).state.iop.memory.ram
+-- and booting, which loads modules whose words have room in the argument block, leaves it so
+abbrev pub BootingKeepsKernel : Type 0
+BootingKeepsKernel =
+    (size : ℕ) (modules : List Module) → IsRamSize size → All HasRoom modules
+    → HasKernel (step (beginning size modules)).state.iop.memory.ram

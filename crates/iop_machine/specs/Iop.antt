@@ -9,40 +9,55 @@ use Rattle.iop_base.specs.declared.line.Line.{Line}
 use Rattle.iop_exec.specs.declared.cpu.Cpu.{Cpu}
 use Rattle.iop_registry.specs.declared.registry.Entry.{Entry}
 use Rattle.iop_stubs.specs.Stubs.{Memory}
+use Rattle.iop_stubs.specs.declared.live_stub.Stub.{Stub}
+use Rattle.iop_sysmem.specs.BlockMap.{BlockMap}
+use Rattle.iop_machine.specs.Modules.{Module}
 use Rattle.iop_machine.specs.declared.loader.Loader.{Loader}
 
 pub record Iop : Type 0 where
   -- the moment, in ticks
   pub clock : ℕ
   pub memory : Memory
+  -- the blocks of memory
+  pub blocks : BlockMap
   -- the registered libraries
   pub libraries : List Entry
+  -- the modules that were not loaded yet, in order
+  pub modules : List Module
   -- the loader's thread, and its registers
   pub loader : Loader
   pub cpu : Cpu
   -- why it is stopped, where it is
   pub over : Option Stop
 
--- what a call or a step makes of a state: the state that it leaves, and the pieces that it gives
+-- what a call or a step makes of a state
 pub record Transition (S : Type 0) : Type 0 where
+  -- the state that it leaves
   pub state : S
+  -- the pieces that it gives
   pub pieces : List Piece
+  -- the stubs that it binds
+  pub bound : List Stub
 
 -- nothing is given
 abbrev pub silent : {S : Type 0} → S → Transition S
-silent s = record { state = s; pieces = [] }
+silent s = record { state = s; pieces = []; bound = [] }
 
 -- a line of this moment
 abbrev pub tells : Iop → Line → Transition Iop
-tells s line = record { state = s; pieces = Traced (line_bytes s.clock line) ∷ [] }
+tells s line = record { state = s; pieces = Traced (line_bytes s.clock line) ∷ []; bound = [] }
 
 -- one thing and then another
 abbrev pub and_then : {S : Type 0} → Transition S → (S → Transition S) → Transition S
-and_then t f = record { state = (f t.state).state; pieces = t.pieces ++ (f t.state).pieces }
+and_then t f = record {
+  state = (f t.state).state;
+  pieces = t.pieces ++ (f t.state).pieces;
+  bound = t.bound ++ (f t.state).bound;
+}
 
--- the same pieces, and a state that is made of the one left
+-- the same, with a state that is made of the one left
 abbrev pub with_state : {S T : Type 0} → (S → T) → Transition S → Transition T
-with_state f t = record { state = f t.state; pieces = t.pieces }
+with_state f t = record { state = f t.state; pieces = t.pieces; bound = t.bound }
 
 -- one moment later
 abbrev pub later : Iop → Iop
@@ -52,3 +67,9 @@ later s = record s { clock = s.clock + 1 }
 pub record Takes {S : Type 0} (t : Transition S) (now : S) (old new : Output) : Type 0 where
   pub state : now ≡ t.state
   pub gives : Gives old new t.pieces
+
+-- a call took the first part of a transition, after which the rest remains: who takes the rest has
+-- taken all of it
+abbrev pub Remains : {S : Type 0} → (whole rest : Transition S) → (old new : Output) → Type 0
+Remains {S} whole rest old new = (later : S) (last : Output) → Takes rest later new last
+    → Takes whole later old last

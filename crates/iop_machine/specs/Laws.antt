@@ -1,26 +1,22 @@
 -- What the laws on runs and on live stubs say.
-use Rattle.std.specs.Prelude.{◌≡◌, ℕ, ◌+◌, ◌/◌, ◌*◌, ◌^◌, ◌≤◌, true, ◌⊎◌, false, if◌then◌else◌, Option, Some, None, Result, Ok, Err, List, [], ◌++◌, length, Contains, IfOk, IfSome}
+use Rattle.std.specs.Prelude.{◌≡◌, ℕ, ◌+◌, ◌/◌, ◌*◌, ◌^◌, ◌≤◌, true, ◌⊎◌, false, if◌then◌else◌, Option, Some, None, List, [], ◌++◌, length, Contains}
 use Rattle.iop_base.specs.Numbers.{wrapped}
 use Rattle.iop_base.specs.Places.{IsRamSize, phys}
-use Rattle.iop_base.specs.declared.code.Code.{Code}
 use Rattle.iop_base.specs.declared.guest_fault.GuestFault.TheVariants.{BranchInSlot}
 use Rattle.iop_base.specs.declared.stop.Stop.{Stop}
 use Rattle.iop_exec.specs.declared.cpu.Cpu.{Cpu}
 use Rattle.iop_exec.specs.Positions.{IsStraight}
 use Rattle.iop_exec.specs.Row.{Row, Goes, Faults, Storing, row}
 use Rattle.iop_stubs.specs.Binding.{IsSound}
-use Rattle.iop_linker.specs.Linking.{linking}
-use Rattle.iop_linker.specs.declared.link_fault.LinkFault.{LinkFault}
-use Rattle.iop_modload.specs.declared.limits.TheConstants.{FIRST_BASE}
 use Rattle.iop_stubs.specs.Stubs.{Memory, stub_line}
 use Rattle.iop_stubs.specs.declared.live_stub.Stub.{Stub}
+use Rattle.iop_modload.specs.Laws.{HasBlocks}
 use Rattle.iop_machine.specs.Running.{Ends, Runs}
 use Rattle.iop_machine.specs.Stepping.{step, steps, run_of}
-use Rattle.iop_machine.specs.World.{World, booted, reset, beginning}
-use Rattle.iop_machine.specs.declared.loader.Loaded.{Loaded}
+use Rattle.iop_machine.specs.World.{World, booted, beginning}
+use Rattle.iop_machine.specs.declared.loader.Begun.{Begun}
 use Rattle.iop_machine.specs.Iop.{Iop, silent}
-use Rattle.iop_machine.specs.Loading.{with_kernel, copies}
-use Rattle.iop_machine.specs.Modules.{Module, Fits}
+use Rattle.iop_machine.specs.Modules.{Module}
 
 -- the steps of a run are those of its first part and then those of the rest
 abbrev pub StepsCompose : Type 0
@@ -29,6 +25,8 @@ StepsCompose =
       state = (steps j (steps k w).state).state;
       pieces =
           (steps k w).pieces ++ (steps j (steps k w).state).pieces;
+      bound =
+          (steps k w).bound ++ (steps j (steps k w).state).bound;
     }
 
 -- a run by n instructions and then one by m is one by n + m
@@ -79,59 +77,42 @@ StubsReachTheirFunctions =
     (memory : Memory) (stub : Stub) (c : Cpu) → IsSound memory → Contains memory.live stub
     → phys (length memory.ram) c.pc ≡ Some stub.at → row memory.ram c ≡ stub_row c stub
 
--- the stubs that a linking binds
-abbrev pub stubs_of : Result (List Stub) LinkFault → List Stub
-stubs_of (Ok stubs) = stubs
-stubs_of (Err fault) = []
+-- what holds of every machine: its memory is sound, its blocks are those of that memory, and before it is
+-- booted no stub is live
+pub record IsMachine (w : World) : Type 0 where
+  pub whole : HasBlocks w.iop.memory w.iop.blocks
+  pub none_live : w.is_new ≡ true → w.iop.memory.live ≡ []
 
--- the stubs that the loading of a module binds
-abbrev pub loading_binds : Iop → Result Module Code → List Stub
-loading_binds s (Err code) = []
-loading_binds s (Ok m) =
-    let v = (copies (with_kernel s) m).state in
-    stubs_of (linking v.memory v.libraries FIRST_BASE m.image.text)
-
--- the module fits into a memory of this size, and its text is no longer than its image
-pub record CanBeLoaded (size : ℕ) (m : Module) : Type 0 where
-  pub fits : Fits size m
-  pub text : m.image.text ≤ length m.image.bytes
-
--- what holds in each state that a machine with these new stubs reaches
+-- what holds in each state that a machine reaches which has bound these stubs on the way
 pub record StaysSound (stubs : List Stub) (s : Iop) : Type 0 where
-  pub memory : IsSound s.memory
-  -- each live stub is one that loading has bound
+  pub whole : HasBlocks s.memory s.blocks
+  -- each live stub is one that a linking has bound
   pub live : (stub : Stub) → Contains s.memory.live stub → Contains stubs stub
   -- outside a delay slot the next instruction is the one behind
   pub straight : IsStraight s.cpu
 
 abbrev pub RunsStaySound : Type 0
 RunsStaySound =
-    (size : ℕ) (m : Result Module Code) (k : ℕ) → IsRamSize size → IfOk m (CanBeLoaded size)
-    → StaysSound (loading_binds (reset size) m) (steps k (beginning size m)).state.iop
+    (size : ℕ) (modules : List Module) (k : ℕ) → IsRamSize size
+    → let run = steps k (beginning size modules) in StaysSound run.bound run.state.iop
 
--- a stub that was live before a step is live after it, or its line is one of the step's pieces
+-- a stub that was live before a step, or that the step binds, is live after it, or its line is one of the
+-- step's pieces
 abbrev pub StubsLeaveWithTheirLine : Type 0
 StubsLeaveWithTheirLine =
-    (w : World) (stub : Stub) → IfSome w.waiting (λ m. w.iop.memory.live ≡ [])
-    → Contains w.iop.memory.live stub
+    (w : World) (stub : Stub) → IsMachine w
+    → Contains w.iop.memory.live stub ⊎ Contains (step w).bound stub
     → Contains (step w).state.iop.memory.live stub
     ⊎ Contains (step w).pieces (stub_line w.iop.clock stub)
 
--- once no module waits, no stub becomes live, and memory stays sound
+-- a stub that is live after some steps was live before them, or was bound in them; and a machine stays one
 pub record KeepsStubs (w : World) (k : ℕ) : Type 0 where
   pub live : (stub : Stub) → Contains (steps k w).state.iop.memory.live stub
-      → Contains w.iop.memory.live stub
-  pub sound : IsSound w.iop.memory → IsSound (steps k w).state.iop.memory
+      → Contains w.iop.memory.live stub ⊎ Contains (steps k w).bound stub
+  pub machine : IsMachine (steps k w).state
 
 abbrev pub RunsKeepStubs : Type 0
-RunsKeepStubs = (w : World) (k : ℕ) → w.waiting ≡ None → KeepsStubs w k
-
--- each stub that loading binds is live after the first step, or its line is one of that step's pieces
-abbrev pub LoadingLeavesItsStubs : Type 0
-LoadingLeavesItsStubs =
-    (size : ℕ) (m : Result Module Code) (stub : Stub) → Contains (loading_binds (reset size) m) stub
-    → Contains (step (beginning size m)).state.iop.memory.live stub
-    ⊎ Contains (step (beginning size m)).pieces (stub_line 0 stub)
+RunsKeepStubs = (w : World) (k : ℕ) → IsMachine w → KeepsStubs w k
 
 -- after a live stub, which is not executed in a delay slot, the instruction behind it is executed
 abbrev pub behind_stub : Iop → Stub → Iop
@@ -149,6 +130,6 @@ pub record IsFollowed (s : Iop) (stub : Stub) : Type 0 where
 
 abbrev pub StubsAreFollowed : Type 0
 StubsAreFollowed =
-    (s : Iop) (m : Loaded) (stub : Stub) → Runs s m → IsSound s.memory
+    (s : Iop) (m : Begun) (stub : Stub) → Runs s m → IsSound s.memory
     → Contains s.memory.live stub → phys (length s.memory.ram) s.cpu.pc ≡ Some stub.at
     → s.cpu.in_slot ≡ false → IsFollowed s stub

@@ -9,4 +9,6 @@ pub mod Stepping
 pub mod Running
 pub mod Advancing
 pub mod Laws
+pub mod ArgumentLaws
 pub mod AreaLaws
+pub mod Waiting

@@ -1,21 +1,18 @@
--- How a module is loaded. That the first module stands behind the kernel's area, and how it is begun, is this
--- project's own profile; the codes are those of ps2sdk's kerr.h.
-use Rattle.std.specs.Prelude.{Result, Ok, Err, List, [], ◌∷◌, length}
-use Rattle.iop_base.specs.BlockSizes.{block_len}
+-- How the machine loads its modules, one after the other. That the first module that loads is begun, and how,
+-- is this project's own profile.
+use Rattle.std.specs.Prelude.{ℕ, Result, Ok, Err, List, [], ◌∷◌, length}
 use Rattle.iop_base.specs.Numbers.{with_bytes}
 use Rattle.iop_base.specs.declared.code.Code.{Code}
 use Rattle.iop_base.specs.declared.line.Line.TheVariants.{Load, Refused}
-use Rattle.iop_linker.specs.Linking.{links, linked_memory, code_of}
-use Rattle.iop_linker.specs.declared.link_fault.LinkFault.{LinkFault}
-use Rattle.iop_stubs.specs.declared.live_stub.Stub.{Stub}
-use Rattle.iop_modload.specs.declared.limits.TheConstants.{FIRST_BASE}
+use Rattle.iop_modload.specs.Loading.{Loads, loads}
+use Rattle.iop_modload.specs.declared.loaded.Loaded.{Loaded}
 use Rattle.iop_machine.specs.declared.arguments.TheConstants.{ARGUMENTS, ARGUMENTS_LEN}
-use Rattle.iop_machine.specs.declared.loader.Loaded.{Loaded}
-use Rattle.iop_machine.specs.declared.loader.Loader.TheVariants.{Ready}
+use Rattle.iop_machine.specs.declared.loader.Begun.{Begun}
+use Rattle.iop_machine.specs.declared.loader.Loader.TheVariants.{Dormant, Ready}
 use Rattle.iop_machine.specs.KernelArea.{kernel_area}
 use Rattle.iop_machine.specs.Modules.{Module, argument_block, module_start}
 use Rattle.iop_machine.specs.Storing.{stores_bytes, fills}
-use Rattle.iop_machine.specs.Iop.{Iop, Transition, tells, and_then, with_state}
+use Rattle.iop_machine.specs.Iop.{Iop, Transition, silent, tells, and_then, with_state}
 
 -- the kernel's area is written
 abbrev pub with_kernel : Iop → Iop
@@ -24,51 +21,52 @@ with_kernel s = record s {
       record s.memory { ram = with_bytes s.memory.ram 0 kernel_area };
 }
 
--- a module's image is copied to where it is loaded
-abbrev pub copies : Iop → Module → Transition Iop
-copies s m = stores_bytes s FIRST_BASE m.image.bytes
+-- what the loading of a module comes to now
+abbrev pub loading_of : Iop → Module → Loads
+loading_of s m = loads s.clock s.memory s.blocks s.libraries m.file
 
-abbrev pub loaded_of : Module → Loaded
-loaded_of m = record { number = 1; base = FIRST_BASE; size = block_len (length m.image.bytes) }
-
--- the argument block is written: zeros, and then the words, which are the module's own alone
-abbrev pub passes_arguments : Iop → Module → Transition Iop
-passes_arguments s m =
-    and_then (fills s ARGUMENTS ARGUMENTS_LEN)
-    (λ v. stores_bytes v ARGUMENTS (argument_block (m.name ∷ [])))
-
--- the loader's thread is ready to begin the module
-abbrev pub begins : Iop → Module → Iop
-begins s m = record s {
-  loader = Ready (loaded_of m);
-  cpu =
-      module_start FIRST_BASE m.image.entry_offset m.image.gp_offset;
+-- a module is loaded or refused; these are left
+abbrev pub places : Iop → List Module → Loads → Transition Iop
+places s rest loading = record {
+  state =
+      record s { memory = loading.memory; blocks = loading.blocks; modules = rest };
+  pieces = loading.pieces;
+  bound = loading.bound;
 }
 
--- a module that was linked is told, and is ready to begin
-abbrev pub enters_it : Iop → Module → Transition Iop
-enters_it s m =
-    and_then (tells s (Load 1 FIRST_BASE (length m.image.bytes)))
-    (λ v. with_state (λ u. begins u m) (passes_arguments v m))
+-- the argument block is written: zeros, and then these bytes
+abbrev pub passes : Iop → List ℕ → Transition Iop
+passes s block =
+    and_then (fills s ARGUMENTS ARGUMENTS_LEN) (λ v. stores_bytes v ARGUMENTS block)
 
--- a module is refused with a code
-abbrev pub refuses : Iop → Code → Transition Iop
-refuses s code = tells s (Refused 1 code)
+-- the loader's thread is ready to begin a module that is handed so many words
+abbrev pub begins : Iop → Begun → (words : ℕ) → Iop
+begins s begun words = record s {
+  loader = Ready begun;
+  cpu = module_start begun.loaded words;
+}
 
--- it was linked, or is refused
-abbrev pub enters : Iop → Module → Result (List Stub) LinkFault → Transition Iop
-enters s m (Err fault) = refuses s (code_of fault)
-enters s m (Ok stubs) = enters_it (record s { memory = linked_memory s.memory stubs }) m
+-- a module that was loaded is told, handed its argument block, and ready to begin
+abbrev pub enters : Iop → Begun → (words : ℕ) → (block : List ℕ) → Transition Iop
+enters s begun words block =
+    and_then (tells s (Load begun.number begun.loaded.base begun.loaded.len))
+    (λ v. with_state (λ u. begins u begun words) (passes v block))
 
--- its text is linked
-abbrev pub links_text : Iop → Module → Transition Iop
-links_text s m = enters s m
-    (links s.memory.ram s.libraries (length s.memory.live) FIRST_BASE m.image.text)
+-- by what its loading came to: it is ready to begin, or told to be refused, and then the next one follows
+abbrev pub enters_or : (next : Iop → Transition Iop) → Iop → Module → Result Loaded Code
+    → Transition Iop
+enters_or next s m (Ok loaded) =
+    enters s (record { number = m.number; loaded = loaded }) (length m.words)
+    (argument_block m.words)
+enters_or next s m (Err code) = and_then (tells s (Refused m.number code)) next
 
-abbrev pub loads : Iop → Result Module Code → Transition Iop
-loads s (Ok m) = and_then (copies s m) (λ v. links_text v m)
-loads s (Err code) = refuses s code
+-- the first of these modules that loads is ready to begin; where none does, the loader's thread is dormant
+unfoldable pub loads_first : List Module → Iop → Transition Iop
+loads_first [] s = silent (record s { modules = []; loader = Dormant })
+loads_first (m ∷ rest) s =
+    let loading = loading_of s m in
+    and_then (places s rest loading) (λ v. enters_or (loads_first rest) v m loading.answer)
 
--- the kernel's area is written, and the module is loaded or refused
-unfoldable pub boots : Iop → Result Module Code → Transition Iop
-boots s m = loads (with_kernel s) m
+-- the kernel's area is written, and the first module that loads is ready to begin
+unfoldable pub boots : Iop → Transition Iop
+boots s = loads_first s.modules (with_kernel s)

@@ -1,36 +1,38 @@
--- A module that can be loaded, and what the kernel hands it.
-use Rattle.std.specs.Prelude.{ℕ, ◌+◌, ◌*◌, false, ◌≤◌, ◌<ℤ◌, pos, Result, Ok, Err, List, [], ◌∷◌, ◌++◌, length, replicate}
+-- The modules of a command, and what the kernel hands each of them. How many there can be, and how much
+-- they are handed, is this project's own profile.
+use Rattle.std.specs.Prelude.{ℕ, suc, ◌+◌, ◌*◌, ◌≤◌, false, List, [], ◌∷◌, ◌++◌, length, replicate}
 use Rattle.iop_base.specs.Numbers.{wrapped, bytes_of}
-use Rattle.iop_base.specs.declared.code.Code.{Code}
 use Rattle.iop_exec.specs.declared.cpu.Cpu.{Cpu}
 use Rattle.iop_exec.specs.Row.{with_reg}
-use Rattle.iop_modload.specs.Images.{Image, image_of}
-use Rattle.iop_modload.specs.declared.limits.TheConstants.{FIRST_BASE}
-use Rattle.iop_machine.specs.declared.arguments.TheConstants.{ARGUMENTS, LOADER_STACK, MODULE_RETURN}
-use Rattle.iop_machine.specs.declared.module.Module as code
+use Rattle.iop_modload.specs.declared.limits.TheConstants.{LONGEST_FILE}
+use Rattle.iop_modload.specs.declared.loaded.Loaded.{Loaded}
+use Rattle.iop_script.specs.Scripts.{Args, words_for}
+use Rattle.iop_machine.specs.declared.arguments.TheConstants.{ARGUMENTS, LOADER_STACK, MODULE_RETURN, MOST_WORDS, MOST_WORD_BYTES}
 
-pub record Module : Type 0 where
+-- a module as the command names it
+pub record NamedFile : Type 0 where
   -- its word of the command line
   pub name : List ℕ
-  pub image : Image
+  -- the bytes of its file
+  pub file : List ℕ
 
-abbrev pub module_of : code.Module → Module
-module_of m = record { name = m.name.now; image = image_of m.image }
+-- a module that was not loaded yet
+pub record Module : Type 0 where
+  -- its number, from 1 on
+  pub number : ℕ
+  -- the words that it is handed: its own word of the command line, and then those of the script
+  pub words : List (List ℕ)
+  -- the bytes of its file
+  pub file : List ℕ
 
--- a module that can be loaded, or the code with which it is refused
-abbrev pub given_of : Result code.Module Code → Result Module Code
-given_of (Ok m) = Ok (module_of m)
-given_of (Err code) = Err code
+-- the modules of these files, numbered from a number on
+abbrev pub modules_from : List Args → ℕ → List NamedFile → List Module
+modules_from args number [] = []
+modules_from args number (first ∷ rest) =
+    record { number = number; words = first.name ∷ words_for args number; file = first.file }
+    ∷ modules_from args (suc number) rest
 
--- the code of a refusal is negative (ps2sdk: kerr.h)
-abbrev pub IsRefusal : Code → Type 0
-IsRefusal code = code.0 <ℤ pos 0
-
--- it fits into a memory of this size, behind the kernel's area
-abbrev pub Fits : ℕ → Module → Type 0
-Fits size m = FIRST_BASE + length m.image.bytes ≤ size
-
--- the address of each word of the command line, the words standing one after the other from an address on
+-- the address of each word, the words standing one after the other from an address on
 abbrev pub addresses : ℕ → List (List ℕ) → List ℕ
 addresses at [] = []
 addresses at (word ∷ words) = bytes_of 4 at ++ addresses (at + length word + 1) words
@@ -45,6 +47,12 @@ unfoldable pub argument_block : List (List ℕ) → List ℕ
 argument_block words =
     addresses (ARGUMENTS + 4 * (length words + 1)) words ++ bytes_of 4 0 ++ strings words
 
+-- a module of a machine: its file is not too long, and its words have room in the argument block
+pub record HasRoom (m : Module) : Type 0 where
+  pub file : length m.file ≤ LONGEST_FILE
+  pub words : length m.words ≤ MOST_WORDS
+  pub strings : length (strings m.words) ≤ MOST_WORD_BYTES
+
 -- all registers zero, at an address
 abbrev pub cpu_at : ℕ → Cpu
 cpu_at pc = record {
@@ -57,11 +65,11 @@ cpu_at pc = record {
   in_slot = false;
 }
 
--- the loader's thread as a module begins: `$a0`, how many arguments there are, the module's own word alone;
--- `$a1`, where they stand; `$gp`; the loader's stack in `$sp`; and the module's return in `$ra`. The
--- registers are those of the MIPS calling convention O32.
-unfoldable pub module_start : (base entry gp : ℕ) → Cpu
-module_start base entry gp =
+-- the loader's thread as a module begins that is handed so many words: `$a0`, how many; `$a1`, where they
+-- stand; `$gp`; the loader's stack in `$sp`; and the module's return in `$ra`. The registers are those of the
+-- MIPS calling convention O32.
+unfoldable pub module_start : Loaded → (words : ℕ) → Cpu
+module_start m words =
     with_reg (with_reg (with_reg
-    (with_reg (with_reg (cpu_at (wrapped (base + entry))) 4 1) 5 ARGUMENTS) 28
-    (wrapped (base + gp))) 29 LOADER_STACK) 31 MODULE_RETURN
+    (with_reg (with_reg (cpu_at (wrapped (m.base + m.entry))) 4 words) 5 ARGUMENTS) 28
+    (wrapped (m.base + m.gp))) 29 LOADER_STACK) 31 MODULE_RETURN

@@ -1,22 +1,16 @@
--- What holds of every machine, and what the runs of one give: this project's profile.
-use Rattle.std.specs.Prelude.{◌≡◌, ℕ, suc, ◌-◌, ◌<◌, Some, None, IfSome, IfOk, List, [], ◌∷◌, ◌++◌, length}
+-- What the runs of a machine give: this project's profile.
+use Rattle.std.specs.Prelude.{◌≡◌, ℕ, suc, ◌-◌, ◌<◌, Some, None, List, [], ◌∷◌, ◌++◌}
 use Rattle.iop_base.specs.Piece.{Piece, IsPartOf}
 use Rattle.iop_base.specs.Output.{Output, Adds, HasNoFault, FailsAt}
 use Rattle.iop_base.specs.declared.stop.Stop.{Stop}
-use Rattle.iop_machine.specs.declared.loader.Loaded.{Loaded}
+use Rattle.iop_machine.specs.declared.loader.Begun.{Begun}
 use Rattle.iop_machine.specs.declared.loader.Loader.TheVariants.{Running}
-use Rattle.iop_machine.specs.Modules.{Fits}
 use Rattle.iop_machine.specs.Iop.{Iop}
 use Rattle.iop_machine.specs.Stepping.{step, steps, executed, stop_at}
 use Rattle.iop_machine.specs.World.{World}
 
--- what holds of every machine: a module that waits fits into memory, and before it is loaded no stub is live
-pub record IsSound (w : World) : Type 0 where
-  pub waiting : IfSome w.waiting (λ m. IfOk m (Fits (length w.iop.memory.ram)))
-  pub none_live : IfSome w.waiting (λ m. w.iop.memory.live ≡ [])
-
 -- the module runs, and nothing else is to be done first
-pub record Runs (s : Iop) (m : Loaded) : Type 0 where
+pub record Runs (s : Iop) (m : Begun) : Type 0 where
   pub over : s.over ≡ None
   pub loader : s.loader ≡ Running m
 

@@ -18,6 +18,7 @@ abbrev pub stores_at : Iop → Option ℕ → List ℕ → Transition Iop
 stores_at s place bytes = record {
   state = record s { memory = after_store s.memory place bytes };
   pieces = store_lines s.clock s.memory place (length bytes);
+  bound = [];
 }
 
 -- bytes are stored by the kernel at an address; nothing happens where they do not lie in RAM

@@ -1,34 +1,36 @@
 -- The state of the whole machine: this project's own profile.
-use Rattle.std.specs.Prelude.{ℕ, Option, Some, None, Result, List, [], replicate}
-use Rattle.iop_base.specs.declared.code.Code.{Code}
+use Rattle.std.specs.Prelude.{ℕ, Bool, true, false, None, List, [], ◌∷◌, replicate}
 use Rattle.iop_registry.specs.KernelLibraries.{kernel_libraries}
+use Rattle.iop_sysmem.specs.declared.blocks.TheConstants.{KERNEL}
 use Rattle.iop_machine.specs.declared.loader.Loader.TheVariants.{Dormant}
 use Rattle.iop_machine.specs.Modules.{Module, cpu_at}
 use Rattle.iop_machine.specs.Iop.{Iop}
 
 pub record World : Type 0 where
-  -- the module that was not loaded yet, or the code with which it will be refused
-  pub waiting : Option (Result Module Code)
+  -- whether it is still to be booted
+  pub is_new : Bool
   pub iop : Iop
 
--- no module waits any more
+-- it was booted
 abbrev pub booted : Iop → World
-booted s = record { waiting = None; iop = s }
+booted s = record { is_new = false; iop = s }
 
 unfoldable pub zeros : ℕ → List ℕ
 zeros size = replicate size 0
 
--- the core as it begins, with a memory of zeros
-abbrev pub reset : ℕ → Iop
-reset size = record {
+-- the core as it begins, with a memory of zeros in which the kernel's block alone is used
+abbrev pub reset : ℕ → List Module → Iop
+reset size modules = record {
   clock = 0;
   memory = record { ram = zeros size; live = [] };
+  blocks = record { size = size; used = KERNEL ∷ [] };
   libraries = kernel_libraries;
+  modules = modules;
   loader = Dormant;
   cpu = cpu_at 0;
   over = None;
 }
 
 -- the machine before its first step
-abbrev pub beginning : ℕ → Result Module Code → World
-beginning size m = record { waiting = Some m; iop = reset size }
+abbrev pub beginning : ℕ → List Module → World
+beginning size modules = record { is_new = true; iop = reset size modules }

@@ -1,6 +1,6 @@
 //! The execution of instructions.
 
-ghost use Rattle.std.specs.Prelude.{◌≡◌, ℕ, ◌+◌, ◌^◌, ◌<◌, false, None};
+ghost use Rattle.std.specs.Prelude.{◌≡◌, ℕ, ◌+◌, ◌^◌, ◌<◌, false, None, length};
 ghost use Rattle.iop_trace.specs.Outs.{has_failed, output_of};
 ghost use Rattle.iop_machine.specs.Advancing.{Advances, Progresses};
 ghost use Rattle.iop_machine.specs.Running.{Runs};
@@ -8,7 +8,7 @@ ghost use Rattle.iop_machine.specs.World.{booted};
 
 use crate::guest_bus::perform;
 use crate::iop::Iop;
-use crate::loader::{Loaded, Loader};
+use crate::loader::{Begun, Loader};
 use crate::progress::Progress;
 use iop_base::{Line, Lines, Stop};
 use iop_exec::{Cpu, Event, Position};
@@ -30,15 +30,11 @@ impl Iop {
     /// that calls a service or faults, at one in which a write failed, and where none is left. Whether anything else is
     /// due is not asked in between: a plain instruction changes processor, memory and clock alone. It is the one place
     /// that executes instructions. The processor and the clock are local meanwhile.
-    fn burst<C: Sink, T: Sink>(
-        &mut self,
-        loaded: Loaded,
-        budget: u64,
-        out: &mut Out<'_, C, T>,
-    ) -> u64
-        requires runs { Runs self.old loaded }
+    fn burst<C: Sink, T: Sink>(&mut self, begun: Begun, budget: u64, out: &mut Out<'_, C, T>) -> u64
+        requires runs { Runs self.old begun }
         requires some { 0 < budget }
         requires time { self.old.clock + budget < 2 ^ 64 }
+        requires same_size { self.old.blocks.size ≡ length self.old.memory.ram }
         requires well { has_failed out.old ≡ false }
         ensures { (k : ℕ) × Advances (booted self.old) budget k result (booted self.new)
             (output_of C.told T.told out.old)
@@ -65,14 +61,14 @@ impl Iop {
                 }
                 Event::Service(code) => {
                     self.settle(cpu, clock);
-                    self.call(loaded, code, before, out);
+                    self.call(begun, code, before, out);
                     return left;
                 }
             }
         }
     }
 
-    /// Goes on where no module waits: a module that runs gets a burst, one that is ready begins, and where there is
+    /// Goes on once it was booted: a module that runs gets a burst, one that is ready begins, and where there is
     /// none the machine is quiet. It stops where a module runs and none of `budget` is left.
     pub(crate) fn advance<C: Sink, T: Sink>(
         &mut self,
@@ -81,6 +77,7 @@ impl Iop {
     ) -> Progress
         requires goes_on { self.old.over ≡ None }
         requires time { self.old.clock + budget < 2 ^ 64 }
+        requires same_size { self.old.blocks.size ≡ length self.old.memory.ram }
         requires well { has_failed out.old ≡ false }
         ensures { Progresses result (booted self.old) budget (booted self.new)
             (output_of C.told T.told out.old)
@@ -88,10 +85,10 @@ impl Iop {
     {
         match self.loader {
             Loader::Running(_) if budget == 0 => Progress::Stopped(Stop::Budget),
-            Loader::Running(loaded) => Progress::Advanced(self.burst(loaded, budget, out)),
-            Loader::Ready(loaded) => {
+            Loader::Running(begun) => Progress::Advanced(self.burst(begun, budget, out)),
+            Loader::Ready(begun) => {
                 out.line(self.clock, Line::Run(1));
-                self.loader = Loader::Running(loaded);
+                self.loader = Loader::Running(begun);
                 Progress::Advanced(budget)
             }
             Loader::Dormant => {

@@ -4,10 +4,12 @@ ghost use Rattle.iop_machine.specs.Modules.{cpu_at};
 ghost use Rattle.iop_machine.specs.World.{reset};
 
 use crate::loader::Loader;
+use crate::waiting::Waiting;
 use iop_base::Stop;
 use iop_exec::Cpu;
 use iop_registry::Registry;
 use iop_stubs::Guest;
+use iop_sysmem::Blocks;
 use std::alloc::{AllocError, Global};
 use std::marker::Model;
 
@@ -15,7 +17,10 @@ use std::marker::Model;
 #[derive(Drop)]
 pub(crate) struct Iop {
     pub(crate) guest: Guest,
+    pub(crate) blocks: Blocks,
     pub(crate) registry: Registry,
+    /// The modules that were not loaded yet.
+    pub(crate) waiting: Waiting,
     /// The moment, in ticks: how many instructions were executed.
     pub(crate) clock: u64,
     pub(crate) cpu: Cpu,
@@ -32,14 +37,16 @@ impl Model for Iop {
     ghost view = { λ m. record {
       clock = m.clock;
       memory = m.guest;
+      blocks = m.blocks;
       libraries = m.registry;
+      modules = m.waiting;
       loader = m.loader;
       cpu = m.cpu;
       over = m.over;
     } };
 }
 
-/// All registers zero.
+/// Makes a processor of which all registers are zero, at address 0.
 fn idle() -> Cpu
     ensures { result ≡ cpu_at 0 }
 {
@@ -54,14 +61,17 @@ fn idle() -> Cpu
 }
 
 impl Iop {
-    /// Makes it as it is after a reset: memory, of `size` bytes, is all zero, and nothing runs.
-    pub(crate) fn new(alloc: Global, size: u32) -> Result<Self, AllocError>
+    /// Makes it as it is after a reset: memory, of `size` bytes, is all zero, the kernel's block alone
+    /// is used, and nothing runs. These modules are to be loaded.
+    pub(crate) fn new(alloc: Global, size: u32, waiting: Waiting) -> Result<Self, AllocError>
         requires { IsRamSize size }
-        ensures { IfOk result (λ iop. iop ≡ reset size) }
+        ensures { IfOk result (λ iop. iop ≡ reset size waiting) }
     {
         Ok(Iop {
             guest: Guest::new(alloc, size)?,
+            blocks: Blocks::new(alloc, size)?,
             registry: Registry::new(alloc)?,
+            waiting,
             clock: 0,
             cpu: idle(),
             loader: Loader::Dormant,

@@ -1,6 +1,6 @@
 //! The kernel's area of memory.
 
-ghost use Rattle.std.specs.Prelude.{◌≡◌, ◌<◌, ◌≤◌, []};
+ghost use Rattle.std.specs.Prelude.{◌≡◌, ◌<◌, ◌≤◌, [], length};
 ghost use Rattle.iop_base.specs.Numbers.{with_bytes};
 ghost use Rattle.iop_base.specs.Output.{Gives};
 ghost use Rattle.iop_machine.specs.KernelArea.{syscall_word, name_word, service_at, table_word, service_word, kernel_word, kernel_area};
@@ -11,10 +11,13 @@ use iop_stubs::Guest;
 /// The version of the kernel's libraries, and mode 0.
 const VERSION: u32 = 0x0101;
 
+/// How many services a kernel library has room for.
+pub(crate) const SERVICES: u32 = 64;
+
 /// How many words the kernel's area has.
 const WORDS: u32 = 0x4000;
 
-/// `syscall` with a code.
+/// Encodes `syscall` with a code below 2^20.
 fn syscall(code: u32) -> u32
     requires { code < 0x100000 }
     ensures { result ≡ syscall_word code }
@@ -22,7 +25,7 @@ fn syscall(code: u32) -> u32
     (code << 6) + 0xC
 }
 
-/// Four bytes of the name of a kernel library.
+/// Gives four bytes of the name of a kernel library.
 fn name_word(library: u32, at: usize) -> u32
     requires library { library < 8 }
     requires inside { at ≤ 4 }
@@ -32,7 +35,7 @@ fn name_word(library: u32, at: usize) -> u32
     u32::from_le_bytes([name[at], name[at + 1], name[at + 2], name[at + 3]])
 }
 
-/// The place of a service of a kernel library.
+/// Gives the place of a service of a kernel library.
 fn service_at(library: u32, number: u32) -> u32
     requires library { library < 8 }
     requires number { number < 64 }
@@ -41,7 +44,7 @@ fn service_at(library: u32, number: u32) -> u32
     0x4000 + library * 0x400 + number * 0x10
 }
 
-/// A word of the export table of a kernel library.
+/// Gives a word of the export table of a kernel library.
 fn table_word(library: u32, index: u32) -> u32
     requires { library < 8 }
     ensures { result ≡ table_word library index }
@@ -56,7 +59,7 @@ fn table_word(library: u32, index: u32) -> u32
     }
 }
 
-/// A word of a service of a kernel library.
+/// Gives a word of a service of a kernel library.
 fn service_word(library: u32, number: u32, index: u32) -> u32
     requires library { library < 8 }
     requires number { number < 64 }
@@ -69,7 +72,7 @@ fn service_word(library: u32, number: u32, index: u32) -> u32
     }
 }
 
-/// The word at a place of the kernel's area.
+/// Gives the word at a place of the kernel's area.
 #[tactic(auto, unfolding(crate::specs::KernelArea::kernel_word))]
 fn kernel_word(place: u32) -> u32
     requires { place < 0x10000 }
@@ -94,6 +97,7 @@ pub(crate) fn write_kernel_area<L: Lines>(guest: &mut Guest, lines: &mut L)
     requires { guest.old.live ≡ [] }
     ensures memory { guest.new ≡ record guest.old { ram = with_bytes guest.old.ram 0 kernel_area } }
     ensures lines { Gives (L.output lines.old) (L.output lines.new) [] }
+    ensures same_size { length guest.new.ram ≡ length guest.old.ram }
 {
     for index in 0..WORDS {
         let place = 4 * index;

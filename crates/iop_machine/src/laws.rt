@@ -1,8 +1,9 @@
 //! Facts about the definitions that no call computes. Each is the contract of a function that does
 //! nothing.
 
-ghost use Rattle.iop_machine.specs.AreaLaws.{KernelAreaIsRead, LoadingKeepsKernel};
-ghost use Rattle.iop_machine.specs.Laws.{StepsCompose, RunsCompose, RunsAreDetermined, OverStays, RunsEnd, RunsAreComputed, StubsReachTheirFunctions, RunsStaySound, StubsLeaveWithTheirLine, RunsKeepStubs, LoadingLeavesItsStubs, StubsAreFollowed};
+ghost use Rattle.iop_machine.specs.ArgumentLaws.{ArgumentsAreRead};
+ghost use Rattle.iop_machine.specs.AreaLaws.{KernelAreaIsRead, BootingKeepsKernel};
+ghost use Rattle.iop_machine.specs.Laws.{StepsCompose, RunsCompose, RunsAreDetermined, OverStays, RunsEnd, RunsAreComputed, StubsReachTheirFunctions, RunsStaySound, StubsLeaveWithTheirLine, RunsKeepStubs, StubsAreFollowed};
 
 /// The steps of a run are those of its first part, and then those of the rest.
 pub fn steps_compose()
@@ -47,30 +48,33 @@ pub fn kernel_area_is_read()
     ensures { KernelAreaIsRead }
 {}
 
-/// The first step, which loads a module, leaves the kernel's area so.
-pub fn loading_keeps_kernel()
-    ensures { LoadingKeepsKernel }
+/// The first step, which boots, leaves the kernel's area so.
+pub fn booting_keeps_kernel()
+    ensures { BootingKeepsKernel }
 {}
 
-/// In each state that the machine reaches from its beginning memory is sound, each live stub is one that loading has
-/// bound, and outside a delay slot the next instruction is the one behind.
+/// A module's words are read as they are meant from the argument block: the address of each, a word 0
+/// behind the last address, each word with a zero byte behind it, and zeros up to the block's end.
+pub fn arguments_are_read()
+    ensures { ArgumentsAreRead }
+{}
+
+/// In each state that the machine reaches from its beginning memory is sound, the blocks are those of
+/// that memory, each live stub is one that a linking has bound on the way, and outside a delay slot the
+/// next instruction is the one behind.
 pub fn runs_stay_sound()
     ensures { RunsStaySound }
 {}
 
-/// A stub is no longer live only after a step whose pieces have its line.
+/// A stub that was live, or that a step binds, is live after the step, or the step's pieces have its
+/// line.
 pub fn stubs_leave_with_their_line()
     ensures { StubsLeaveWithTheirLine }
 {}
 
-/// Once no module waits, no stub becomes live, and memory stays sound.
+/// A stub that is live was live before, or was bound on the way; and memory stays sound.
 pub fn runs_keep_stubs()
     ensures { RunsKeepStubs }
-{}
-
-/// Each stub that loading binds is live after the first step, or that step's pieces have its line.
-pub fn loading_leaves_its_stubs()
-    ensures { LoadingLeavesItsStubs }
 {}
 
 /// After a live stub that the module executes, the instruction behind it is executed, and then the one

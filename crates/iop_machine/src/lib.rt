@@ -1,8 +1,9 @@
-//! The machine: RAM, the processor, the loader's thread, and the module that it runs.
+//! The machine: RAM, the processor, the loader's thread, and the modules that it loads and runs.
 #![tactic(auto)]
 
 mod arguments;
 mod burst;
+mod call;
 mod guest_bus;
 mod iop;
 mod kernel_area;
@@ -12,10 +13,11 @@ mod loading;
 mod machine;
 mod module;
 mod progress;
-mod service;
 mod services;
 #[cfg(test)]
 mod tests;
+mod waiting;
 
+pub use arguments::{MOST_WORD_BYTES, MOST_WORDS};
 pub use machine::Machine;
-pub use module::Module;
+pub use module::{MOST_MODULES, Module};

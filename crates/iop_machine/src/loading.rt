@@ -1,106 +1,108 @@
-//! How a module comes into memory and is made ready to begin.
+//! How modules come into memory and are made ready to begin.
 
-ghost use Rattle.std.specs.Prelude.{◌≡◌, Ok, IfOk, [], length};
-ghost use Rattle.iop_machine.specs.Modules.{Fits, module_of, given_of};
-ghost use Rattle.iop_machine.specs.Iop.{Takes};
-ghost use Rattle.iop_machine.specs.Loading.{copies, passes_arguments, enters_it, links_text, refuses, loads, boots};
+ghost use Rattle.std.specs.Prelude.{◌≡◌, ◌<◌, [], MatchBool, length};
+ghost use Rattle.std.specs.Bool.{OnTrue};
+ghost use Rattle.iop_machine.specs.Iop.{Takes, Remains};
+ghost use Rattle.iop_machine.specs.Loading.{passes, enters, loads_first, boots};
 
 use crate::arguments::{ARGUMENTS, ARGUMENTS_LEN, argument_block, module_start};
 use crate::iop::Iop;
 use crate::kernel_area::write_kernel_area;
-use crate::loader::{Loaded, Loader};
-use crate::module::Module;
-use iop_base::{Code, Line, Lines, block_len};
-use iop_linker::link;
-use iop_modload::FIRST_BASE;
+use crate::loader::{Begun, Loader};
+use iop_base::{Line, Lines};
+use iop_modload::load;
 
 impl Iop {
-    /// Copies a module's image to where it is loaded.
-    fn copy<L: Lines>(&mut self, loadable: &Module<'_>, lines: &mut L)
-        ensures { Takes (copies self.old (module_of loadable.now)) self.new
-            (L.output lines.old) (L.output lines.new) }
-    {
-        let _ = self
-            .guest
-            .store_bytes(FIRST_BASE, loadable.image.bytes, self.clock, lines);
-    }
-
-    /// Writes the argument block of a module.
-    fn pass_arguments<L: Lines>(&mut self, loadable: &Module<'_>, lines: &mut L)
-        ensures { Takes (passes_arguments self.old (module_of loadable.now)) self.new
+    /// Writes the argument block.
+    fn pass_arguments<L: Lines>(&mut self, block: &[u8], lines: &mut L)
+        ensures { Takes (passes self.old block.now) self.new
             (L.output lines.old) (L.output lines.new) }
     {
         let clock = self.clock;
-        let block = argument_block(loadable.name);
-        let _ = self.guest.fill(ARGUMENTS, ARGUMENTS_LEN, 0, clock, lines);
-        let _ = self.guest.store_bytes(ARGUMENTS, &block, clock, lines);
+        let _ = self
+            .guest
+            .fill(ARGUMENTS, ARGUMENTS_LEN as u32, 0, clock, lines);
+        let _ = self.guest.store_bytes(ARGUMENTS, block, clock, lines);
     }
 
-    /// Tells that a module was linked, and makes it ready to begin.
-    fn enter<L: Lines>(&mut self, loadable: &Module<'_>, lines: &mut L)
-        ensures { Takes (enters_it self.old (module_of loadable.now)) self.new
+    /// Tells that a module was loaded, and makes it ready to begin with so many words in its argument
+    /// block.
+    fn enter<L: Lines>(&mut self, begun: Begun, words: u32, block: &[u8], lines: &mut L)
+        ensures { Takes (enters self.old begun words block.now) self.new
             (L.output lines.old) (L.output lines.new) }
     {
-        let base = FIRST_BASE;
-        let len = loadable.image.bytes.len() as u32;
-        lines.line(self.clock, Line::Load { k: 1, base, len });
-        self.pass_arguments(loadable, lines);
-        self.cpu = module_start(base, loadable.image.entry_offset, loadable.image.gp_offset);
-        self.loader = Loader::Ready(Loaded {
-            number: 1,
-            base,
-            size: block_len(len),
-        });
+        let Begun { number, loaded } = begun;
+        lines.line(
+            self.clock,
+            Line::Load {
+                k: number,
+                base: loaded.base,
+                len: loaded.len,
+            },
+        );
+        self.pass_arguments(block, lines);
+        self.cpu = module_start(&loaded, words);
+        self.loader = Loader::Ready(begun);
     }
 
-    /// Refuses the module with a code.
-    fn refuse<L: Lines>(&self, code: Code, lines: &mut L)
-        ensures { Takes (refuses self.now code) self.now (L.output lines.old) (L.output lines.new) }
+    /// Loads the next module, if there is one, and takes it out. A module that loads is ready to begin;
+    /// one that is refused is told. Answers whether another one is to be tried.
+    fn load_next<L: Lines>(&mut self, lines: &mut L) -> bool
+        requires same_size { self.old.blocks.size ≡ length self.old.memory.ram }
+        ensures loads { MatchBool result
+            (Remains (loads_first self.old.modules self.old) (loads_first self.new.modules self.new)
+            (L.output lines.old) (L.output lines.new))
+            (Takes (loads_first self.old.modules self.old) self.new
+            (L.output lines.old) (L.output lines.new)) }
+        ensures fewer { OnTrue result (length self.new.modules < length self.old.modules) }
+        ensures same_size { OnTrue result (self.new.blocks.size ≡ length self.new.memory.ram) }
     {
-        lines.line(self.clock, Line::Refused { k: 1, code });
-    }
-
-    /// Links the text of a module, which is then ready to begin, or refused.
-    fn link_text<L: Lines>(&mut self, loadable: &Module<'_>, lines: &mut L)
-        requires fits { Fits (length self.old.memory.ram) (module_of loadable.now) }
-        requires none_live { self.old.memory.live ≡ [] }
-        ensures { Takes (links_text self.old (module_of loadable.now)) self.new
-            (L.output lines.old) (L.output lines.new) }
-    {
-        match link(
+        let Some(next) = self.waiting.first() else {
+            self.loader = Loader::Dormant;
+            return false;
+        };
+        let number = next.number;
+        match load(
+            next.file,
             &mut self.guest,
+            &mut self.blocks,
             &self.registry,
-            FIRST_BASE,
-            loadable.image.text,
+            self.clock,
+            lines,
         ) {
-            Ok(()) => self.enter(loadable, lines),
-            Err(fault) => self.refuse(Code::from(fault), lines),
+            Ok(loaded) => {
+                let block = argument_block(next.name.as_bytes(), next.words);
+                let words = next.words.len() as u32 + 1;
+                self.waiting.take_first();
+                self.enter(Begun { number, loaded }, words, &block, lines);
+                false
+            }
+            Err(code) => {
+                self.waiting.take_first();
+                lines.line(self.clock, Line::Refused { k: number, code });
+                true
+            }
         }
     }
 
-    /// Loads a module: copies its image into memory and links its text.
-    fn load<L: Lines>(&mut self, loadable: &Module<'_>, lines: &mut L)
-        requires fits { Fits (length self.old.memory.ram) (module_of loadable.now) }
-        requires none_live { self.old.memory.live ≡ [] }
-        ensures { Takes (loads self.old (Ok (module_of loadable.now))) self.new
+    /// Loads modules, in order, until one loads, which is then ready to begin. Where none does, the
+    /// loader's thread is dormant.
+    pub(crate) fn load_first<L: Lines>(&mut self, lines: &mut L)
+        requires same_size { self.old.blocks.size ≡ length self.old.memory.ram }
+        ensures { Takes (loads_first self.old.modules self.old) self.new
             (L.output lines.old) (L.output lines.new) }
     {
-        self.copy(loadable, lines);
-        self.link_text(loadable, lines);
+        while self.load_next(lines) {}
     }
 
-    /// Writes the kernel's area and loads a module, or refuses it with its code.
+    /// Writes the kernel's area and loads the first module that loads.
     #[inline(never)]
-    pub(crate) fn boot<L: Lines>(&mut self, given: Result<Module<'_>, Code>, lines: &mut L)
-        requires fits { IfOk (given_of given) (Fits (length self.old.memory.ram)) }
+    pub(crate) fn boot<L: Lines>(&mut self, lines: &mut L)
+        requires same_size { self.old.blocks.size ≡ length self.old.memory.ram }
         requires none_live { self.old.memory.live ≡ [] }
-        ensures { Takes (boots self.old (given_of given.entry)) self.new
-            (L.output lines.old) (L.output lines.new) }
+        ensures { Takes (boots self.old) self.new (L.output lines.old) (L.output lines.new) }
     {
         write_kernel_area(&mut self.guest, lines);
-        match given {
-            Ok(loadable) => self.load(&loadable, lines),
-            Err(code) => self.refuse(code, lines),
-        }
+        self.load_first(lines);
     }
 }

@@ -1,8 +1,9 @@
-ghost use Rattle.std.specs.Prelude.{◌≡◌, ℕ, suc, ◌+◌, ◌^◌, ◌<◌, false, IfErr, IfOk, OnErr, option_map};
+ghost use Rattle.std.specs.Prelude.{◌≡◌, ℕ, suc, ◌+◌, ◌^◌, ◌<◌, ◌≤◌, false, IfOk, OnErr, [], All, length, option_map};
 ghost use Rattle.iop_trace.specs.Outs.{has_failed, output_of, sinks};
 ghost use Rattle.iop_base.specs.Places.{IsRamSize};
 ghost use Rattle.iop_ram.specs.Windows.{window_of};
-ghost use Rattle.iop_machine.specs.Modules.{Fits, IsRefusal, given_of};
+ghost use Rattle.iop_machine.specs.Modules.{HasRoom, modules_from};
+ghost use Rattle.iop_machine.specs.declared.module.TheConstants.{MOST_MODULES};
 ghost use Rattle.iop_machine.specs.World.{beginning};
 ghost use Rattle.iop_machine.specs.Stepping.{steps};
 ghost use Rattle.iop_machine.specs.Running.{Finishes, Faults};
@@ -11,51 +12,58 @@ ghost use Rattle.iop_machine.specs.Advancing.{Progresses};
 use crate::iop::Iop;
 use crate::module::Module;
 use crate::progress::Progress;
-use iop_base::{Code, Stop, WriteFault};
+use crate::waiting::Waiting;
+use iop_base::{Stop, WriteFault};
 use iop_ports::Sink;
+use iop_script::Script;
 use iop_trace::Out;
 use std::alloc::{AllocError, Global};
 use std::marker::Model;
 
-/// The machine: the processor with its memory and its kernel, and the module that it will load first.
+/// The machine: the processor with its memory and its kernel, and the modules that it will load.
 ///
 /// It takes all its memory when it is made.
 #[derive(Drop)]
-pub struct Machine<'a> {
-    /// The module that was not loaded yet, or the code with which it will be refused.
-    waiting: Option<Result<Module<'a>, Code>>,
+pub struct Machine {
+    /// Whether it is still to be booted.
+    is_new: bool,
     iop: Iop,
 }
 
-impl<'a> Model for Machine<'a> {
-    ghost use Rattle.std.specs.Prelude.{option_map};
-    ghost use Rattle.iop_machine.specs.Modules.{given_of};
+impl Model for Machine {
     ghost use Rattle.iop_machine.specs.World.{World};
-    ghost use Rattle.iop_machine.specs.Running.{IsSound};
+    ghost use Rattle.iop_machine.specs.Laws.{IsMachine};
 
     ghost Value = { World };
 
-    ghost view = { λ m. record { waiting = option_map given_of m.waiting; iop = m.iop } };
+    ghost view = { λ m. record { is_new = m.is_new; iop = m.iop } };
 
-    ghost invariant = { λ m. IsSound (record { waiting = option_map given_of m.waiting; iop = m.iop }) };
+    ghost invariant = { λ m. IsMachine (record { is_new = m.is_new; iop = m.iop }) };
 }
 
-impl<'a> Machine<'a> {
-    /// Makes a machine with `size` bytes of RAM, 2 MiB or 8 MiB, that will load this module first, or refuse it with
-    /// this code. The image fits into RAM behind the kernel's area.
+impl Machine {
+    /// Makes a machine with `size` bytes of RAM, 2 MiB or 8 MiB, that will load these modules, one after
+    /// the other, each handed its word of the command line and the words that the script has for it. They
+    /// are at most `MOST_MODULES`, no file has more than `LONGEST_FILE` bytes, and the words of each have
+    /// room in the argument block: at most `MOST_WORDS`, which take `MOST_WORD_BYTES` bytes. The script
+    /// raises no interrupt line yet.
     pub fn new(
         alloc: Global,
         size: u32,
-        given: Result<Module<'a>, Code>,
+        modules: Vec<Module>,
+        script: Script,
     ) -> Result<Self, AllocError>
         requires sized { IsRamSize size }
-        requires fits { IfOk (given_of given) (Fits size) }
-        requires refused { IfErr given IsRefusal }
-        ensures { IfOk result (λ machine. machine ≡ beginning size (given_of given.entry)) }
+        requires few { length modules.items ≤ MOST_MODULES }
+        requires room { All HasRoom (modules_from script.args 1 modules.items) }
+        requires no_events { script.events ≡ [] }
+        ensures { IfOk result (λ machine.
+            machine ≡ beginning size (modules_from script.args 1 modules.items)) }
     {
+        let waiting = Waiting::new(modules, script.args);
         Ok(Machine {
-            waiting: Some(given),
-            iop: Iop::new(alloc, size)?,
+            is_new: true,
+            iop: Iop::new(alloc, size, waiting)?,
         })
     }
 
@@ -73,7 +81,7 @@ impl<'a> Machine<'a> {
         self.iop.guest.ram().window(from, len)
     }
 
-    /// Goes on: loads the module that waits, or lets the core go on.
+    /// Goes on: boots, or lets the core go on.
     fn advance<C: Sink, T: Sink>(&mut self, budget: u64, out: &mut Out<'_, C, T>) -> Progress
         requires time { self.old.iop.clock + budget < 2 ^ 64 }
         requires well { has_failed out.old ≡ false }
@@ -84,21 +92,20 @@ impl<'a> Machine<'a> {
         if let Some(stop) = self.iop.stop() {
             return Progress::Stopped(stop);
         }
-        match self.waiting {
-            Some(given) => {
-                self.waiting = None;
-                self.iop.boot(given, out);
-                Progress::Advanced(budget)
-            }
-            None => self.iop.advance(budget, out),
+        if self.is_new {
+            self.is_new = false;
+            self.iop.boot(out);
+            Progress::Advanced(budget)
+        } else {
+            self.iop.advance(budget, out)
         }
     }
 
     /// Runs until the machine is stopped, or the next step would execute one instruction too many: `budget`
     /// are allowed. It gives the lines of the run to the trace and the texts to the console.
     ///
-    /// The first run begins with the loading of the module. After `Quiet` or a fault another run gives the
-    /// same at once. `WriteFault` comes exactly where a write fails; the machine then stands after the step in
+    /// The first run boots: it begins with the loading of the first module that loads. After `Quiet` or
+    /// a fault another run gives the same at once. `WriteFault` comes exactly where a write fails; the machine then stands after the step in
     /// which it failed.
     pub fn run<C: Sink, T: Sink>(
         &mut self,

@@ -1,15 +1,22 @@
-ghost use Rattle.std.specs.Prelude.{◌≤◌, ◌<◌, ◌^◌, length};
+use std::marker::Model;
 
-use iop_modload::Image;
+/// How many modules a machine may have.
+pub const MOST_MODULES: usize = 64;
 
-/// A module that can be loaded: its word of the command line, of at most 255 bytes, and its relocated image, of fewer
-/// than 2^31 bytes.
-#[derive(Clone, Copy, Debug)]
-pub struct Module<'a> {
+/// A module as the command names it.
+#[derive(Debug, Drop)]
+pub struct Module {
     /// Its word of the command line.
-    pub name: &'a [u8],
-    /// Its image, and what its file says of it.
-    pub image: Image<'a>,
-    pub ghost named: { length name.now ≤ 255 },
-    pub ghost short: { length image.bytes.now < 2 ^ 31 },
+    pub name: String,
+    /// The bytes of its file, at most `LONGEST_FILE` of iop_modload.
+    pub file: Vec<u8>,
+}
+
+impl Model for Module {
+    ghost use Rattle.std.specs.Prelude.{string_bytes};
+    ghost use Rattle.iop_machine.specs.Modules.{NamedFile};
+
+    ghost Value = { NamedFile };
+
+    ghost view = { λ m. record { name = string_bytes m.name; file = m.file.items } };
 }

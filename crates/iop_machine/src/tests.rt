@@ -1,64 +1,96 @@
-ghost use Rattle.iop_machine.specs.Modules.{Fits, module_of};
+ghost use Rattle.std.specs.Prelude.{◌≡◌, ◌≤◌, IfOk, [], ◌∷◌, length};
 
 use crate::{Machine, Module, laws};
 use iop_base::Stop;
-use iop_modload::Image;
 use iop_ports::MemSink;
-use std::alloc::Global;
+use iop_script::{Args, Script, Word};
+use std::alloc::{AllocError, Global};
 use std::test::Fail;
 
-/// A module that calls Kprintf with the address of its name, which is its first argument: the import table
-/// of `sysmem` 1.1 with a stub of index 14, and the words behind it.
-const PRINTS_ITS_NAME: [u8; 56] = [
-    0x00, 0x00, 0xE0, 0x41, 0x00, 0x00, 0x00, 0x00, 0x01, 0x01, 0x00, 0x00, b's', b'y', b's', b'm',
-    b'e', b'm', 0x00, 0x00, 0x08, 0x00, 0xE0, 0x03, 0x0E, 0x00, 0x00, 0x24, 0x00, 0x00, 0x00, 0x00,
-    0x00, 0x00, 0x00, 0x00, // addu $16,$31,$0
-    0x21, 0x80, 0xE0, 0x03, // jal 00010014
-    0x05, 0x40, 0x00, 0x0C, // lw $4,0($5)
-    0x00, 0x00, 0xA4, 0x8C, // jr $16
-    0x08, 0x00, 0x00, 0x02, // addu $2,$0,$0
-    0x21, 0x10, 0x00, 0x00,
+/// The file of a module that returns 0 at once.
+const PLAIN_FILE: [u8; 152] = [
+    0x7F, 0x45, 0x4C, 0x46, 0x01, 0x01, 0x01, 0x00, 0x00, 0x00, 0x00, 0x00, 0x00, 0x00, 0x00, 0x00,
+    0x80, 0xFF, 0x08, 0x00, 0x01, 0x00, 0x00, 0x00, 0x00, 0x00, 0x00, 0x00, 0x34, 0x00, 0x00, 0x00,
+    0x00, 0x00, 0x00, 0x00, 0x00, 0x00, 0x00, 0x00, 0x34, 0x00, 0x20, 0x00, 0x02, 0x00, 0x28, 0x00,
+    0x00, 0x00, 0x00, 0x00, 0x80, 0x00, 0x00, 0x70, 0x74, 0x00, 0x00, 0x00, 0x00, 0x00, 0x00, 0x00,
+    0x00, 0x00, 0x00, 0x00, 0x1C, 0x00, 0x00, 0x00, 0x1C, 0x00, 0x00, 0x00, 0x04, 0x00, 0x00, 0x00,
+    0x04, 0x00, 0x00, 0x00, 0x01, 0x00, 0x00, 0x00, 0x90, 0x00, 0x00, 0x00, 0x00, 0x00, 0x00, 0x00,
+    0x00, 0x00, 0x00, 0x00, 0x08, 0x00, 0x00, 0x00, 0x08, 0x00, 0x00, 0x00, 0x07, 0x00, 0x00, 0x00,
+    0x10, 0x00, 0x00, 0x00, 0xFF, 0xFF, 0xFF, 0xFF, 0x00, 0x00, 0x00, 0x00, 0x00, 0x00, 0x00, 0x00,
+    0x08, 0x00, 0x00, 0x00, 0x00, 0x00, 0x00, 0x00, 0x00, 0x00, 0x00, 0x00, 0x01, 0x01, 0x74, 0x00,
+    0x08, 0x00, 0xE0, 0x03, 0x21, 0x10, 0x00, 0x00,
 ];
 
-/// That module.
-fn prints_its_name() -> Module<'static>
-    ensures { Fits 0x200000 (module_of result) }
+/// That module, by the name of `m.irx`.
+fn plain_module(alloc: Global) -> Result<Module, AllocError>
+    ensures name { IfOk result (λ made. length made.name ≤ 5) }
+    ensures file { IfOk result (λ made. length made.file ≤ 152) }
 {
-    Module {
-        name: b"m.irx",
-        image: Image {
-            bytes: &PRINTS_ITS_NAME,
-            text: 56,
-            entry_offset: 0x24,
-            gp_offset: 0,
-        },
-    }
+    Ok(Module {
+        name: String::from_str(alloc, "m.irx")?,
+        file: PLAIN_FILE.to_vec(alloc)?,
+    })
+}
+
+/// A script with words for the first module: `a` and `bc`.
+fn words_for_first(alloc: Global) -> Result<Script, AllocError>
+    ensures events { IfOk result (λ script. script.events ≡ []) }
+    ensures args { IfOk result (λ script.
+        script.args ≡ record { number = 1; words = (97 ∷ []) ∷ (98 ∷ 99 ∷ []) ∷ [] } ∷ []) }
+{
+    let first = Word {
+        bytes: b"a".to_vec(alloc)?,
+    };
+    let second = Word {
+        bytes: b"bc".to_vec(alloc)?,
+    };
+    let args = Args {
+        module: 1,
+        words: vec![in alloc; first, second]?,
+    };
+    Ok(Script {
+        events: Vec::new(alloc),
+        args: vec![in alloc; args]?,
+    })
+}
+
+/// A machine that loads that module twice.
+fn loads_it_twice(alloc: Global) -> Result<Machine, AllocError> {
+    let first = plain_module(alloc)?;
+    let second = plain_module(alloc)?;
+    let modules = vec![in alloc; first, second]?;
+    Machine::new(alloc, 0x20_0000, modules, words_for_first(alloc)?)
 }
 
 #[test]
 fn runs_in_parts(rt: HostRuntime) -> Result<(), Fail> {
     let alloc: Global = rt.alloc();
-    let mut machine = Machine::new(alloc, 0x20_0000, Ok(prints_its_name()))?;
+    let mut machine = loads_it_twice(alloc)?;
     let mut console = MemSink::new(alloc, 100, Vec::new(alloc))?;
     let mut trace = MemSink::new(alloc, 200, Vec::new(alloc))?;
     for (budget, stop, now) in [
         (0_u8, Stop::Budget, 0),
-        (4, Stop::Budget, 4),
-        (100, Stop::Quiet, 11),
-        (100, Stop::Quiet, 11),
+        (3, Stop::Budget, 3),
+        (100, Stop::Quiet, 6),
+        (100, Stop::Quiet, 6),
     ] {
         assert!(rt; machine.now() <= 100);
         let budget = u64::from(budget);
         assert_eq!(rt; machine.run(budget, &mut console, &mut trace), Ok(stop));
         assert_eq!(rt; machine.now(), now);
+        if now == 0 {
+            let arguments = b"\x10\x20\0\0\x16\x20\0\0\x18\x20\0\0\0\0\0\0m.irx\0a\0bc\0";
+            assert_eq!(rt; machine.window(0x2000, 27), Some(arguments.as_slice()));
+        }
     }
-    assert_eq!(rt; console.bytes(), b"m.irx".as_slice());
     assert_eq!(rt;
         trace.bytes(),
-        b"0 load 1 ok 00010000 00000038\n0 run 1\n10 result 1 0 resident\n".as_slice()
+        b"0 load 1 ok 00010000 00000008\n0 run 1\n2 result 1 0 resident\n\
+        2 load 2 ok 00010100 00000008\n5 result 2 0 resident\n"
+            .as_slice()
     );
-    let arguments = b"\x08\x20\0\0\0\0\0\0m.irx\0".as_slice();
-    assert_eq!(rt; machine.window(0x2000, 14), Some(arguments));
+    let arguments = b"\x08\x20\0\0\0\0\0\0m.irx\0\0".as_slice();
+    assert_eq!(rt; machine.window(0x2000, 15), Some(arguments));
     assert_eq!(rt; machine.window(0x1F_FFF8, 9), None);
     Ok(())
 }
@@ -73,10 +105,10 @@ fn laws_hold() {
     laws::runs_are_computed();
     laws::stubs_reach_their_functions();
     laws::kernel_area_is_read();
-    laws::loading_keeps_kernel();
+    laws::booting_keeps_kernel();
+    laws::arguments_are_read();
     laws::runs_stay_sound();
     laws::stubs_leave_with_their_line();
     laws::runs_keep_stubs();
-    laws::loading_leaves_its_stubs();
     laws::stubs_are_followed();
 }

@@ -1,1 +1,9 @@
-pub mod Cases
+pub mod Reading
+pub mod Images
+pub mod Blocks
+pub mod Keeping
+pub mod Lending
+pub mod Placed
+pub mod LoadingLemmas
+pub mod Standing
+pub mod FinishingLemmas

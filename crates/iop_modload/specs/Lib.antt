@@ -1,2 +1,4 @@
-pub mod Images
-pub mod Limits
+pub mod Modules
+pub mod Loading
+pub mod Finishing
+pub mod Laws

@@ -1,19 +1,18 @@
-ghost use Rattle.std.specs.Prelude.{◌≤◌, length};
-
-/// The relocated image of a module that can be loaded, and what its file says of it.
+/// An image that can be written into memory for a place.
 ///
-/// The places and sizes are those of the module information (ps2sdk's iopmod section), in bytes.
-/// Places count from the image's first byte.
-#[derive(Clone, Copy, Debug)]
-pub struct Image<'a> {
-    /// Its bytes, relocated for its base.
-    pub bytes: &'a [u8],
-    /// How many of them, from the first on, are text: at least 4.
-    pub text: u32,
-    /// Where the module is entered.
-    pub entry_offset: u32,
-    /// What `$gp` is, before the base is added.
-    pub gp_offset: u32,
-    pub ghost has_text: { 4 ≤ text },
-    pub ghost text_within: { text ≤ length bytes.now },
+/// What writes it by a closure is generic over it: of a captured value whose type has a lifetime,
+/// nothing that the closure did with it would be known.
+pub(crate) trait Image {
+    ghost use Rattle.std.specs.Prelude.{◌≡◌, ℕ, List, length};
+
+    /// How many bytes it takes.
+    ghost length_of: { Self → ℕ };
+
+    /// Its bytes for an address.
+    ghost image_for: { Self → ℕ → List ℕ };
+
+    /// Writes it into memory of its length, for the address `base`.
+    fn write(&self, memory: &mut [u8], base: u32)
+        requires { length memory.old ≡ length_of self.now }
+        ensures { memory.new ≡ image_for self.now base };
 }

@@ -1,10 +1,18 @@
-//! Loading a module: the relocated image of its file.
+//! Loading a module into memory, and what becomes of it after its return.
 #![tactic(auto)]
 
+mod finishing;
 mod image;
+pub mod laws;
 mod limits;
-mod relocating;
+mod loaded;
+mod loading;
+mod module_file;
+#[cfg(test)]
+mod tests;
 
-pub use image::Image;
-pub use limits::{FIRST_BASE, LONGEST_FILE, most_bytes};
-pub use relocating::relocate_file;
+pub use finishing::finish;
+pub use limits::LONGEST_FILE;
+pub use loaded::Loaded;
+pub use loading::load;
+pub use module_file::ModuleFile;

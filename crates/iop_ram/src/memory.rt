@@ -1,9 +1,11 @@
-ghost use Rattle.std.specs.Prelude.{◌≡◌, ◌+◌, ◌≤◌, ℕ, IfOk, IfSome, is_ok, is_some, unwrap_or, option_copied, length, slice_index};
+ghost use Rattle.std.specs.Prelude.{◌≡◌, ◌+◌, ◌≤◌, ℕ, IfOk, IfSome, IsSome, Some, is_ok, is_some};
+ghost use Rattle.std.specs.Prelude.{unwrap_or, option_copied, length, slice_index};
+ghost use Rattle.std.specs.Borrow.{sem};
 ghost use Rattle.std.specs.Option.{ok_or};
 ghost use Rattle.iop_base.specs.Numbers.{width_bytes, with_bytes};
 ghost use Rattle.iop_base.specs.Places.{IsRamSize, phys, range_at, access_at, load_at, store_at};
 ghost use Rattle.iop_base.specs.declared.width.Width.TheVariants.{Byte, Half, Word};
-ghost use Rattle.iop_ram.specs.Windows.{window_of, store_bytes_at};
+ghost use Rattle.iop_ram.specs.Windows.{window_of, store_bytes_at, LendsRange};
 
 use byteorder::{ByteOrder, LittleEndian};
 use iop_base::{Bad, Width};
@@ -197,5 +199,25 @@ impl Ram {
     {
         let place = self.range(at, len as usize)?;
         Some(&self.bytes[place..place + len as usize])
+    }
+
+    /// Whether a range of `len` bytes lies wholly in RAM, also for a `len` of 0: the address itself
+    /// names a place in RAM, and the end is at most its size.
+    pub fn contains(&self, at: u32, len: u32) -> bool
+        ensures { result ≡ is_some (range_at (length self.now) at len) }
+    {
+        self.range(at, len as usize).is_some()
+    }
+
+    /// Lends the bytes of a range for writing: what they are when the loan ends is what RAM holds.
+    /// The range lies wholly in RAM (`contains`).
+    pub fn window_mut(&mut self, at: u32, len: u32) -> &mut [u8]
+        requires { IsSome (range_at (length self.old) at len) }
+        ensures* writes_back { sem 𝓛 (LendsRange self.entry at len result) }
+        ensures window { Some result.now ≡ window_of self.old at len }
+        ensures len { length result.now ≡ len }
+    {
+        let place = self.range(at, len as usize).unwrap();
+        self.bytes.slice_mut(place..place + len as usize)
     }
 }

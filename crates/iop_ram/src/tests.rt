@@ -27,6 +27,7 @@ fn numbers_and_places(rt: HostRuntime) -> Result<(), Fail> {
     ];
     for (at, len, wanted) in rows {
         assert_eq!(rt; ram.window(at, len).map(|bytes| bytes.len()), wanted);
+        assert_eq!(rt; ram.contains(at, len), wanted.is_some());
     }
     assert_eq!(rt; physical(0x8001_2340, 0x20_0000), Some(0x1_2340));
     assert_eq!(rt; physical(0x2000_0000, 0x20_0000), None);
@@ -50,5 +51,14 @@ fn stores_of_bytes(rt: HostRuntime) -> Result<(), Fail> {
     assert_eq!(rt; ram.load32(0x100), Ok(0x7812_3400));
     assert_eq!(rt; ram.load32(0x104), Ok(0x56));
     assert_eq!(rt; ram.load32(0x1F_FFFC), Ok(0x5678_1234));
+    Ok(())
+}
+
+#[test]
+fn a_window_is_written(rt: HostRuntime) -> Result<(), Fail> {
+    let mut ram = Ram::new(rt.alloc(), 0x20_0000)?;
+    assert_eq!(rt; ram.contains(0x8000_0102, 4), true);
+    ram.window_mut(0x8000_0102, 4).copy_from_slice(b"iopm");
+    assert_eq!(rt; ram.window(0x100, 8), Some(b"\0\0iopm\0\0".as_slice()));
     Ok(())
 }

@@ -1,7 +1,6 @@
 -- The services of the kernel's libraries. Libraries, names and numbers are those of ps2sdk's headers
--- (loadcore.h, sysmem.h, intrman.h, thbase.h, thsemap.h, thevent.h, thmsgbx.h, stdio.h). From where each
--- may be called is theirs too; which libraries the kernel has, and that numbers without a row are listed
--- by none, is this project's own profile.
+-- (loadcore.h, sysmem.h, intrman.h, thbase.h, thsemap.h, thevent.h, thmsgbx.h, stdio.h). Which libraries
+-- and numbers the kernel has, and from where each may be called, is this project's own profile.
 use Rattle.std.specs.Prelude.{ℕ, ◌==◌, if◌then◌else◌, Bool, true, not, Option, List, [], ◌∷◌, find, option_map}
 use Rattle.iop_services.specs.declared.context.Context.{Context}
 use Rattle.iop_services.specs.declared.context.Context.TheVariants.{Thread, Handler, Both}
@@ -15,122 +14,122 @@ pub record Numbered : Type 0 where
   pub service : Service
   pub context : Context
 
-abbrev pub row : ℕ → Service → Context → Numbered
-row number service context = record { number = number; service = service; context = context }
+abbrev pub lists : ℕ → Service → Context → Numbered
+lists number service context = record { number = number; service = service; context = context }
 
 abbrev pub loadcore : List Numbered
 loadcore =
-    row 4 FlushIcache Both
-    ∷ row 5 FlushDcache Both
-    ∷ row 6 RegisterLibraryEntries Thread
-    ∷ row 7 ReleaseLibraryEntries Thread
+    lists 4 FlushIcache Both
+    ∷ lists 5 FlushDcache Both
+    ∷ lists 6 RegisterLibraryEntries Thread
+    ∷ lists 7 ReleaseLibraryEntries Thread
     ∷ []
 
 abbrev pub sysmem : List Numbered
 sysmem =
-    row 4 AllocSysMemory Both
-    ∷ row 5 FreeSysMemory Both
-    ∷ row 6 QueryMemSize Both
-    ∷ row 7 QueryMaxFreeMemSize Both
-    ∷ row 8 QueryTotalFreeMemSize Both
-    ∷ row 9 QueryBlockTopAddress Both
-    ∷ row 10 QueryBlockSize Both
-    ∷ row 14 Kprintf Both
+    lists 4 AllocSysMemory Both
+    ∷ lists 5 FreeSysMemory Both
+    ∷ lists 6 QueryMemSize Both
+    ∷ lists 7 QueryMaxFreeMemSize Both
+    ∷ lists 8 QueryTotalFreeMemSize Both
+    ∷ lists 9 QueryBlockTopAddress Both
+    ∷ lists 10 QueryBlockSize Both
+    ∷ lists 14 Kprintf Both
     ∷ []
 
 abbrev pub intrman : List Numbered
 intrman =
-    row 4 RegisterIntrHandler Thread
-    ∷ row 5 ReleaseIntrHandler Thread
-    ∷ row 6 EnableIntr Both
-    ∷ row 7 DisableIntr Both
-    ∷ row 8 CpuDisableIntr Both
-    ∷ row 9 CpuEnableIntr Both
-    ∷ row 17 CpuSuspendIntr Both
-    ∷ row 18 CpuResumeIntr Both
-    ∷ row 23 QueryIntrContext Both
+    lists 4 RegisterIntrHandler Thread
+    ∷ lists 5 ReleaseIntrHandler Thread
+    ∷ lists 6 EnableIntr Both
+    ∷ lists 7 DisableIntr Both
+    ∷ lists 8 CpuDisableIntr Both
+    ∷ lists 9 CpuEnableIntr Both
+    ∷ lists 17 CpuSuspendIntr Both
+    ∷ lists 18 CpuResumeIntr Both
+    ∷ lists 23 QueryIntrContext Both
     ∷ []
 
 abbrev pub thbase : List Numbered
 thbase =
-    row 4 CreateThread Thread
-    ∷ row 5 DeleteThread Thread
-    ∷ row 6 StartThread Thread
-    ∷ row 8 ExitThread Thread
-    ∷ row 9 ExitDeleteThread Thread
-    ∷ row 10 TerminateThread Thread
-    ∷ row 11 TerminateThread Handler
-    ∷ row 12 DisableDispatchThread Thread
-    ∷ row 13 EnableDispatchThread Thread
-    ∷ row 14 ChangeThreadPriority Thread
-    ∷ row 15 ChangeThreadPriority Handler
-    ∷ row 16 RotateThreadReadyQueue Thread
-    ∷ row 17 RotateThreadReadyQueue Handler
-    ∷ row 18 ReleaseWaitThread Thread
-    ∷ row 19 ReleaseWaitThread Handler
-    ∷ row 20 GetThreadId Thread
-    ∷ row 22 ReferThreadStatus Thread
-    ∷ row 23 ReferThreadStatus Handler
-    ∷ row 24 SleepThread Thread
-    ∷ row 25 WakeupThread Thread
-    ∷ row 26 WakeupThread Handler
-    ∷ row 27 CancelWakeupThread Thread
-    ∷ row 28 CancelWakeupThread Handler
-    ∷ row 29 SuspendThread Thread
-    ∷ row 30 SuspendThread Handler
-    ∷ row 31 ResumeThread Thread
-    ∷ row 32 ResumeThread Handler
-    ∷ row 33 DelayThread Thread
-    ∷ row 34 GetSystemTime Both
-    ∷ row 35 SetAlarm Thread
-    ∷ row 36 SetAlarm Handler
-    ∷ row 37 CancelAlarm Thread
-    ∷ row 38 CancelAlarm Handler
-    ∷ row 39 USec2SysClock Both
-    ∷ row 40 SysClock2USec Both
+    lists 4 CreateThread Thread
+    ∷ lists 5 DeleteThread Thread
+    ∷ lists 6 StartThread Thread
+    ∷ lists 8 ExitThread Thread
+    ∷ lists 9 ExitDeleteThread Thread
+    ∷ lists 10 TerminateThread Thread
+    ∷ lists 11 TerminateThread Handler
+    ∷ lists 12 DisableDispatchThread Thread
+    ∷ lists 13 EnableDispatchThread Thread
+    ∷ lists 14 ChangeThreadPriority Thread
+    ∷ lists 15 ChangeThreadPriority Handler
+    ∷ lists 16 RotateThreadReadyQueue Thread
+    ∷ lists 17 RotateThreadReadyQueue Handler
+    ∷ lists 18 ReleaseWaitThread Thread
+    ∷ lists 19 ReleaseWaitThread Handler
+    ∷ lists 20 GetThreadId Thread
+    ∷ lists 22 ReferThreadStatus Thread
+    ∷ lists 23 ReferThreadStatus Handler
+    ∷ lists 24 SleepThread Thread
+    ∷ lists 25 WakeupThread Thread
+    ∷ lists 26 WakeupThread Handler
+    ∷ lists 27 CancelWakeupThread Thread
+    ∷ lists 28 CancelWakeupThread Handler
+    ∷ lists 29 SuspendThread Thread
+    ∷ lists 30 SuspendThread Handler
+    ∷ lists 31 ResumeThread Thread
+    ∷ lists 32 ResumeThread Handler
+    ∷ lists 33 DelayThread Thread
+    ∷ lists 34 GetSystemTime Both
+    ∷ lists 35 SetAlarm Thread
+    ∷ lists 36 SetAlarm Handler
+    ∷ lists 37 CancelAlarm Thread
+    ∷ lists 38 CancelAlarm Handler
+    ∷ lists 39 USec2SysClock Both
+    ∷ lists 40 SysClock2USec Both
     ∷ []
 
 abbrev pub thsemap : List Numbered
 thsemap =
-    row 4 CreateSema Thread
-    ∷ row 5 DeleteSema Thread
-    ∷ row 6 SignalSema Thread
-    ∷ row 7 SignalSema Handler
-    ∷ row 8 WaitSema Thread
-    ∷ row 9 PollSema Thread
-    ∷ row 11 ReferSemaStatus Thread
-    ∷ row 12 ReferSemaStatus Handler
+    lists 4 CreateSema Thread
+    ∷ lists 5 DeleteSema Thread
+    ∷ lists 6 SignalSema Thread
+    ∷ lists 7 SignalSema Handler
+    ∷ lists 8 WaitSema Thread
+    ∷ lists 9 PollSema Thread
+    ∷ lists 11 ReferSemaStatus Thread
+    ∷ lists 12 ReferSemaStatus Handler
     ∷ []
 
 abbrev pub thevent : List Numbered
 thevent =
-    row 4 CreateEventFlag Thread
-    ∷ row 5 DeleteEventFlag Thread
-    ∷ row 6 SetEventFlag Thread
-    ∷ row 7 SetEventFlag Handler
-    ∷ row 8 ClearEventFlag Thread
-    ∷ row 9 ClearEventFlag Handler
-    ∷ row 10 WaitEventFlag Thread
-    ∷ row 11 PollEventFlag Thread
-    ∷ row 13 ReferEventFlagStatus Thread
-    ∷ row 14 ReferEventFlagStatus Handler
+    lists 4 CreateEventFlag Thread
+    ∷ lists 5 DeleteEventFlag Thread
+    ∷ lists 6 SetEventFlag Thread
+    ∷ lists 7 SetEventFlag Handler
+    ∷ lists 8 ClearEventFlag Thread
+    ∷ lists 9 ClearEventFlag Handler
+    ∷ lists 10 WaitEventFlag Thread
+    ∷ lists 11 PollEventFlag Thread
+    ∷ lists 13 ReferEventFlagStatus Thread
+    ∷ lists 14 ReferEventFlagStatus Handler
     ∷ []
 
 abbrev pub thmsgbx : List Numbered
 thmsgbx =
-    row 4 CreateMbx Thread
-    ∷ row 5 DeleteMbx Thread
-    ∷ row 6 SendMbx Thread
-    ∷ row 7 SendMbx Handler
-    ∷ row 8 ReceiveMbx Thread
-    ∷ row 9 PollMbx Thread
-    ∷ row 11 ReferMbxStatus Thread
-    ∷ row 12 ReferMbxStatus Handler
+    lists 4 CreateMbx Thread
+    ∷ lists 5 DeleteMbx Thread
+    ∷ lists 6 SendMbx Thread
+    ∷ lists 7 SendMbx Handler
+    ∷ lists 8 ReceiveMbx Thread
+    ∷ lists 9 PollMbx Thread
+    ∷ lists 11 ReferMbxStatus Thread
+    ∷ lists 12 ReferMbxStatus Handler
     ∷ []
 
 abbrev pub stdio : List Numbered
 stdio =
-    row 4 Printf Both
+    lists 4 Printf Both
     ∷ []
 
 -- the rows of a library by its number

@@ -2,3 +2,4 @@ pub mod Stubs
 pub mod Binding
 pub mod Layers
 pub mod Laws
+pub mod Lending

@@ -1,4 +1,6 @@
-ghost use Rattle.std.specs.Prelude.{◌≡◌, ℕ, ◌+◌, ◌%◌, ◌^◌, ◌≤◌, All, IfOk, [], find, is_ok, is_some, length, OnErr, replicate, slice_index};
+ghost use Rattle.std.specs.Prelude.{◌≡◌, ℕ, ◌+◌, ◌%◌, ◌^◌, ◌≤◌, All, [], find, length, replicate, slice_index};
+ghost use Rattle.std.specs.Prelude.{is_ok, is_some, IfOk, IfNone, IfSome, MatchOption, OnErr};
+ghost use Rattle.std.specs.Fn.{FnOnceReturnsAtMut};
 ghost use Rattle.std.specs.Option.{ok_or};
 ghost use Rattle.iop_base.specs.Numbers.{IsByte, width_bytes, bytes_of, with_bytes};
 ghost use Rattle.iop_base.specs.Places.{IsRamSize, range_at, access_at};
@@ -6,6 +8,7 @@ ghost use Rattle.iop_base.specs.Output.{Gives};
 ghost use Rattle.iop_stubs.specs.Stubs.{is_of, stands_at, access_place, range_place, after_store, store_lines};
 ghost use Rattle.iop_stubs.specs.Binding.{after_bind, MayBind, IsSound};
 ghost use Rattle.iop_stubs.specs.Layers.{base_of};
+ghost use Rattle.iop_stubs.specs.Lending.{IsWrittenBy};
 ghost use Rattle.iop_stubs.specs.declared.live_stub.TheConstants.Stub.{MOST_LIVE};
 
 use crate::live_stub::Stub;
@@ -140,10 +143,37 @@ impl Guest {
         ensures was_sound { IsSound self.old }
         ensures sound { IsSound self.new }
     {
+        self.with_window(at, len, t, lines, |bytes| bytes.fill(byte))
+            .ok_or(Bad)
+    }
+
+    /// Lends the bytes of a range to `write`, which may write them; with what it leaves there this is
+    /// one store. It ends each live stub of which the range has a byte, as `store` does, before the
+    /// bytes are lent: no line depends on what is written. Answers what `write` answers.
+    ///
+    /// None exactly where the range is not wholly in RAM, also with a `len` of 0; `write` is not
+    /// called then, nothing changes, and there is no line.
+    pub fn with_window<L: Lines, R, F: FnOnce(&mut [u8]) -> R>(
+        &mut self,
+        at: u32,
+        len: u32,
+        t: u64,
+        lines: &mut L,
+        write: F,
+    ) -> Option<R>
+        requires { (bytes : _) → length bytes.now ≡ len → F.pre write bytes }
+        ensures accepted { is_some result ≡ is_some (range_place self.old at len) }
+        ensures memory { MatchOption result (self.new ≡ self.old) (λ answer.
+            IsWrittenBy F.FnOnce write self.old self.new (range_place self.old at len) len answer) }
+        ensures lines { Gives (L.output lines.old) (L.output lines.new)
+            (store_lines t self.old (range_place self.old at len) len) }
+        ensures untouched { IfNone result (lines.new ≡ lines.old) }
+        ensures was_sound { IsSound self.old }
+        ensures sound { IsSound self.new }
+    {
         let place = find_range(&self.ram, at, len)?;
         self.live.end_in(place, len, t, lines);
-        fill_range(&mut self.ram, place, len, byte);
-        Ok(())
+        Some(write_into(self.ram.window_mut(at, len), write))
     }
 
     /// Tells how many more stubs can be bound: `Stub::MOST_LIVE` less the live ones.
@@ -215,24 +245,25 @@ fn put_bytes(ram: &mut Ram, at: u32, bytes: &[u8]) -> Result<u32, Bad>
     physical(at, ram.size()).ok_or(Bad)
 }
 
-/// Finds the place of a range. `Bad` where it is not wholly in RAM.
-fn find_range(ram: &Ram, at: u32, len: u32) -> Result<u32, Bad>
-    ensures place { result ≡ ok_or (range_at (length ram.now) at len) (record {}) }
-    ensures inside { IfOk result (λ place. place + len ≤ length ram.now) }
+/// Finds the place of a range. None where it is not wholly in RAM.
+fn find_range(ram: &Ram, at: u32, len: u32) -> Option<u32>
+    ensures place { result ≡ range_at (length ram.now) at len }
+    ensures inside { IfSome result (λ place. place + len ≤ length ram.now) }
 {
-    ram.window(at, len).ok_or(Bad)?;
-    physical(at, ram.size()).ok_or(Bad)
+    if ram.contains(at, len) {
+        physical(at, ram.size())
+    } else {
+        None
+    }
 }
 
-/// Stores one byte at every place of a range in RAM.
-fn fill_range(ram: &mut Ram, place: u32, len: u32, byte: u8)
-    requires inside { place + len ≤ length ram.old }
-    requires sized { length ram.old ≤ 2 ^ 29 }
-    ensures memory { ram.new ≡ with_bytes ram.old place (replicate len byte) }
+/// Calls `write` on the bytes of a window.
+fn write_into<R, F: FnOnce(&mut [u8]) -> R>(window: &mut [u8], write: F) -> R
+    requires { (bytes : _) → length bytes.now ≡ length window.old → F.pre write bytes }
+    ensures called { FnOnceReturnsAtMut F.FnOnce write window.old result window.new }
+    ensures bytes { All IsByte window.new }
 {
-    for offset in 0..len {
-        ram.store8(place + offset, byte).unwrap();
-    }
+    write(window)
 }
 
 /// Stores a word.

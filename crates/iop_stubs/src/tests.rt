@@ -1,6 +1,8 @@
 //! One stub from its binding to the store that ends it.
 
-ghost use Rattle.std.specs.Prelude.{◌≡◌, ◌+◌, ◌%◌, ◌^◌, ◌<◌, ◌≤◌};
+ghost use Rattle.std.specs.Prelude.{◌≡◌, ◌+◌, ◌-◌, ◌%◌, ◌^◌, ◌<◌, ◌≤◌, MatchOption, length, slice_index, slice_set};
+ghost use Rattle.iop_stubs.specs.Stubs.{range_place, after_store};
+ghost use Rattle.iop_stubs.specs.Lending.{range_bytes};
 
 use crate::{Guest, Stub};
 use iop_base::{Bad, Line, Lines, Width};
@@ -71,6 +73,29 @@ fn bound(rt: &impl Abort, alloc: Global, told: &mut Told) -> Result<Guest, Fail>
     assert_eq!(rt; guest.ram().load32(STUB.at), Ok(0x0800_1138));
     assert_eq!(rt; guest.room(), 65_535);
     Ok(guest)
+}
+
+/// Writes the last byte of a window, and answers what stood there.
+fn put_last(window: &mut [u8], byte: u8) -> u8
+    requires { 0 < length window.old }
+    ensures window { window.new ≡ slice_set window.old (length window.old - 1) byte }
+    ensures answer { result ≡ slice_index window.old (length window.old - 1) }
+{
+    let last = window.len() - 1;
+    let stood = window[last];
+    window[last] = byte;
+    stood
+}
+
+/// Writes the last byte of a range, and answers what stood there.
+fn put_last_in(guest: &mut Guest, at: u32, len: u32, byte: u8, told: &mut Told) -> Option<u8>
+    requires { 0 < len }
+    ensures { let place = range_place guest.old at len in
+        let bytes = range_bytes guest.old.ram place len in
+        MatchOption result (guest.new ≡ guest.old) (λ stood. (stood ≡ slice_index bytes (len - 1))
+        × (guest.new ≡ after_store guest.old place (slice_set bytes (len - 1) byte))) }
+{
+    guest.with_window(at, len, 5, told, |window| put_last(window, byte))
 }
 
 #[test]
@@ -152,5 +177,31 @@ fn a_store_of_bytes_ends_a_stub(rt: HostRuntime) -> Result<(), Fail> {
     assert_eq!(rt; guest.ram().load32(0x1_0018), Ok(0x6500_000E));
     assert_eq!(rt; guest.ram().load16(0x1_001C), Ok(0x646E));
     assert_eq!(rt; told.stubs.as_slice(), [(4, 0x1_0014)].as_slice());
+    Ok(())
+}
+
+#[test]
+fn a_window_ends_a_stub(rt: HostRuntime) -> Result<(), Fail> {
+    let mut told = Told {
+        stubs: Vec::new(rt.alloc()),
+    };
+    let mut guest = bound(&rt, rt.alloc(), &mut told)?;
+    for (at, len, wanted) in [
+        (0x1_0010, 4, Some(0)),
+        (0x1_001C, 9, Some(0)),
+        (0x1F_FFFF, 2, None),
+        (0x20_0000, 1, None),
+    ] {
+        assert_eq!(rt; put_last_in(&mut guest, at, len, 7, &mut told), wanted);
+    }
+    assert_eq!(rt; guest.at(0x1_0014), Some(STUB));
+    assert_eq!(rt;
+        put_last_in(&mut guest, 0x8001_0010, 5, 0x99, &mut told),
+        Some(0x38)
+    );
+    assert_eq!(rt; guest.at(0x1_0014), None);
+    assert_eq!(rt; guest.ram().load32(0x1_0014), Ok(0x0800_1199));
+    assert_eq!(rt; guest.ram().load32(0x1_0010), Ok(0x0700_0000));
+    assert_eq!(rt; told.stubs.as_slice(), [(5, 0x1_0014)].as_slice());
     Ok(())
 }

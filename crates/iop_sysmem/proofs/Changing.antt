@@ -5,7 +5,8 @@ use Rattle.std.proofs.lemmas.Bool.{ltb-true, ltb-false}
 use Rattle.std.specs.List.{insert}
 use Rattle.iop_base.specs.BlockSizes.{block_len}
 use Rattle.iop_base.specs.declared.blocks.TheConstants.{BLOCK_UNIT}
-use Rattle.iop_sysmem.specs.BlockMap.{BlockMap, block_at, no_block, block_of, end_of, IsBlockSize, AreBlocks, AreApart, IsFree, ModeTakes, insert_block}
+use Rattle.iop_sysmem.specs.BlockMap.{BlockMap, block_at, no_block, block_of, end_of, IsBlockSize, AreBlocks, insert_block}
+use Rattle.iop_sysmem.specs.Placing.{AreApart, IsFree, ModeTakes}
 use Rattle.iop_sysmem.specs.declared.block.Block.{Block}
 use Rattle.iop_sysmem.specs.declared.blocks.TheConstants.{KERNEL}
 
@@ -270,18 +271,20 @@ taken_is_free map (suc zero) len at place h = h.0
 taken_is_free map (suc (suc zero)) len at place h = h.1
 taken_is_free map (suc (suc (suc mode))) len at place h = absurd h
 
-pub not_at_zero : (map : BlockMap) (len : ℕ) → AreBlocks map → 0 < len → IsFree map len 0 → ⊥
-not_at_zero map len blocks some free = no (free.apart 0 blocks.some)
+-- what has a byte is free behind the kernel's block alone
+pub behind_kernel : (map : BlockMap) (len place : ℕ) → AreBlocks map → 0 < len →
+    IsFree map len place → KERNEL.size ≤ place
+behind_kernel map len place blocks some free = behind (free.apart 0 blocks.some)
   where
-    no : AreApart (block_of map 0) (block_at 0 len) → ⊥
-    no (inl h) = let z = blocks.sizes 0 blocks.some in omega arith
-    no (inr h) =
+    behind : AreApart (block_of map 0) (block_at place len) → KERNEL.size ≤ place
+    behind (inl h) = subst (λ (x : Block). end_of x ≤ place) blocks.kernel h
+    behind (inr h) =
         let e : (block_of map 0).start ≡ 0 = ap (λ (x : Block). x.start) blocks.kernel in
-        omega arith
+        absurd (omega arith)
 
 pub is_positive : (map : BlockMap) (mode size at place : ℕ) → AreBlocks map → 0 < size →
     ModeTakes map mode (block_len size) at place → place ≡ 0 → ⊥
 is_positive map mode size at place blocks some h e =
-    not_at_zero map (block_len size) blocks (omega arith)
-    (subst (λ (n : ℕ). IsFree map (block_len size) n) e
-    (taken_is_free map mode (block_len size) at place h))
+    let free = taken_is_free map mode (block_len size) at place h in
+    let kernel = behind_kernel map (block_len size) place blocks (omega arith) free in
+    omega arith

@@ -1,2 +1,7 @@
 pub mod Walking
 pub mod Changing
+pub mod Multiples
+pub mod Finding
+pub mod MostFree
+pub mod Freed
+pub mod Keeping

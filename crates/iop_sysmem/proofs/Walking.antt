@@ -4,7 +4,8 @@ use mathlib.Core.Logic.{inl, inr}
 use Rattle.std.proofs.lemmas.Bool.{ltb-true, ltb-false}
 use Rattle.std.specs.Ordering.{ord_max, nat_cmp}
 use Rattle.std.proofs.lemmas.Bool.Decides.{nat_tests}
-use Rattle.iop_sysmem.specs.BlockMap.{BlockMap, block_at, no_block, block_of, end_of, AreBlocks, AreApart, IsFree, IsLeastFree, IsMostFree, used_bytes}
+use Rattle.iop_sysmem.specs.BlockMap.{BlockMap, block_at, no_block, block_of, end_of, AreBlocks, used_bytes}
+use Rattle.iop_sysmem.specs.Placing.{AreApart, IsFree, IsLeastFree, IsMostFree}
 use Rattle.iop_sysmem.specs.declared.block.Block.{Block}
 
 -- the first i blocks end at or before the start, and the others begin there or later

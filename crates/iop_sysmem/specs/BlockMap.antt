@@ -1,9 +1,7 @@
--- The blocks of RAM and the services on them (ps2sdk: sysmem.h). That sizes round up to 256 bytes,
--- which
--- place each mode takes, and what the queries answer in free memory is this project's own profile.
-use Rattle.std.specs.Prelude.{ℕ, zero, suc, ◌≡◌, ◌+◌, ◌-◌, ◌%◌, ◌==◌, ◌<◌, ◌≤◌, nat_le, nat_lt, ◌&&◌, if◌then◌else◌, Option, Some, None, option_map, option_and_then, List, [], ◌∷◌, length, slice_index_or, ◌⊎◌}
+-- The blocks of RAM, and what is freed and asked of them (ps2sdk: sysmem.h). That blocks are of whole
+-- units of 256 bytes, and what the queries answer in free memory, is this project's own profile.
+use Rattle.std.specs.Prelude.{ℕ, zero, suc, ◌≡◌, ◌+◌, ◌-◌, ◌%◌, ◌==◌, ◌<◌, ◌≤◌, nat_le, nat_lt, ◌&&◌, if◌then◌else◌, Option, Some, None, option_map, option_and_then, List, [], ◌∷◌, length, slice_index_or}
 use Rattle.std.specs.List.{position, remove}
-use Rattle.iop_base.specs.BlockSizes.{block_len}
 use Rattle.iop_base.specs.Places.{phys}
 use Rattle.iop_base.specs.declared.blocks.TheConstants.{BLOCK_UNIT}
 use Rattle.iop_base.specs.declared.code.Code.{Code}
@@ -49,41 +47,6 @@ pub record AreBlocks (map : BlockMap) : Type 0 where
   pub inside : (i : ℕ) → i < length map.used → end_of (block_of map i) ≤ map.size
   pub sized : map.size % BLOCK_UNIT ≡ 0
 
--- one block ends before the other begins
-abbrev pub AreApart : Block → Block → Type 0
-AreApart x y = (end_of x ≤ y.start) ⊎ (end_of y ≤ x.start)
-
--- so many bytes are free at a place, where a block of them can stand
-pub record IsFree (map : BlockMap) (len place : ℕ) : Type 0 where
-  pub unit : place % BLOCK_UNIT ≡ 0
-  pub fits : place + len ≤ map.size
-  pub apart : (i : ℕ) → i < length map.used → AreApart (block_of map i) (block_at place len)
-
-abbrev pub HasNoFree : BlockMap → ℕ → Type 0
-HasNoFree map len = (place : ℕ) → IsFree map len place → ⊥
-
-abbrev pub IsLeastFree : BlockMap → ℕ → ℕ → Type 0
-IsLeastFree map len place =
-    IsFree map len place × ((other : ℕ) → IsFree map len other → place ≤ other)
-
-abbrev pub IsGreatestFree : BlockMap → ℕ → ℕ → Type 0
-IsGreatestFree map len place =
-    IsFree map len place × ((other : ℕ) → IsFree map len other → other ≤ place)
-
--- the address names this place, which is free
-abbrev pub IsNamedFree : BlockMap → ℕ → ℕ → ℕ → Type 0
-IsNamedFree map len at place = (phys map.size at ≡ Some place) × IsFree map len place
-
--- the place that a mode takes: the least free one, the greatest, or the one that the address names
-abbrev pub ModeTakes : BlockMap → ℕ → ℕ → ℕ → ℕ → Type 0
-ModeTakes map zero len at place = IsLeastFree map len place
-ModeTakes map (suc zero) len at place = IsGreatestFree map len place
-ModeTakes map (suc (suc zero)) len at place = IsNamedFree map len at place
-ModeTakes map (suc (suc (suc mode))) len at place = ⊥
-
-abbrev pub ModeTakesNone : BlockMap → ℕ → ℕ → ℕ → Type 0
-ModeTakesNone map mode len at = (place : ℕ) → ModeTakes map mode len at place → ⊥
-
 -- the blocks with one more, in the order of their starts
 abbrev pub insert_block : Block → List Block → List Block
 insert_block block [] = block ∷ []
@@ -93,15 +56,6 @@ insert_block block (x ∷ xs) =
 -- the map with one more block
 abbrev pub with_block : BlockMap → ℕ → ℕ → BlockMap
 with_block map place len = record map { used = insert_block (block_at place len) map.used }
-
--- what an allocation answers and leaves: 0 and no change exactly where the size is 0 or the mode
--- takes
--- no place
-pub record Allocates (old new : BlockMap) (mode size at answer : ℕ) : Type 0 where
-  pub place : 0 < answer →
-      (0 < size) × ModeTakes old mode (block_len size) at answer
-      × (new ≡ with_block old answer (block_len size))
-  pub none : answer ≡ 0 → (new ≡ old) × (0 < size → ModeTakesNone old mode (block_len size) at)
 
 -- the index, unless it is that of the kernel's block, which is never freed
 abbrev pub unless_kernel : Option ℕ → Option ℕ
@@ -138,12 +92,6 @@ index_holding map place =
 abbrev pub holder : BlockMap → ℕ → Option Block
 holder map at =
     option_map (block_of map) (option_and_then (index_holding map) (phys map.size at))
-
--- the greatest number of bytes that are free at one place
-pub record IsMostFree (map : BlockMap) (len : ℕ) : Type 0 where
-  pub place : ℕ
-  pub free : IsFree map len place
-  pub most : (other at : ℕ) → IsFree map other at → other ≤ len
 
 -- how many bytes are used
 abbrev pub used_bytes : List Block → ℕ

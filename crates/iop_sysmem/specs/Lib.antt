@@ -1,1 +1,4 @@
 pub mod BlockMap
+pub mod Placing
+pub mod Allocating
+pub mod Laws

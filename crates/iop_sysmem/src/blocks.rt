@@ -1,7 +1,9 @@
-ghost use Rattle.std.specs.Prelude.{◌≡◌, ◌+◌, ◌<◌, ◌%◌, ◌==◌, ℕ, IfOk, MatchOption, option_map, unwrap_or, length, [], ◌∷◌};
+ghost use Rattle.std.specs.Prelude.{◌≡◌, ◌<◌, ◌%◌, ◌==◌, ℕ, IfOk, MatchOption, option_map, unwrap_or, [], ◌∷◌};
 ghost use Rattle.iop_base.specs.Places.{phys};
 ghost use Rattle.iop_base.specs.declared.blocks.TheConstants.{BLOCK_UNIT};
-ghost use Rattle.iop_sysmem.specs.BlockMap.{AreBlocks, IsBlockSize, IsFree, HasNoFree, IsLeastFree, IsGreatestFree, IsNamedFree, IsMostFree, ModeTakes, ModeTakesNone, Allocates, with_block, freeing, index_at, index_holding, holder, used_bytes};
+ghost use Rattle.iop_sysmem.specs.BlockMap.{AreBlocks, IsBlockSize, with_block, freeing, index_at, index_holding, holder};
+ghost use Rattle.iop_sysmem.specs.Placing.{IsFree, HasNoFree, IsLeastFree, IsGreatestFree, IsNamedFree, ModeTakes, ModeTakesNone};
+ghost use Rattle.iop_sysmem.specs.Allocating.{allocating, most_free, free_bytes};
 ghost use Rattle.iop_sysmem.specs.declared.blocks.TheConstants.{KERNEL, NOWHERE};
 
 use crate::block::Block;
@@ -165,7 +167,8 @@ impl Blocks {
     /// Answers 0, and changes nothing, exactly where the mode is not 0 to 2, the size is 0, or no
     /// place fits: in mode 2 also where the place is not a multiple of `BLOCK_UNIT`.
     pub fn alloc(&mut self, mode: u32, size: u32, at: u32) -> u32
-        ensures map { Allocates self.old self.new mode size at result }
+        ensures place { result ≡ (allocating self.old mode size at).0 }
+        ensures map { self.new ≡ (allocating self.old mode size at).1 }
         ensures was_blocks { AreBlocks self.old }
         ensures blocks { AreBlocks self.new }
     {
@@ -217,7 +220,7 @@ impl Blocks {
 
     /// Tells the size in bytes of the greatest free range: 0 where none is free.
     pub fn max_free(&self) -> u32
-        ensures most { IsMostFree self.now result }
+        ensures most { result ≡ most_free self.now }
         ensures blocks { AreBlocks self.now }
     {
         let mut most = 0;
@@ -231,7 +234,7 @@ impl Blocks {
 
     /// Counts the bytes that are free in all.
     pub fn total_free(&self) -> u32
-        ensures free { result + used_bytes self.now.used ≡ self.now.size }
+        ensures free { result ≡ free_bytes self.now }
         ensures blocks { AreBlocks self.now }
     {
         let mut free = 0;

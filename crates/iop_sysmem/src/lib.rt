@@ -4,6 +4,7 @@
 
 mod block;
 mod blocks;
+pub mod laws;
 #[cfg(test)]
 mod tests;
 

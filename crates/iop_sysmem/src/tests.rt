@@ -1,4 +1,4 @@
-use crate::Blocks;
+use crate::{Blocks, laws};
 use iop_base::Code;
 use std::test::Fail;
 
@@ -24,4 +24,11 @@ fn blocks_are_given_and_freed(rt: HostRuntime) -> Result<(), Fail> {
     assert_eq!(rt; blocks.top(0x2_0000), 0xFFFF_FFFF);
     assert_eq!(rt; blocks.size(), 0x20_0000);
     Ok(())
+}
+
+#[test]
+fn laws_hold() {
+    laws::allocations_take_places();
+    laws::most_free_is_most();
+    laws::allocations_are_freed();
 }

@@ -18,7 +18,7 @@ ghost use Rattle.irx_build.specs.Building.{file_or_refusal};
 use anyhow::{Result, bail, ensure};
 use iop_asm::assemble;
 use iop_disasm::listing;
-use iop_modload::{FIRST_BASE, LONGEST_FILE, most_bytes, relocate_file};
+use iop_modload::{LONGEST_FILE, ModuleFile};
 use iop_ports::StreamSink;
 use iop_ram::Ram;
 use irx_build::build;
@@ -28,6 +28,9 @@ use std::{env, fs, str};
 
 /// How many bytes of memory this command works in: 2 MiB.
 const MEMORY_SIZE: u32 = 0x20_0000;
+
+/// The address where the first module is loaded.
+const FIRST_BASE: u32 = 0x1_0000;
 
 /// The most bytes that a raw file may have.
 const LONGEST_RAW: u32 = 65_536;
@@ -55,11 +58,13 @@ fn read_file(rt: &HostRuntime, name: &str, most: u32) -> Result<Vec<u8>>
 /// Writes the image of an IRX file, relocated for an address.
 fn write_image(rt: &HostRuntime, name: &str, base: u32) -> Result<()> {
     let file = read_file(rt, name, LONGEST_FILE)?;
-    let mut room = vec![in rt.alloc(); 0; most_bytes(MEMORY_SIZE) as usize]?;
-    match relocate_file(&file, base, &mut room) {
-        Ok(image) => rt.stdout().write_all(image.bytes)?,
+    let module_file = match ModuleFile::parse(&file) {
+        Ok(module_file) => module_file,
         Err(code) => bail!("{name} is refused with {}", code.0),
-    }
+    };
+    let mut image = vec![in rt.alloc(); 0; module_file.length() as usize]?;
+    module_file.write_image(&mut image, base);
+    rt.stdout().write_all(&image)?;
     Ok(())
 }
 

@@ -1,6 +1,6 @@
 use Rattle.std.proofs.Common.{sym, ◌∙◌, subst}
 use Rattle.iop_front.specs.Answers.{outside}
-use Rattle.iop_front.specs.Statuses.{IsRefusalCode, IsExitCode, IsCutCode}
+use Rattle.iop_front.specs.Statuses.{IsRunCode, IsRefusalCode, IsExitCode, IsCutCode}
 use Rattle.iop_front.proofs.CauseLemmas as causes
 use Rattle.iop_front.proofs.command.iop_main.Goals as goal
 
@@ -31,24 +31,26 @@ returns-clause-unread_shows g c =
 
 pub returns-clause-unread_line : goal.returns-clause-unread_line
 returns-clause-unread_line g c =
-    λ name named e. causes.unread_line c.answer.ensures.answers name named (sym c.code.ensures ∙ e)
+    λ names named e.
+    causes.unread_line c.answer.ensures.answers names named (sym c.code.ensures ∙ e)
 
 pub returns-clause-read : goal.returns-clause-read
-returns-clause-read g c = causes.files_read c.answer.ensures.answers
+returns-clause-read g c = causes.opened_first c.answer.ensures.answers
 
-pub returns-clause-asked : goal.returns-clause-asked
-returns-clause-asked g c = λ e. causes.asked c.answer.ensures.answers (sym c.code.ensures ∙ e)
+pub returns-clause-read_all : goal.returns-clause-read_all
+returns-clause-read_all g c = λ names named run.
+    causes.opened_all c.answer.ensures.answers names named (subst IsRunCode c.code.ensures run)
 
 pub returns-clause-no_stray : goal.returns-clause-no_stray
-returns-clause-no_stray g c = causes.no_stray c.answer.ensures.answers
+returns-clause-no_stray g c = causes.no_strays c.answer.ensures.answers
 
 pub returns-clause-too_long_line : goal.returns-clause-too_long_line
-returns-clause-too_long_line g c = λ name named e.
+returns-clause-too_long_line g c = λ names named e.
     let seen = outside g.F.Files.told g.F.Files.faults g.C.Sink.told g.T.Sink.told in
     causes.too_long_told
     {old = seen c.args.files.now c.args.console.now c.args.trace.now}
     {new = seen c.answer.new.files c.answer.new.console c.answer.new.trace}
-    c.answer.ensures.answers name named (sym c.code.ensures ∙ e)
+    c.answer.ensures.answers names named (sym c.code.ensures ∙ e)
 
 pub returns-clause-cut : goal.returns-clause-cut
 returns-clause-cut g c = λ e. causes.cut_cause c.answer.ensures.answers (sym c.code.ensures ∙ e)

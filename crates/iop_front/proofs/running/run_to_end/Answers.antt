@@ -4,7 +4,8 @@ use Rattle.iop_base.specs.declared.line.Line.TheVariants.{End}
 use Rattle.iop_machine.specs.World.{World}
 use Rattle.iop_trace.specs.Outs.{sinks}
 use Rattle.iop_front.specs.declared.limits.TheConstants.{BUDGET}
-use Rattle.iop_front.proofs.RunLemmas.{sent_leaves, cut_run, whole_run}
+use Rattle.iop_front.proofs.RunLemmas.{cut_run, whole_run}
+use Rattle.iop_front.proofs.SendingLemmas.{sent_leaves}
 use Rattle.iop_front.proofs.running.run_to_end.Goals as goal
 
 pub returns-in-Ok : goal.returns-in-Ok

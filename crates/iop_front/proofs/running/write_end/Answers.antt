@@ -1,5 +1,5 @@
 use Rattle.std.proofs.Common.{true, false, refl, ◌∙◌}
-use Rattle.iop_front.proofs.RunLemmas.{sent_as}
+use Rattle.iop_front.proofs.SendingLemmas.{sent_as}
 use Rattle.iop_front.proofs.running.write_end.Goals as goal
 
 pub returns-then-send : goal.returns-then-send

@@ -26,6 +26,6 @@ returns-in_default g c =
     } in
     let held = g.L.Lines.output c.args.lines.now in
     record {
-      answer = other_serves sight c.args.blocks.now c.args.registry.now c.args.service other;
+      answer = sym (other_serves sight c.args.blocks.now c.args.registry.now c.args.service other);
       lines = subst (Gives held held) (sym (other_prints sight c.args.service other)) (gives_none held);
     }

@@ -20,7 +20,7 @@ returns-in-Running g c =
 
 pub returns-in-Ready : goal.returns-in-Ready
 returns-in-Ready g c =
-    let m = c.in-Ready.loaded in
+    let m = c.in-Ready.begun in
     let ready = subst (λ (s : Iop). s.loader ≡ Ready m) c.self.view_is c.in-Ready.is in
     let runs = ap (λ (s : Iop). record s { loader = Running m }) c.self.view_is in
     one_step c.requires.well (next_ready c.args.self.now c.args.budget m c.requires.goes_on ready)

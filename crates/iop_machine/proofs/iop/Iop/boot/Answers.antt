@@ -1,16 +1,16 @@
-use Rattle.std.proofs.Common.{ap, Ok, Err}
-use Rattle.iop_machine.specs.Modules.{given_of, module_of}
-use Rattle.iop_machine.proofs.LoadingLemmas.{booted_as}
+use Rattle.std.proofs.Common.{◌∙◌, length, ap, sym}
+use Rattle.iop_machine.specs.Iop.{Iop}
+use Rattle.iop_machine.proofs.LoadingLemmas.{boots_takes}
 use Rattle.iop_machine.proofs.iop.Iop.boot.Goals as goal
 
-pub returns-in-Ok : goal.returns-in-Ok
-returns-in-Ok g c =
-    booted_as (Ok (module_of c.in-Ok.loadable)) (given_of c.args.given)
-    c.write_kernel_area.new.guest c.self.view_is (ap given_of c.in-Ok.is)
-    c.write_kernel_area.ensures.memory c.write_kernel_area.ensures.lines c.load.ensures
+pub load_first-requires : goal.load_first-requires
+load_first-requires g c = record {
+  same_size = ap (λ (s : Iop). s.blocks.size) c.self.view_is ∙ c.requires.same_size
+      ∙ ap (λ (s : Iop). length s.memory.ram) (sym c.self.view_is)
+      ∙ sym c.write_kernel_area.ensures.same_size;
+}
 
-pub returns-in-Err : goal.returns-in-Err
-returns-in-Err g c =
-    booted_as (Err c.in-Err.code) (given_of c.args.given) c.write_kernel_area.new.guest
-    c.self.view_is (ap given_of c.in-Err.is)
-    c.write_kernel_area.ensures.memory c.write_kernel_area.ensures.lines c.refuse.ensures
+pub returns : goal.returns
+returns g c =
+    boots_takes c.write_kernel_area.new.guest c.self.view_is c.write_kernel_area.ensures.memory
+    c.write_kernel_area.ensures.lines c.load_first.ensures

@@ -1,15 +1,25 @@
-use Rattle.std.proofs.Common.{ap, sym}
-use Rattle.iop_base.specs.declared.line.Line.TheVariants.{Returned}
-use Rattle.iop_machine.specs.Services.{rests}
-use Rattle.iop_machine.proofs.LoadingLemmas.{returned_as}
-use Rattle.iop_machine.proofs.Taking.{takes_to, tells_takes}
+use Rattle.std.proofs.Common.{◌∙◌, ap, arith}
+use Rattle.iop_machine.specs.Iop.{Iop}
+use Rattle.iop_machine.proofs.ServiceLemmas.{returns_takes, clock_left, runs_on_as}
+use Rattle.iop_machine.proofs.Taking.{takes_to}
 use Rattle.iop_machine.proofs.iop.Iop.finish.Goals as goal
+
+pub overflow_add-self : goal.overflow_add-self
+overflow_add-self g c =
+    let time = c.requires.time in
+    let clock = ap (λ (s : Iop). s.clock) c.self-2.view_is
+    ∙ clock_left c.self.view_is c.finish.new.guest c.finish.new.blocks c.finish.new.registry
+    c.load_first.ensures in
+    omega (arith, time, clock)
 
 pub returns : goal.returns
 returns g c =
-    let kept = c.of_value-kept.result in
-    let line = tells_takes (Returned c.args.loaded.number c.args.value kept) c.self.view_is
-    c.line.ensures in
-    takes_to (sym (ap rests c.self-2.view_is))
-    (returned_as c.args.self.now c.args.loaded c.args.value kept c.of_value-kept.ensures line
-    c.remove_unless_kept.ensures)
+    let taken = returns_takes c.self.view_is c.finish.new.guest c.finish.new.blocks
+    c.finish.new.registry c.load_first.ensures c.args.begun c.args.value (
+      c.finish.ensures.memory,
+      c.finish.ensures.blocks,
+      c.finish.ensures.libraries,
+      c.finish.ensures.lines,
+    ) in
+    takes_to (runs_on_as c.running_on-self-inside.result c.self-2.view_is
+    c.running_on-self-inside.ensures) taken

@@ -1,10 +1,9 @@
-use Rattle.std.proofs.Common.{refl, ap, sym, ◌∙◌, ◌≡◌, None, Some, subst}
-use Rattle.std.specs.Prelude.{option_map}
+use Rattle.std.proofs.Common.{◌≡◌, ◌∙◌, Bool, true, Some, None, refl, ap, sym, subst}
 use Rattle.iop_base.proofs.Giving.{gives_none}
-use Rattle.iop_machine.specs.Modules.{given_of}
+use Rattle.iop_machine.specs.Laws.{IsMachine}
 use Rattle.iop_machine.specs.Loading.{boots}
 use Rattle.iop_machine.specs.World.{World, booted}
-use Rattle.iop_machine.proofs.Advancing.{progresses_as}
+use Rattle.iop_machine.proofs.MachineLemmas.{advanced_machine, progressed_machine}
 use Rattle.iop_machine.proofs.Reaching.{one_step}
 use Rattle.iop_machine.proofs.Stepping.{stop_over, next_boots}
 use Rattle.iop_machine.proofs.Taking.{takes_with, takes_as}
@@ -16,21 +15,21 @@ returns-in-Some g c =
     (sym c.stop.ensures ∙ c.in-Some.is) in
     (stop_over c.args.self.now c.args.budget c.in-Some.stop over, refl, gives_none _)
 
-pub returns-in-Some-waiting : goal.returns-in-Some-waiting
-returns-in-Some-waiting g c =
-    let m = given_of c.in-Some-waiting.given in
-    let waits = subst (λ (w : World). w.waiting ≡ Some m) c.self.view_is
-    (ap (option_map given_of) c.in-Some-waiting.is) in
+pub returns-then-self : goal.returns-then-self
+returns-then-self g c =
     let over = subst (λ (w : World). w.iop.over ≡ None) c.self.view_is
     (sym c.stop.ensures ∙ c.in_default.is) in
-    one_step c.requires.well (next_boots c.args.self.now c.args.budget m over waits)
-    (takes_with (takes_as (ap (λ (w : World). boots w.iop m) c.self.view_is) c.boot.ensures) booted)
+    let is_new = subst (λ (w : World). w.is_new ≡ true) c.self.view_is c.if-self.true in
+    one_step c.requires.well (next_boots c.args.self.now c.args.budget over is_new)
+    (takes_with (takes_as (ap (λ (w : World). boots w.iop) c.self.view_is) c.boot.ensures) booted)
 
-pub returns-in-None : goal.returns-in-None
-returns-in-None g c =
-    progresses_as c.advance.result c.args.budget _ _
-    (ap (λ o. record { waiting = option_map given_of o; iop = c.self.inside.iop })
-    (sym c.in-None.is) ∙ c.self.view_is)
-    (ap (λ o. record { waiting = option_map given_of o; iop = c.advance.new.self })
-    (sym c.in-None.is))
-    c.advance.ensures
+pub invariant_of-self : goal.invariant_of-self
+invariant_of-self g c =
+    advanced_machine (subst IsMachine c.self.view_is c.self.invariant) (returns-then-self g c).1
+
+pub invariant_of-self-else-self : goal.invariant_of-self-else-self
+invariant_of-self-else-self g c =
+    let iop = λ (is_new : Bool). IsMachine (record { is_new = is_new; iop = c.advance.new.self }) in
+    subst iop (sym c.if-self.false) (progressed_machine c.advance.result _ _ _ _ _
+    (subst (λ (is_new : Bool). IsMachine (record { is_new = is_new; iop = c.self.inside.iop }))
+    c.if-self.false c.self.invariant) c.advance.ensures)

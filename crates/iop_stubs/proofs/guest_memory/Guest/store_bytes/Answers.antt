@@ -18,7 +18,10 @@ new g c =
     c.in_ok-place.place
     (length c.args.bytes.now) c.args.bytes.now c.in_ok-place.ensures.memory c.end_in.ensures.live
     refl
-    c.in_ok-place.ensures.inside (λ k d below. rw (get_or_default c.args.bytes.now k d 0 below) (omega (arith, c.type_inv.bytes k))) c.self.invariant
+    c.in_ok-place.ensures.inside
+    (λ k d below. rw (get_or_default c.args.bytes.now k d 0 below)
+    (omega (arith, c.type_inv.bytes k)))
+    c.self.invariant
 
 pub invariant_of-self-2 : goal.invariant_of-self-2
 invariant_of-self-2 g c = new g c

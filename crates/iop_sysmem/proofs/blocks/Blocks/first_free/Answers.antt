@@ -1,5 +1,6 @@
 use Rattle.std.proofs.Common.{subst, arith}
-use Rattle.iop_sysmem.specs.BlockMap.{BlockMap, IsLeastFree}
+use Rattle.iop_sysmem.specs.BlockMap.{BlockMap}
+use Rattle.iop_sysmem.specs.Placing.{IsLeastFree}
 use Rattle.iop_sysmem.proofs.Walking.{moves, past, least, end_is_short, same_map}
 use Rattle.iop_sysmem.proofs.blocks.Blocks.first_free.Goals as goal
 

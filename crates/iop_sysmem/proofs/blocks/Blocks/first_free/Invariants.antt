@@ -1,5 +1,5 @@
 use Rattle.std.proofs.Common.{ℕ, ◌≤◌}
-use Rattle.iop_sysmem.specs.BlockMap.{IsFree}
+use Rattle.iop_sysmem.specs.Placing.{IsFree}
 use Rattle.iop_sysmem.proofs.Walking.{Walk}
 use Rattle.iop_sysmem.proofs.blocks.Blocks.first_free.Given as goal
 

@@ -1,26 +1,19 @@
-use Rattle.std.proofs.Common.{refl, arith, rules}
-use Rattle.iop_sysmem.specs.BlockMap.{BlockMap, no_block, AreBlocks}
-use Rattle.iop_sysmem.proofs.Changing.{IsWithout, blocks_without}
+use Rattle.std.proofs.Common.{◌<◌, length, sym, subst, arith, rules, List}
+use Rattle.iop_sysmem.specs.BlockMap.{BlockMap, AreBlocks}
+use Rattle.iop_sysmem.specs.declared.block.Block.{Block}
+use Rattle.iop_sysmem.proofs.Keeping.{without_block-blocks}
 use Rattle.iop_sysmem.proofs.blocks.Blocks.free.Goals as goal
 
-abbrev old : goal.After-remove → BlockMap
-old c = record { size = c.self.inside.size; used = c.self.inside.used.items }
+abbrev with_used : goal.After-remove → List Block → BlockMap
+with_used c used = record { size = c.self.inside.size; used = used }
 
-abbrev new : goal.After-remove → BlockMap
-new c = record { size = c.self.inside.size; used = c.remove.new.self.items }
-
-without : (c : goal.After-remove) → IsWithout (old c) (new c) c.in-Some-index_of.index
-without c = record {
-  same_size = refl;
-  shorter = search rules;
-  some = search rules;
-  in_list = search rules;
-  below = λ k h. c.remove.ensures.by_index.0 k no_block h;
-  above = λ k h. c.remove.ensures.by_index.1 k no_block h;
-}
-
-blocks : (c : goal.After-remove) → AreBlocks (new c)
-blocks c = blocks_without (old c) (new c) c.self.invariant.0 c.in-Some-index_of.index (without c)
+blocks : (c : goal.After-remove) → AreBlocks (with_used c c.remove.new.self.items)
+blocks c =
+    let old : BlockMap = with_used c c.self.inside.used.items in
+    let some : 0 < c.in-Some-index_of.index = search rules in
+    let in_list : c.in-Some-index_of.index < length old.used = search rules in
+    subst (λ (used : List Block). AreBlocks (with_used c used)) (sym c.remove.ensures.items)
+    (without_block-blocks old c.self.invariant.0 _ some in_list)
 
 pub invariant_of-self : goal.invariant_of-self
 invariant_of-self c = (

@@ -1,6 +1,8 @@
 use Rattle.std.proofs.Common.{subst, arith}
-use Rattle.iop_sysmem.specs.BlockMap.{BlockMap, IsMostFree}
+use Rattle.iop_sysmem.specs.BlockMap.{BlockMap, AreBlocks}
+use Rattle.iop_sysmem.specs.Placing.{IsMostFree}
 use Rattle.iop_sysmem.proofs.Walking.{moves, more_here, more_last, max_is, same_map}
+use Rattle.iop_sysmem.proofs.MostFree.{most_free-is}
 use Rattle.iop_sysmem.proofs.blocks.Blocks.max_free.Goals as goal
 
 pub loop-next-preserved : goal.loop-next-preserved
@@ -13,7 +15,9 @@ loop-next-preserved c = (
 
 pub returns-clause-most : goal.returns-clause-most
 returns-clause-most c =
-    subst (λ (m : BlockMap). IsMostFree m c.max.result)
+    most_free-is c.args.self.now
+    (subst AreBlocks c.self.view_is c.self.invariant.0) _
+    (subst (λ (m : BlockMap). IsMostFree m c.max.result)
     (same_map _ _ _ _ c.deref-next-items.ensures.value c.self.view_is)
     (more_last _ _ _ c.loop-next.invariant.0 _ c.loop-next.invariant.1
-    (omega (arith, c.loop-next-test.false)) c.max.result c.max.ensures)
+    (omega (arith, c.loop-next-test.false)) c.max.result c.max.ensures))

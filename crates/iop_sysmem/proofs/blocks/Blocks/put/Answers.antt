@@ -1,9 +1,11 @@
-use Rattle.std.proofs.Common.{◌<◌, ◌≤◌, sym, subst, arith, rules, refl, length, ◌∙◌, ap}
+use Rattle.std.proofs.Common.{◌≡◌, ◌<◌, ◌≤◌, sym, subst, arith, length, ◌∙◌, ap}
 use Rattle.std.specs.Prelude.{IsOk}
 use Rattle.std.proofs.lemmas.List.{get_or_default}
-use Rattle.iop_sysmem.specs.BlockMap.{BlockMap, no_block, block_of, AreBlocks, IsFree}
+use Rattle.iop_sysmem.specs.BlockMap.{BlockMap, no_block, block_of, AreBlocks, with_block}
+use Rattle.iop_sysmem.specs.Placing.{IsFree}
 use Rattle.iop_sysmem.specs.declared.block.Block.{Block}
-use Rattle.iop_sysmem.proofs.Changing.{CanStand, IsWith, blocks_with, with_index, room}
+use Rattle.iop_sysmem.proofs.Changing.{CanStand, with_index, room}
+use Rattle.iop_sysmem.proofs.Keeping.{with_block-blocks}
 use Rattle.iop_sysmem.proofs.blocks.Blocks.put.Goals.{then-loop-index-test+else-index-place, else-loop-index-test}
 use Rattle.iop_sysmem.proofs.blocks.Blocks.put.Goals as goal
 
@@ -43,20 +45,18 @@ is_put c =
     room (old c) c.self.invariant.0 c.loop-index.index c.args.place c.args.len (stands c) in
     c.insert.ensures.succeeds (omega (arith, fits, c.self.invariant.2, c.self.inside.used.ok))
 
-is_with : (c : goal.After-insert) →
-    IsWith (old c) (new c) c.loop-index.index c.args.place c.args.len
-is_with c = record {
-  same_size = refl;
-  longer = let h = is_put c in search rules;
-  at = c.insert.ensures.by_index.0 no_block (is_put c);
-  below = λ k h. c.insert.ensures.by_index.1 k no_block h;
-  above = λ k h. c.insert.ensures.by_index.2 k no_block (is_put c) h;
-}
+-- the ranges in the field with the new one are those of the map with it
+is_with : (c : goal.After-insert) → new c ≡ with_block (old c) c.args.place c.args.len
+is_with c =
+    let is =
+    with_index (old c) c.self.invariant.0 c.loop-index.index c.args.place c.args.len
+    (stands c) in
+    grind (arith, is, c.insert.ensures.items, is_put c)
 
 blocks : (c : goal.After-insert) → AreBlocks (new c)
 blocks c =
-    blocks_with (old c) (new c) c.self.invariant.0 c.loop-index.index c.args.place c.args.len
-    (stands c) (is_with c)
+    subst AreBlocks (sym (is_with c)) (with_block-blocks (old c) c.self.invariant.0 c.args.place
+    c.args.len (stands c).free c.requires.size)
 
 pub invariant_of-self : goal.invariant_of-self
 invariant_of-self c = (
@@ -69,8 +69,4 @@ pub returns-clause-blocks : goal.returns-clause-blocks
 returns-clause-blocks c = blocks c
 
 pub returns-clause-map : goal.returns-clause-map
-returns-clause-map c =
-    let is =
-    with_index (old c) c.self.invariant.0 c.loop-index.index c.args.place c.args.len
-    (stands c) in
-    grind (arith, is, c.insert.ensures.items, is_put c, c.self.view_is)
+returns-clause-map c = is_with c ∙ ap (λ m. with_block m c.args.place c.args.len) c.self.view_is

@@ -1,0 +1,209 @@
+-- From the reading of one file to that of many.
+use Rattle.std.proofs.Common.{◌≡◌, ℕ, suc, ◌+◌, ◌<◌, nat_lt, true, cond, Option, Some, None, Ok, Err, List}
+use Rattle.std.proofs.Common.{[], ◌∷◌, ◌++◌, All, get_or, length, map, take, drop, refl, ap, sym, ◌∙◌, subst}
+use Rattle.std.proofs.Common.{arith}
+use Rattle.std.specs.Option.{option_or}
+use Rattle.std.proofs.lemmas.Bool.{lt-ltb}
+use Rattle.std.proofs.lemmas.Bool.Decides.{nat_tests}
+use Rattle.std.proofs.lemmas.List.{append_assoc, map-append, take-append-drop, take_more}
+use Rattle.std.proofs.lemmas.List.Folds.{find-append}
+use Rattle.std.proofs.Math.Seq.{drop-cons}
+use Rattle.iop_base.specs.Counts.{HasCause}
+use Rattle.iop_base.proofs.Lists.{find-none}
+use Rattle.iop_machine.specs.Modules.{NamedFile}
+use Rattle.iop_modload.specs.declared.limits.TheConstants.{LONGEST_FILE}
+use Rattle.iop_ports.specs.Files.{FilesTold}
+use Rattle.iop_ports.specs.declared.ports.Failed.{Failed}
+use Rattle.iop_front.specs.Answers.{FilesRead, AreFilesOf}
+use Rattle.iop_front.specs.Modules.{Seen, HasTaken, HasStopped, HasStoppedUnread, HasStoppedTooLong, IsShort}
+use Rattle.iop_front.specs.Outcome.{OpensAndReads, none, more, read_limit, first_too_long}
+use Rattle.iop_front.specs.Reading.{HasRead, file_named, opened_with, left_after}
+use Rattle.iop_front.specs.declared.unread.Unread.{Unread}
+use Rattle.iop_front.specs.declared.unread.Unread.TheVariants.{Unreadable, TooLong, NoMemory}
+use Rattle.iop_front.proofs.OpeningLemmas.{read_none, read-append, are_files-append}
+
+-- no file is too long
+pub none_too_long : (files : List NamedFile) → All IsShort files → first_too_long files ≡ None
+none_too_long files h =
+    find-none (λ (named : NamedFile). nat_lt LONGEST_FILE (length named.file)) files
+    (λ k d within. let short = (h k d within).file in grind (arith, nat_tests, short))
+
+pub takes-append : (xs ys : List (List ℕ)) (files others : List NamedFile)
+    (old between new : Seen) → All IsShort files → HasTaken xs files old between
+    → HasTaken ys others between new → HasTaken (xs ++ ys) (files ++ others) old new
+takes-append xs ys files others old between new short h k = record {
+  are_files =
+      are_files-append xs ys files old.faults others old.told between.told h.are_files h.read
+      k.are_files;
+  read = read-append xs ys files old.faults old.told between.told new.told h.are_files short
+      h.read (subst (λ n. FilesRead ys n between.told new.told) h.no_fault k.read);
+  no_fault = k.no_fault ∙ h.no_fault;
+}
+
+no_files : (told : Option FilesTold) → AreFilesOf [] [] told
+no_files None = refl
+no_files (Some files) = refl
+
+pub takes_none : (seen : Seen) → HasTaken [] [] seen seen
+takes_none seen = record {
+  are_files = no_files seen.told;
+  read = read_none seen.faults seen.told;
+  no_fault = refl;
+}
+
+-- there is no memory for the modules behind those that were read
+pub stops_short : (names xs left : List (List ℕ)) (files : List NamedFile) (old new : Seen)
+    → names ≡ xs ++ left → HasTaken xs files old new → HasStopped names NoMemory old new
+stops_short names xs left files old new e h = record {
+  opened = xs;
+  left = left;
+  are_names = e;
+  read = h.read;
+  no_fault = h.no_fault;
+}
+
+-- behind modules that were read, and before others
+within : (xs opened left zs : List (List ℕ))
+    → xs ++ (opened ++ left ++ zs) ≡ xs ++ opened ++ (left ++ zs)
+within xs opened left zs =
+    ap (λ t. xs ++ t) (append_assoc opened left zs) ∙ sym (append_assoc xs opened (left ++ zs))
+
+module _ (names xs ys zs : List (List ℕ)) (files : List NamedFile) (old between new : Seen)
+    (e : names ≡ xs ++ (ys ++ zs)) (taken : HasTaken xs files old between)
+    (short : All IsShort files) where
+  are_names : (opened left : List (List ℕ)) → ys ≡ opened ++ left
+      → names ≡ xs ++ opened ++ (left ++ zs)
+  are_names opened left s = e ∙ ap (λ t. xs ++ (t ++ zs)) s ∙ within xs opened left zs
+
+  read_then : (opened : List (List ℕ)) → FilesRead opened between.faults between.told new.told
+      → FilesRead (xs ++ opened) old.faults old.told new.told
+  read_then opened h =
+      read-append xs opened files old.faults old.told between.told new.told taken.are_files
+      short taken.read (subst (λ n. FilesRead opened n between.told new.told) taken.no_fault h)
+
+  pub stops_behind : (unread : Unread) → HasStopped ys unread between new
+      → HasStopped names unread old new
+  stops_behind (Unreadable word) h = record {
+    before = xs ++ h.before;
+    left = h.left ++ zs;
+    are_names = are_names h.before (word.text.now ∷ h.left) h.are_names;
+    read = subst (λ opened. FilesRead opened old.faults old.told new.told)
+        (sym (append_assoc xs h.before (word.text.now ∷ [])))
+        (read_then (h.before ++ word.text.now ∷ []) h.read);
+    cause = subst (λ n. HasCause n new.faults) taken.no_fault h.cause;
+  }
+  stops_behind (TooLong word) h = record {
+    opened = xs ++ h.opened;
+    left = h.left ++ zs;
+    are_names = are_names h.opened h.left h.are_names;
+    files = files ++ h.files;
+    file = h.file;
+    taken = takes-append xs h.opened files h.files old between new short taken h.taken;
+    decides =
+        find-append (λ (named : NamedFile). nat_lt LONGEST_FILE (length named.file)) files h.files
+        ∙ ap (λ o. option_or o (first_too_long h.files)) (none_too_long files short) ∙ h.decides;
+  }
+  stops_behind NoMemory h = record {
+    opened = xs ++ h.opened;
+    left = h.left ++ zs;
+    are_names = are_names h.opened h.left h.are_names;
+    read = read_then h.opened h.read;
+    no_fault = h.no_fault ∙ taken.no_fault;
+  }
+
+-- one file was opened, and read as far as there was room
+module _ (name : List ℕ) (room faults : ℕ) (limit : room ≡ read_limit) where
+  opened_alone : (files after : FilesTold) (new : Option FilesTold)
+      → OpensAndReads name faults files after → new ≡ Some after
+      → FilesRead (name ∷ []) faults (Some files) new
+  opened_alone files after new h e =
+      subst (FilesRead (name ∷ []) faults (Some files)) (sym e) (more h tt none)
+
+  is_file : (len : ℕ) (bytes : List ℕ) (old new : Option FilesTold)
+      → HasRead name room faults (Ok len) bytes old new
+      → AreFilesOf (name ∷ []) (record { name = name; file = take len bytes } ∷ []) old
+  is_file len bytes None new h = refl
+  is_file len bytes (Some files) new h =
+      ap (λ file. record { name = name; file = file } ∷ [])
+      (h.1 ∙ ap (λ n. take n (file_named files name)) limit)
+
+  file_read : (len : ℕ) (bytes : List ℕ) (old new : Option FilesTold)
+      → HasRead name room faults (Ok len) bytes old new → FilesRead (name ∷ []) faults old new
+  file_read len bytes None new h = h
+  file_read len bytes (Some files) new h =
+      opened_alone files
+      (opened_with name true faults (drop room (file_named files name)) files) new
+      (record { opens = true; taken = room; within = omega (arith, limit); files = refl }) h.2
+
+  file_unread : (failed : Failed) (bytes : List ℕ) (old new : Option FilesTold)
+      → HasRead name room faults (Err failed) bytes old new → FilesRead (name ∷ []) faults old new
+  file_unread failed bytes None new h = h
+  file_unread failed bytes (Some files) new h =
+      opened_alone files
+      (opened_with name h.0 faults (left_after name h.0 h.1 files) files) new
+      (record {
+        opens = h.0;
+        taken = h.1;
+        within = omega (arith, limit, h.2);
+        files = refl;
+      }) h.3
+
+pub takes_one : (name bytes : List ℕ) (room len : ℕ) (old new : Seen) → room ≡ read_limit
+    → HasRead name room old.faults (Ok len) bytes old.told new.told → new.faults ≡ old.faults
+    → HasTaken (name ∷ []) (record { name = name; file = take len bytes } ∷ []) old new
+takes_one name bytes room len old new limit h same = record {
+  are_files = is_file name room old.faults limit len bytes old.told new.told h;
+  read = file_read name room old.faults limit len bytes old.told new.told h;
+  no_fault = same;
+}
+
+pub stops_unread : (name bytes : List ℕ) (room : ℕ) (failed : Failed) (old new : Seen)
+    → room ≡ read_limit
+    → HasRead name room old.faults (Err failed) bytes old.told new.told
+    → HasCause old.faults new.faults → HasStoppedUnread (name ∷ []) name old new
+stops_unread name bytes room failed old new limit h cause = record {
+  before = [];
+  left = [];
+  are_names = refl;
+  read = file_unread name room old.faults limit failed bytes old.told new.told h;
+  cause = cause;
+}
+
+pub stops_too_long : (name file : List ℕ) (old new : Seen) → LONGEST_FILE < length file
+    → HasTaken (name ∷ []) (record { name = name; file = file } ∷ []) old new
+    → HasStoppedTooLong (name ∷ []) name old new
+stops_too_long name file old new long h = record {
+  opened = name ∷ [];
+  left = [];
+  are_names = refl;
+  files = record { name = name; file = file } ∷ [];
+  file = file;
+  taken = h;
+  decides =
+      let one : NamedFile = record { name = name; file = file } in
+      ap (λ b. cond b (Some one) None) (lt-ltb LONGEST_FILE (length file) long);
+}
+
+-- the names before one, it, and those behind it
+module _ {S : Type 0} (bytes : S → List ℕ) (texts : List S) (index : ℕ) (text : S)
+    (name : List ℕ) (is : name ≡ bytes text) where
+  pub split_text : index < length texts → text ≡ get_or texts index text
+      → map bytes texts
+      ≡ map bytes (take index texts) ++ (name ∷ [] ++ map bytes (drop (suc index) texts))
+  split_text within is_item =
+      let front = take index texts in
+      let back = drop (suc index) texts in
+      let cut : drop index texts ≡ text ∷ back =
+      drop-cons texts index text within
+      ∙ ap (λ t. t ∷ back) (sym is_item) in
+      ap (map bytes) (sym (take-append-drop index texts) ∙ ap (λ t. front ++ t) cut)
+      ∙ map-append bytes front (text ∷ back)
+      ∙ ap (λ n. map bytes front ++ n ∷ map bytes back) (sym is)
+
+  pub take_text : index < length texts → text ≡ get_or texts index text
+      → map bytes (take (index + 1) texts) ≡ map bytes (take index texts) ++ name ∷ []
+  take_text within is_item =
+      let front = take index texts in
+      ap (map bytes)
+      (take_more texts index text within ∙ ap (λ t. front ++ t ∷ []) (sym is_item))
+      ∙ map-append bytes front (text ∷ []) ∙ ap (λ n. map bytes front ++ n ∷ []) (sym is)

@@ -1,0 +1,15 @@
+-- What the law of the ready lists says.
+use Rattle.std.specs.Prelude.{◌≡◌, ℕ, List, [], ◌∷◌, ◌++◌}
+use Rattle.iop_ready.specs.declared.entry.Entry.{Entry}
+use Rattle.iop_ready.specs.ReadyList.{CanEnter, without, rotated, best_slot, StandsFor}
+
+-- what two lists that stand for one another have in common, and that every change keeps
+pub record Agree (xs ys : List Entry) : Type 0 where
+  pub best : best_slot xs ≡ best_slot ys
+  pub remove : (slot : ℕ) → StandsFor (without slot xs) (without slot ys)
+  pub rotate : (priority : ℕ) → StandsFor (rotated priority xs) (rotated priority ys)
+  pub add_last : (e : Entry) → CanEnter e xs → StandsFor (xs ++ e ∷ []) (ys ++ e ∷ [])
+  pub add_first : (e : Entry) → CanEnter e xs → StandsFor (e ∷ xs) (e ∷ ys)
+
+abbrev pub ReadyListsAgree : Type 0
+ReadyListsAgree = (xs ys : List Entry) → StandsFor xs ys → Agree xs ys
