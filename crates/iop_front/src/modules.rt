@@ -61,6 +61,7 @@ fn read_module<'a, F: Files>(
 
 /// Reads the modules that these words name, in order. The first that cannot be read or is too long
 /// decides, and no later file is opened. Nor is one where there is no memory.
+#[inline(never)]
 pub(crate) fn read_modules<'a, F: Files>(
     alloc: Global,
     words: ModuleWords<'a>,

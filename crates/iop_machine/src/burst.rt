@@ -44,7 +44,8 @@ impl Iop {
         let mut clock = self.clock;
         let mut left = budget;
         'instructions: loop {
-            let before = Position::of(&cpu);
+            // Taken apart: whole, it would be put into memory for each instruction.
+            let Position { pc, next, in_slot } = Position::of(&cpu);
             left -= 1;
             match perform(&mut cpu, &mut self.guest, clock, out) {
                 Event::Plain => {
@@ -61,7 +62,7 @@ impl Iop {
                 }
                 Event::Service(code) => {
                     self.settle(cpu, clock);
-                    self.call(begun, code, before, out);
+                    self.call(begun, code, Position { pc, next, in_slot }, out);
                     return left;
                 }
             }

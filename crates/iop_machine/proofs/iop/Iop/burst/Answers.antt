@@ -56,6 +56,6 @@ returns-in-Service g c =
     c.self-in-instructions.view_is i.runs i.some c.perform.ensures in (
       i.reached.0,
       call_advances turn i.reached.1 c.settle-in-Service.new.self
-          c.settle-in-Service.ensures c.in-Service.code c.of-before.result c.in-Service.is
-          c.of-before.ensures c.call.ensures,
+          c.settle-in-Service.ensures c.in-Service.code c.of-pc.result c.in-Service.is
+          c.of-pc.ensures c.call.ensures,
     )
