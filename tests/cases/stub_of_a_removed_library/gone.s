@@ -1,0 +1,3 @@
+    .name gone
+    jr $ra
+    addiu $v0, $0, 1
