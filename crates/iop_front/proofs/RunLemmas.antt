@@ -45,7 +45,7 @@ module _ (w : World) (n : ℕ) (old : Output) where
   pub whole_run : (whole : Bool) (status : Status) (k : ℕ) (stop : Stop) (line : List ℕ)
       (mid new : Output)
       → status ≡ cond whole (status_of stop) SinkFault
-      → line ≡ line_bytes (steps k w).state.iop.clock (End stop)
+      → line ≡ line_bytes (steps k w).state.iop.kernel.clock (End stop)
       → Finishes w n k stop old mid
       → Leaves (not whole) mid new (Traced line ∷ [])
       → Comes (outcome_of_run (run_of n w)) status old new

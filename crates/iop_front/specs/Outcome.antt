@@ -40,7 +40,7 @@ too_long_line name = codes "iop: " ++ name ++ codes " is over 4194304 bytes\n"
 
 -- the last line tells how a run ended
 abbrev pub end_line : Ran → Piece
-end_line ran = Traced (line_bytes ran.world.iop.clock (End ran.stop))
+end_line ran = Traced (line_bytes ran.world.iop.kernel.clock (End ran.stop))
 
 -- of a run
 abbrev pub outcome_of_run : Ran → Outcome

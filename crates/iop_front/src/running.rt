@@ -4,7 +4,10 @@ ghost use Rattle.std.specs.Prelude.{◌≡◌, Bool, if◌then◌else◌};
 ghost use Rattle.iop_base.specs.Text.{line_bytes};
 ghost use Rattle.iop_ports.specs.Sinks.{Sends};
 ghost use Rattle.iop_trace.specs.Outs.{sinks};
+ghost use Rattle.iop_machine.specs.Laws.{IsMachine};
+ghost use Rattle.iop_machine.specs.Standing.{StandsForWorld, IsSoundMachine};
 ghost use Rattle.iop_machine.specs.Stepping.{run_of};
+ghost use Rattle.iop_machine.specs.World.{World};
 ghost use Rattle.iop_front.specs.Outcome.{Comes, outcome_of_run};
 ghost use Rattle.iop_front.specs.Statuses.{status_of};
 ghost use Rattle.iop_front.specs.declared.limits.TheConstants.{BUDGET};
@@ -35,8 +38,10 @@ pub(crate) fn run_to_end<C: Sink, T: Sink>(
     console: &mut C,
     trace: &mut T,
 ) -> Status
-    requires { machine.old.iop.clock ≡ 0 }
-    ensures { Comes (outcome_of_run (run_of BUDGET machine.old)) result
+    requires sound { IsSoundMachine machine.old }
+    requires new { machine.old.iop.kernel.clock ≡ 0 }
+    ensures { (w : World) → StandsForWorld machine.old w → IsMachine w
+        → Comes (outcome_of_run (run_of BUDGET w)) result
         (sinks C.told T.told console.old trace.old)
         (sinks C.told T.told console.new trace.new) }
 {

@@ -1,82 +1,128 @@
 -- How the calls of a run follow one another, and how it ends.
-use Rattle.std.proofs.Common.{◌≡◌, ℕ, suc, ◌+◌, ◌<◌, Bool, true, false, Some, List, [], ◌∷◌, ◌++◌, refl, ap, sym, ◌∙◌, arith, subst, append-nil, append_assoc, add-suc}
+use Rattle.std.proofs.Common.{◌≡◌, ℕ, suc, ◌+◌, Bool, true, false, Some, List, [], ◌∷◌, ◌++◌, refl, ap, sym, ◌∙◌, arith, subst, append_assoc, add-suc}
 use Rattle.iop_base.specs.Piece.{Piece, Traced, Told, console_of, trace_of}
 use Rattle.iop_base.specs.Output.{Output, Adds, Gives, HasNoFault, StopsShort, FailsAt, extended}
 use Rattle.iop_base.specs.declared.stop.Stop.{Stop}
-use Rattle.iop_base.proofs.Giving.{gives_then, gives_whole, gives_short, gives_names, adds_then, nothing_fails}
+use Rattle.iop_base.proofs.Giving.{gives_then, gives_whole, gives_short, gives_names, adds_then}
 use Rattle.std.specs.Borrow.{GName}
 use Rattle.iop_ports.specs.Sinks.{SinkTold}
 use Rattle.iop_trace.specs.Outs.{output_with}
 use Rattle.iop_machine.specs.declared.progress.Progress.{Progress}
 use Rattle.iop_machine.specs.declared.progress.Progress.TheVariants.{Stopped, Advanced}
-use Rattle.iop_machine.specs.Advancing.{Advances, Progresses}
+use Rattle.iop_machine.specs.Advancing.{Reached, Advances, Stops, Progresses}
 use Rattle.iop_machine.specs.Running.{GoesOnFor, Finishes, Faults}
-use Rattle.iop_machine.specs.Stepping.{step, steps, executed}
+use Rattle.iop_machine.specs.Stepping.{step, steps, executed, stop_at}
 use Rattle.iop_machine.specs.World.{World}
 use Rattle.iop_machine.specs.Iop.{Transition}
-use Rattle.iop_machine.proofs.Lasting.{goes_on_both, few_steps}
+use Rattle.iop_machine.proofs.Lasting.{goes_on_both}
 use Rattle.iop_machine.proofs.Composing.{steps_more, executed_more}
-use Rattle.iop_machine.proofs.Reaching.{Reached, here, told, steps_suc}
-use Rattle.iop_machine.proofs.Resting.{rest, clock_steps}
+use Rattle.iop_machine.proofs.Reaching.{here, told, steps_suc}
 
--- the same of other names for the machine before and after
-pub progresses_as : (p : Progress) {w v now new : World} (budget : ℕ) (a b : Output) → w ≡ v
-    → now ≡ new
-    → Progresses p w budget now a b → Progresses p v budget new a b
-progresses_as p {v = v} {now = now} budget a b e f h =
-    subst (λ (x : World). Progresses p v budget x a b) f
-    (subst (λ (x : World). Progresses p x budget now a b) e h)
+-- the same of something else that stands for each state for which it stands
+module _ {P Q : Type 0} (stands_for : P → World → Type 0) (stands : Q → World → Type 0) (now : P)
+    (new : Q) (to : (v : World) → stands_for now v → stands new v) (w : World) (budget : ℕ)
+    (a b : Output) where
+  reached_as : {k left : ℕ} → Reached stands_for w budget k left now a b
+      → Reached stands w budget k left new a b
+  reached_as h = record {
+    before = h.before;
+    state = to _ h.state;
+    gives = h.gives;
+    well = h.well;
+    left_is = h.left_is;
+  }
+
+  pub progresses_as : (p : Progress) → Progresses stands_for p w budget now a b
+      → Progresses stands p w budget new a b
+  progresses_as (Stopped stop) h = (
+    h.0,
+    record {
+      left = h.1.left;
+      reached = reached_as h.1.reached;
+      stops = h.1.stops;
+    },
+  )
+  progresses_as (Advanced left) h = (
+    h.0,
+    record {
+      before = h.1.before;
+      state = to _ h.1.state;
+      left_is = h.1.left_is;
+      seen = h.1.seen;
+      first = h.1.first;
+      well = h.1.well;
+      last = h.1.last;
+    },
+  )
 
 -- the borrows stay, whatever was done
-pub progress_names : (p : Progress) (w : World) (budget : ℕ) (now : World) (a b : Output)
-    → Progresses p w budget now a b → b.names ≡ a.names
-progress_names (Stopped stop) w budget now a b h = gives_names h.2
-progress_names (Advanced left) w budget now a b h = gives_names (told h.1)
+pub progress_names : {P : Type 0} (stands_for : P → World → Type 0) (p : Progress) (w : World)
+    (budget : ℕ) (now : P) (a b : Output) → Progresses stands_for p w budget now a b
+    → b.names ≡ a.names
+progress_names stands_for (Stopped stop) w budget now a b h = gives_names h.1.reached.gives
+progress_names stands_for (Advanced left) w budget now a b h = gives_names (told h.1)
 
-module _ {w : World} {budget k left : ℕ} {now : World} {a b : Output}
-    (h : Advances w budget k left now a b) where
-  pub advances_time : (bound : ℕ) → w.iop.clock + budget < bound → now.iop.clock + left < bound
-  advances_time bound time =
-      let same = ap (λ (v : World). v.iop.clock) h.state in
-      omega (arith, time, same, clock_steps w (suc k), h.left_is)
+module _ {P : Type 0} {stands_for : P → World → Type 0} where
+  module _ {w : World} {most i budget : ℕ} {now : P} {a b : Output}
+      (r : Reached stands_for w most i budget now a b) where
+    -- the run goes on for as many steps as it does from here
+    goes_on_from : (k : ℕ) → GoesOnFor (steps i w).state budget k → GoesOnFor w most (i + k)
+    goes_on_from k before =
+        let all_is : executed i w + budget ≡ most = omega (arith, r.left_is) in
+        subst (λ n. GoesOnFor w n (i + k)) all_is
+        (goes_on_both w (executed i w) budget i k refl
+        (subst (λ n. GoesOnFor w n i) (sym all_is) r.before) before)
 
-  -- fewer instructions and other steps are left
-  pub advances_fewer : left + rest now < budget + rest w
-  advances_fewer =
-      let same = ap rest h.state in
-      omega (arith, same, few_steps w budget (suc k) h.before, h.left_is)
+    -- what follows further steps follows them all
+    pub then_advances : {Q : Type 0} {stands : Q → World → Type 0} {k left : ℕ} {new : Q} {c : Output}
+        → Advances stands (steps i w).state budget k left new b c
+        → Advances stands w most (i + k) left new a c
+    then_advances {stands = stands} {k} {left} {new} {c} h =
+        let next = ap (λ n. steps n w) (sym (add-suc i k)) ∙ steps_more w i (suc k) in
+        let all = steps_more w i k in
+        record {
+          before = subst (GoesOnFor w most) (add-suc i k) (goes_on_from (suc k) h.before);
+          state = subst (stands new) (sym (ap (λ (d : Transition World). d.state) next)) h.state;
+          left_is = omega (
+            arith,
+            r.left_is,
+            h.left_is,
+            executed_more w i (suc k),
+            ap (λ n. executed n w) (add-suc i k),
+          );
+          seen = h.seen;
+          first = subst (Gives a h.seen) (sym (ap (λ (d : Transition World). d.pieces) all))
+              (gives_then r.gives h.first);
+          well = h.well;
+          last = subst (λ (v : World). Gives h.seen c (step v).pieces)
+              (sym (ap (λ (d : Transition World). d.state) all)) h.last;
+        }
 
-module _ {w : World} {most i budget : ℕ} {now : World} {a b : Output}
-    (r : Reached w most i budget now a b) where
-  -- what follows further steps follows them all
-  pub then_advances : {k left : ℕ} {new : World} {c : Output} → Advances now budget k left new b c
-      → Advances w most (i + k) left new a c
-  then_advances {k} {left} {new} {c} g =
-      let h = subst (λ (v : World). Advances v budget k left new b c) r.state g in
-      let next = ap (λ n. steps n w) (sym (add-suc i k)) ∙ steps_more w i (suc k) in
-      let all = steps_more w i k in
-      let all_is : executed i w + budget ≡ most = omega (arith, r.left_is) in
-      record {
-        before = subst (λ n. GoesOnFor w n (suc (i + k))) all_is
-            (subst (GoesOnFor w (executed i w + budget)) (add-suc i k)
-            (goes_on_both w (executed i w) budget i (suc k) refl
-            (subst (λ n. GoesOnFor w n i) (sym all_is) r.before) h.before));
-        state = h.state ∙ sym (ap (λ (d : Transition World). d.state) next);
-        left_is = omega (
-          arith,
-          r.left_is,
-          h.left_is,
-          executed_more w i (suc k),
-          ap
-              (λ n. executed n w) (add-suc i k),
-        );
-        seen = h.seen;
-        first = subst (Gives a h.seen) (sym (ap (λ (d : Transition World). d.pieces) all))
-            (gives_then r.told h.first);
-        well = h.well;
-        last = subst (λ (v : World). Gives h.seen c (step v).pieces)
-            (sym (ap (λ (d : Transition World). d.state) all)) h.last;
-      }
+    -- so does what it reaches
+    then_reaches : {k left : ℕ} {new : P} {c : Output}
+        → Reached stands_for (steps i w).state budget k left new b c
+        → Reached stands_for w most (i + k) left new a c
+    then_reaches {k} {left} {new} {c} h =
+        let all = steps_more w i k in
+        record {
+          before = goes_on_from k h.before;
+          state = subst (stands_for new) (sym (ap (λ (d : Transition World). d.state) all)) h.state;
+          gives = subst (Gives a c) (sym (ap (λ (d : Transition World). d.pieces) all))
+              (gives_then r.gives h.gives);
+          well = h.well;
+          left_is = omega (arith, r.left_is, h.left_is, executed_more w i k);
+        }
+
+    -- and where it stops
+    pub then_stops : {k : ℕ} {stop : Stop} {new : P} {c : Output}
+        → Stops stands_for (steps i w).state budget k stop new b c
+        → Stops stands_for w most (i + k) stop new a c
+    then_stops {k} {stop} h = record {
+      left = h.left;
+      reached = then_reaches h.reached;
+      stops = subst (λ (v : World). stop_at v h.left ≡ Some stop)
+          (sym (ap (λ (d : Transition World). d.state) (steps_more w i k))) h.stops;
+    }
 
 -- what is seen of two sinks before a run and after it, by what is seen of the object that writes to them
 pub record SameSeen (x a : Output) : Type 0 where
@@ -95,10 +141,6 @@ same_sinks e f = record {
   console_faults = ap (λ (t : SinkTold). t.faults) e;
   trace_faults = ap (λ (t : SinkTold). t.faults) f;
 }
-
-is_false : (x : Bool) → ¬ (x ≡ true) → x ≡ false
-is_false true n = absurd (n refl)
-is_false false n = refl
 
 fails_since : {a b : Output} (c : Output) (p : Piece) → HasNoFault a b → FailsAt p b c
     → FailsAt p a c
@@ -130,27 +172,29 @@ module _ {x y a c : Output} (old : SameSeen x a) (new : SameSeen y c) where
         ∙ sym old.trace_faults,
   )
 
-  pub finished : {w : World} {budget k left : ℕ} {now last : World} {b : Output} (stop : Stop)
-      → Reached w budget k left now a b → a.failed ≡ false
-      → Progresses (Stopped stop) now left last b c
-      → (n : ℕ) × (last ≡ (steps n w).state) × Finishes w budget n stop x y
-  finished {w} {budget} {k} {left} {now} stop r fresh h =
-      let well = is_false c.failed (nothing_fails h.2 r.well) in
-      let all = gives_whole (subst (Gives a c) (append-nil (steps k w).pieces)
-      (gives_then r.told h.2)) fresh well in (
+  -- a run that stops has finished
+  pub finished : {P : Type 0} {stands_for : P → World → Type 0} {w : World} {budget k : ℕ}
+      {stop : Stop} {now : P} → Stops stands_for w budget k stop now a c → a.failed ≡ false
+      → (n : ℕ) × stands_for now (steps n w).state × Finishes w budget n stop x y
+  finished {k = k} {stop} h fresh =
+      let all = gives_whole h.reached.gives fresh h.reached.well in (
         k,
-        h.1 ∙ r.state,
+        h.reached.state,
         record {
-          ends = record { before = r.before; now = here r (Some stop) h.0 };
+          ends = record {
+            before = h.reached.before;
+            now = here h.reached (Some stop) h.stops;
+          };
           adds = adds_seen all.0;
           no_fault = none_seen all.1;
         },
       )
 
-  pub faulted : {w : World} {budget k left : ℕ} {now : World} → Advances w budget k left now a c
-      → a.failed ≡ false → c.failed ≡ true
-      → (n : ℕ) × (now ≡ (steps (suc n) w).state) × Faults w budget n x y
-  faulted {w} {budget} {k} h fresh e =
+  -- a run in which a write failed is at fault
+  pub faulted : {P : Type 0} {stands_for : P → World → Type 0} {w : World} {budget k left : ℕ}
+      {now : P} → Advances stands_for w budget k left now a c → a.failed ≡ false → c.failed ≡ true
+      → (n : ℕ) × stands_for now (steps (suc n) w).state × Faults w budget n x y
+  faulted {w = w} {budget} {k} h fresh e =
       let first = gives_whole h.first fresh h.well in
       let short = gives_short h.last h.well e in (
         k,

@@ -11,9 +11,10 @@ use Rattle.iop_modload.proofs.LoadingLemmas.{loading_keeps}
 use Rattle.iop_stubs.specs.Stubs.{Memory, after_store, range_place}
 use Rattle.iop_sysmem.specs.declared.blocks.TheConstants.{KERNEL}
 use Rattle.iop_machine.specs.declared.arguments.TheConstants.{ARGUMENTS, ARGUMENTS_LEN}
+use Rattle.iop_machine.specs.declared.begun_module.BegunModule.{BegunModule}
 use Rattle.iop_machine.specs.AreaLaws.{HasKernel, BootingKeepsKernel}
 use Rattle.iop_machine.specs.Iop.{Iop, Transition}
-use Rattle.iop_machine.specs.Loading.{with_kernel, loading_of, places, passes, enters_or, loads_first, boots}
+use Rattle.iop_machine.specs.Loading.{with_kernel, loading_of, places, passes, enters_or, loads_first, starts_by, boots}
 use Rattle.iop_machine.specs.Modules.{Module, HasRoom, addresses, strings, argument_block}
 use Rattle.iop_machine.specs.Storing.{fills, stores_bytes}
 use Rattle.iop_machine.specs.World.{beginning}
@@ -115,18 +116,25 @@ unfolding loads_first
 loads_first_hold [] s room has holds = holds
 loads_first_hold (m ∷ rest) s room has holds =
     let loading = loading_of s m in
-    let kept = loading_keeps s.clock s.memory s.blocks s.libraries has m.file in
+    let kept = loading_keeps s.kernel.clock s.memory s.blocks s.libraries has m.file in
     let placed = (places s rest loading).state in
     let still = as_before s.memory.ram placed.memory.ram kept.size kept.kernel holds in
     enters_hold (loads_first rest) placed m loading.answer (All-head HasRoom m rest room) still
     (loads_first_hold rest placed (All-tail HasRoom m rest room) kept.whole still)
 
+-- the loader's thread begins, which leaves memory
+starts_hold : (s : Iop) (o : Option BegunModule) → HoldsArea s.memory.ram
+    → HoldsArea (starts_by s o).memory.ram
+starts_hold s None holds = holds
+starts_hold s (Some begun) holds = holds
+
 boots_hold : (s : Iop) → All HasRoom s.modules → HasBlocks s.memory s.blocks → s.memory.live ≡ []
     → HoldsArea (boots s).state.memory.ram
 unfolding boots
 boots_hold s room has none =
-    loads_first_hold s.modules (with_kernel s) room (area_blocks s has none)
-    (area_holds s.memory.ram)
+    let left = (loads_first s.modules (with_kernel s)).state in
+    starts_hold left left.begun (loads_first_hold s.modules (with_kernel s) room
+    (area_blocks s has none) (area_holds s.memory.ram))
 
 pub booting_keeps_kernel : BootingKeepsKernel
 booting_keeps_kernel = λ size modules sized room.

@@ -7,7 +7,12 @@ use Rattle.iop_machine.specs.Modules.{addresses, strings}
 pub length-addresses : (at : ℕ) (words : List (List ℕ)) → length (addresses at words) ≡ 4 * length words
 length-addresses at [] = refl
 length-addresses at (word ∷ words) =
-    omega (arith, length-append (bytes_of 4 at) (addresses (at + length word + 1) words), length-bytes_of 4 at, length-addresses (at + length word + 1) words)
+    omega (
+      arith,
+      length-append (bytes_of 4 at) (addresses (at + length word + 1) words),
+      length-bytes_of 4 at,
+      length-addresses (at + length word + 1) words,
+    )
 
 -- the words that are left at an index
 module _ (words : List (List ℕ)) (i : ℕ) (word : List ℕ) (inside : i < length words)
@@ -30,7 +35,14 @@ module _ (words : List (List ℕ)) (i : ℕ) (word : List ℕ) (inside : i < len
   pub strings_fit : (block whole : List ℕ) (room : ℕ) → block ++ strings (drop i words) ≡ whole
       → length whole ≤ room → length block + length word + 1 ≤ room
   strings_fit block whole room e fits =
-      omega (arith, ap length e, length-append block (strings (drop i words)), ap (λ ws. length (strings ws)) words_left, length-append word (0 ∷ strings (drop (i + 1) words)), fits)
+      omega (
+        arith,
+        ap length e,
+        length-append block (strings (drop i words)),
+        ap (λ ws. length (strings ws)) words_left,
+        length-append word (0 ∷ strings (drop (i + 1) words)),
+        fits,
+      )
 
   -- one address more was appended
   pub addresses_go_on : (at : ℕ) (block whole : List ℕ) → block ++ addresses at (drop i words) ≡ whole
@@ -42,7 +54,15 @@ module _ (words : List (List ℕ)) (i : ℕ) (word : List ℕ) (inside : i < len
   pub address_fits : (at : ℕ) (block whole : List ℕ) (room : ℕ) → block ++ addresses at (drop i words) ≡ whole
       → length whole ≤ room → length block + 4 ≤ room
   address_fits at block whole room e fits =
-      omega (arith, ap length e, length-append block (addresses at (drop i words)), ap (λ ws. length (addresses at ws)) words_left, length-append (bytes_of 4 at) (addresses (at + length word + 1) (drop (i + 1) words)), length-bytes_of 4 at, fits)
+      omega (
+        arith,
+        ap length e,
+        length-append block (addresses at (drop i words)),
+        ap (λ ws. length (addresses at ws)) words_left,
+        length-append (bytes_of 4 at) (addresses (at + length word + 1) (drop (i + 1) words)),
+        length-bytes_of 4 at,
+        fits,
+      )
 
   -- where the words end
   pub strings_end : length (strings (drop i words)) ≡ length word + 1 + length (strings (drop (i + 1) words))

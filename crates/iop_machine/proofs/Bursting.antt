@@ -1,83 +1,118 @@
 -- What one instruction of a burst does. Its processor and its clock are kept apart from the machine meanwhile.
-use Rattle.std.proofs.Common.{◌≡◌, ℕ, ◌+◌, ◌-◌, ◌<◌, false, Option, Some, None, [], length, ap, sym, ◌∙◌, subst, arith}
+use Rattle.std.proofs.Common.{◌≡◌, ℕ, suc, ◌+◌, ◌-◌, ◌<◌, true, false, Some, None, [], length, refl, ap, sym, ◌∙◌, subst, arith}
 use Rattle.iop_base.specs.Numbers.{width_bytes}
 use Rattle.iop_base.specs.Output.{Output, Gives}
 use Rattle.iop_base.specs.declared.guest_fault.GuestFault.{GuestFault}
 use Rattle.iop_exec.specs.declared.cpu.Cpu.{Cpu}
 use Rattle.iop_exec.specs.declared.cpu.Event.{Event}
 use Rattle.iop_exec.specs.declared.cpu.Event.TheVariants.{Plain, Service, Fault}
-use Rattle.iop_exec.specs.Row.{Row, Goes, Serves, Faults, Storing, row, at_next}
+use Rattle.iop_exec.specs.Row.{Row, Goes, Serves, Faults, row, at_next}
 use Rattle.iop_stubs.specs.Stubs.{access_place, Memory, store_lines}
+use Rattle.iop_base.proofs.Giving.{gives_none}
 use Rattle.iop_base.proofs.Lists.{length-bytes_of}
-use Rattle.iop_machine.specs.declared.loader.Begun.{Begun}
 use Rattle.iop_exec.specs.declared.position.Position.{Position}
-use Rattle.iop_machine.specs.Advancing.{Advances}
-use Rattle.iop_machine.specs.Iop.{Iop, Transition, Takes, silent}
 use Rattle.iop_exec.specs.Positions.{position_of, standing_at}
+use Rattle.iop_kernel.proofs.Settling.{settled_later}
+use Rattle.iop_machine.specs.Advancing.{Reached, Advances}
+use Rattle.iop_machine.specs.Iop.{Iop, Transition, Takes, silent, with_state, core_of}
 use Rattle.iop_machine.specs.Running.{Runs}
-use Rattle.iop_machine.specs.Services.{call_of, calls, faults_with}
-use Rattle.iop_machine.specs.Stepping.{performs}
+use Rattle.iop_machine.specs.Services.{calls, faults_with}
+use Rattle.iop_machine.specs.Standing.{Stands, StandsBooted}
+use Rattle.iop_machine.specs.Stepping.{performs, steps}
 use Rattle.iop_machine.specs.Storing.{Performs}
 use Rattle.iop_machine.specs.World.{World, booted}
+use Rattle.iop_machine.specs.declared.iop.Iop.{Iop as Program}
 use Rattle.iop_machine.proofs.Inside.{length-memory_after}
-use Rattle.iop_machine.proofs.Reaching.{Reached, reached_none, advanced}
-use Rattle.iop_machine.proofs.Stepping.{next_executes}
+use Rattle.iop_machine.proofs.Reaching.{steps_suc, reached_none, reached_more, advanced}
+use Rattle.iop_machine.proofs.Stepping.{IsNext, next_executes}
 use Rattle.iop_machine.proofs.Taking.{takes_with, takes_as, silent_then}
 
--- a machine that has nothing to look at stays so over a plain instruction
-pub plain_keeps_running : (s : Iop) (m : Begun) (after : Cpu) (storing : Option Storing) → Runs s m
-    → Runs (performs s m (Goes after storing)).state m
-plain_keeps_running s m after None h = record { over = h.over; loader = h.loader }
-plain_keeps_running s m after (Some storing) h = record { over = h.over; loader = h.loader }
+-- the machine with this processor and this memory at a moment
+abbrev pub after : Iop → Cpu → Memory → ℕ → Iop
+after s cpu memory clock =
+    record s { cpu = cpu; memory = memory; kernel = record s.kernel { clock = clock } }
 
-module _ (s : Iop) (m : Begun) (cpu' : Cpu) (memory' : Memory) (b c : Output) where
+-- the same of the program's
+abbrev pub held : Program → Cpu → Memory → ℕ → Program
+held m cpu memory clock =
+    record m { cpu = cpu; guest = memory; kernel = record m.kernel { clock = clock } }
+
+-- one stands for the other
+pub stands_after : {m : Program} {s : Iop} (cpu : Cpu) (memory : Memory) (clock : ℕ) → Stands m s
+    → Stands (held m cpu memory clock) (after s cpu memory clock)
+stands_after {m} {s} cpu memory clock h = record {
+  kernel = record {
+    clock = refl;
+    interrupts = h.kernel.interrupts;
+    dispatching = h.kernel.dispatching;
+    threads = h.kernel.threads;
+  };
+  rest = ap (λ (x : Iop). record x {
+    cpu = cpu;
+    memory = memory;
+    kernel = record s.kernel { clock = clock };
+  }) h.rest;
+}
+
+-- so the machine is as large as it was
+pub size_kept : {m new : Program} {s : Iop} (cpu : Cpu) (clock : ℕ) → Stands m s
+    → Stands new (after s cpu s.memory clock) → m.blocks.size ≡ length m.guest.ram
+    → new.blocks.size ≡ length new.guest.ram
+size_kept cpu clock h g e =
+    sym (ap (λ (s : Iop). s.blocks.size) g.rest) ∙ ap (λ (s : Iop). s.blocks.size) h.rest ∙ e
+    ∙ sym (ap (λ (s : Iop). length s.memory.ram) h.rest)
+    ∙ ap (λ (s : Iop). length s.memory.ram) g.rest
+
+-- a thread that runs does so with another processor and memory, and at another moment
+pub keeps_running : (s : Iop) (cpu : Cpu) (memory : Memory) (clock : ℕ) → Runs s
+    → Runs (after s cpu memory clock)
+keeps_running s cpu memory clock h = record {
+  over = h.over;
+  dispatch = settled_later (core_of s) clock cpu h.dispatch;
+  running = h.running;
+}
+
+module _ (s : Iop) (cpu' : Cpu) (memory' : Memory) (b c : Output) where
   -- as the instruction leaves the processor and memory
   abbrev settled : Iop
   settled = record s { cpu = cpu'; memory = memory' }
 
   -- a call that was made of the settled machine
   abbrev called : Position → ℕ → Transition Iop
-  called before code = calls (record settled { cpu = standing_at before cpu' }) m cpu'
-      (call_of code)
+  called before code = calls (record settled { cpu = standing_at before cpu' }) cpu' code
 
   -- what is still to be done, by the instruction's event, for a transition
   abbrev Concludes : Event → Transition Iop → Type 0
-  Concludes Plain t = Takes t (record settled { clock = s.clock + 1 }) b c
-      × (Runs s m → Runs t.state m)
+  Concludes Plain t =
+      (after s cpu' memory' (s.kernel.clock + 1) ≡ t.state) × Gives b c t.pieces
   Concludes (Fault kind) t = Gives b c [] × (silent (faults_with settled kind) ≡ t)
   Concludes (Service code) t = Gives b c [] × (called (position_of s.cpu) code ≡ t)
 
-  concludes : (event : Event) (r : Row) → Performs r event s.clock s.cpu s.memory b cpu' memory' c
-      → Concludes event (performs s m r)
-  concludes event (Goes after None) h =
-      subst (λ (e : Event). Concludes e (performs s m (Goes after None))) (sym h.0) (
-        record {
-          state = ap (λ x. record settled { cpu = x; clock = s.clock + 1 }) h.1
-              ∙ ap (λ x. record s { cpu = after; memory = x; clock = s.clock + 1 }) h.2;
-          gives = h.3;
-        },
-        plain_keeps_running s m after None,
+  concludes : (event : Event) (r : Row)
+      → Performs r event s.kernel.clock s.cpu s.memory b cpu' memory' c
+      → Concludes event (performs s r)
+  concludes event (Goes next None) h =
+      subst (λ (e : Event). Concludes e (performs s (Goes next None))) (sym h.0) (
+        ap (λ x. after s x memory' (s.kernel.clock + 1)) h.1
+            ∙ ap (λ x. after s next x (s.kernel.clock + 1)) h.2,
+        h.3,
       )
-  concludes event (Goes after (Some storing)) h =
-      subst (λ (e : Event). Concludes e (performs s m (Goes after (Some storing)))) (sym h.0) (
-        record {
-          state = ap (λ x. record settled { cpu = x; clock = s.clock + 1 }) h.1
-              ∙ ap (λ x. record s { cpu = after; memory = x; clock = s.clock + 1 }) h.2;
-          gives = subst (λ n. Gives b c
-              (store_lines s.clock s.memory (access_place s.memory storing.at storing.width) n))
-              (sym (length-bytes_of (width_bytes storing.width) storing.value)) h.3;
-        },
-        plain_keeps_running s m after (Some storing),
+  concludes event (Goes next (Some storing)) h =
+      subst (λ (e : Event). Concludes e (performs s (Goes next (Some storing)))) (sym h.0) (
+        ap (λ x. after s x memory' (s.kernel.clock + 1)) h.1
+            ∙ ap (λ x. after s next x (s.kernel.clock + 1)) h.2,
+        subst (λ n. Gives b c
+            (store_lines s.kernel.clock s.memory (access_place s.memory storing.at storing.width) n))
+            (sym (length-bytes_of (width_bytes storing.width) storing.value)) h.3,
       )
   concludes event (Serves code) h =
-      subst (λ (e : Event). Concludes e (performs s m (Serves code))) (sym h.0) (
+      subst (λ (e : Event). Concludes e (performs s (Serves code))) (sym h.0) (
         h.3,
-        ap (λ x. calls (record settled { cpu = standing_at (position_of s.cpu) x }) m x
-            (call_of code)) h.1
-            ∙ ap (λ x. calls (record s { memory = x }) m (at_next s.cpu) (call_of code)) h.2,
+        ap (λ x. calls (record settled { cpu = standing_at (position_of s.cpu) x }) x code) h.1
+            ∙ ap (λ x. calls (record s { memory = x }) (at_next s.cpu) code) h.2,
       )
   concludes event (Faults kind) h =
-      subst (λ (e : Event). Concludes e (performs s m (Faults kind))) (sym h.0) (
+      subst (λ (e : Event). Concludes e (performs s (Faults kind))) (sym h.0) (
         h.3,
         ap (λ x. silent (faults_with (record settled { cpu = x }) kind)) h.1
             ∙ ap (λ x. silent (faults_with (record s { memory = x }) kind)) h.2,
@@ -94,98 +129,144 @@ length-performed (Serves code) event clock cpu cpu' memory memory' b c h =
 length-performed (Faults kind) event clock cpu cpu' memory memory' b c h =
     ap (λ (m : Memory). length m.ram) h.2
 
--- an instruction of a burst: the machine before it, but for its processor and its clock, which are these; what it
--- left of processor and memory; and what takes the lines before it and after it
-pub record Turn (v self : Iop) (m : Begun) (cpu cpu' : Cpu) (clock left : ℕ) (event : Event)
-    (memory' : Memory) (b c : Output) : Type 0 where
-  pub same : v ≡ self
-  pub runs : Runs (record self { cpu = cpu; clock = clock }) m
+-- the burst, of which so many instructions are left, stands before an instruction
+pub record Bursts (w : World) (budget left : ℕ) (m : Program) (a b : Output) : Type 0 where
+  pub taken : ℕ
+  pub reached : Reached StandsBooted w budget taken left m a b
+  pub runs : Runs (steps taken w).state.iop
+
+-- the start
+pub bursts_none : (m : Program) (s : Iop) (budget : ℕ) (a : Output) → Stands m s → Runs s
+    → a.failed ≡ false → Bursts (booted s) budget budget m a a
+unfolding steps
+bursts_none m s budget a h runs well = record {
+  taken = 0;
+  reached = reached_none (booted s) budget m a a (refl, h) (gives_none a) well;
+  runs = runs;
+}
+
+-- where its processor and its clock are the machine's own
+pub bursts_first : (m : Program) (clock budget : ℕ) (a : Output) → clock ≡ m.kernel.clock
+    → a.failed ≡ false → (s : Iop) → Stands m s → Runs s
+    → Bursts (booted s) budget budget (held m m.cpu m.guest clock) a a
+bursts_first m clock budget a e well s h runs =
+    subst (λ n. Bursts (booted s) budget budget (held m m.cpu m.guest n) a a) (sym e)
+    (bursts_none m s budget a h runs well)
+
+-- the machine itself, whose memory is now this, stands for a state in which a thread runs
+pub burst_runs : {first : Program} {budget left clock : ℕ} {cpu : Cpu} {a b : Output} (m : Program)
+    (memory : Memory) → (s : Iop) × Stands first s × Runs s
+    → ((s : Iop) → Stands first s → Runs s
+    → Bursts (booted s) budget left (held m cpu m.guest clock) a b)
+    → (s : Iop) × Stands (held m m.cpu memory m.kernel.clock) s × Runs s
+burst_runs m memory r bursts =
+    let before = bursts r.0 r.1 r.2 in (
+      _,
+      stands_after m.cpu memory m.kernel.clock before.reached.state.1,
+      keeps_running _ m.cpu memory m.kernel.clock before.runs,
+    )
+
+-- an instruction of the burst, and what it left of the processor, of memory and of what takes the lines
+pub record Turn (w : World) (budget left : ℕ) (m : Program) (a b : Output) (event : Event)
+    (cpu' : Cpu) (memory' : Memory) (c : Output) : Type 0 where
+  pub bursts : Bursts w budget left m a b
   pub some : 0 < left
-  pub done : Performs (row v.memory.ram cpu) event clock cpu v.memory b cpu' memory' c
+  pub done : Performs (row m.guest.ram m.cpu) event m.kernel.clock m.cpu m.guest b cpu' memory' c
 
-pub turn_of : {v self : Iop} {m : Begun} {cpu cpu' : Cpu} {clock left : ℕ} {event : Event}
-    {memory' : Memory} {b c : Output}
-    → v ≡ self → Runs (record self { cpu = cpu; clock = clock }) m → 0 < left
-    → Performs (row v.memory.ram cpu) event clock cpu v.memory b cpu' memory' c
-    → Turn v self m cpu cpu' clock left event memory' b c
-turn_of same runs some done = record { same = same; runs = runs; some = some; done = done }
+pub turn_of : {w : World} {budget left : ℕ} {m : Program} {a b c : Output} {event : Event}
+    {cpu' : Cpu} {memory' : Memory} → Bursts w budget left m a b → 0 < left
+    → Performs (row m.guest.ram m.cpu) event m.kernel.clock m.cpu m.guest b cpu' memory' c
+    → Turn w budget left m a b event cpu' memory' c
+turn_of bursts some done = record { bursts = bursts; some = some; done = done }
 
--- the start, where the processor and the clock are the machine's own
-pub begun : (v self : Iop) (budget : ℕ) (a : Output) → v ≡ self → a.failed ≡ false
-    → Reached (booted self) budget 0 budget (booted (record self { cpu = v.cpu; clock = v.clock }))
-    a a
-begun v self budget a e well =
-    subst (λ (x : Iop). Reached (booted self) budget 0 budget
-    (booted (record self { cpu = x.cpu; clock = x.clock })) a a) (sym e)
-    (reached_none (booted self) budget a well)
-
-module _ {v self : Iop} {m : Begun} {cpu cpu' : Cpu} {clock left : ℕ} {event : Event}
-    {memory' : Memory} {b c : Output}
-    (turn : Turn v self m cpu cpu' clock left event memory' b c) where
+module _ {w : World} {budget left : ℕ} {m : Program} {a b c : Output} {event : Event} {cpu' : Cpu}
+    {memory' : Memory} (turn : Turn w budget left m a b event cpu' memory' c) where
   abbrev pub before : Iop
-  before = record self { cpu = cpu; clock = clock }
+  before = (steps turn.bursts.taken w).state.iop
+
+  stands : Stands m before
+  stands = turn.bursts.reached.state.1
+
+  performed : Performs (row before.memory.ram before.cpu) event before.kernel.clock before.cpu
+      before.memory b cpu' memory' c
+  performed =
+      let s = subst (λ (s : Iop). Performs (row s.memory.ram s.cpu) event m.kernel.clock s.cpu
+      s.memory b cpu' memory' c) (sym stands.rest) turn.done in
+      subst (λ n. Performs (row before.memory.ram before.cpu) event n before.cpu before.memory b cpu'
+      memory' c) (sym stands.kernel.clock) s
 
   -- how it concludes
-  result : Concludes before m cpu' memory' b c event (performs before m (row self.memory.ram cpu))
-  result = concludes before m cpu' memory' b c event (row self.memory.ram cpu)
-      (subst (λ (s : Iop). Performs (row s.memory.ram cpu) event clock cpu s.memory b cpu' memory'
-      c) turn.same turn.done)
+  concludes_as : {e : Event} → event ≡ e
+      → Concludes before cpu' memory' b c e (performs before (row before.memory.ram before.cpu))
+  concludes_as e = subst (λ (x : Event). Concludes before cpu' memory' b c x
+      (performs before (row before.memory.ram before.cpu))) e
+      (concludes before cpu' memory' b c event (row before.memory.ram before.cpu) performed)
 
-  pub keeps_running : event ≡ Plain
-      → Runs (record v { cpu = cpu'; memory = memory'; clock = clock + 1 }) m
-  keeps_running e =
-      let plain = subst (λ (x : Event). Concludes before m cpu' memory' b c x
-      (performs before m (row self.memory.ram cpu))) e result in
-      subst (λ (s : Iop). Runs s m)
-      (sym (ap (λ (s : Iop). record s { cpu = cpu'; memory = memory'; clock = clock + 1 })
-      turn.same ∙ plain.0.state)) (plain.1 turn.runs)
+  -- it is the next step
+  next : IsNext true left (steps turn.bursts.taken w).state
+      (with_state booted (performs before (row before.memory.ram before.cpu)))
+  next = subst (λ (v : World). IsNext true left v
+      (with_state booted (performs before (row before.memory.ram before.cpu))))
+      (sym turn.bursts.reached.state.0)
+      (next_executes before left turn.bursts.runs turn.some)
 
-  module _ {w : World} {budget k : ℕ} {a : Output}
-      (r : Reached w budget k left (booted before) a b) where
-    -- the burst with a transition that is the instruction's
-    burst_with : {new : Iop} {d : Output}
-        → Takes (performs before m (row self.memory.ram cpu)) new b d
-        → Advances w budget k (left - 1) (booted new) a d
-    burst_with h =
-        let some = turn.some in
-        advanced r (left - 1) (omega (arith, some)) (next_executes before left m turn.runs some)
-        (takes_with h booted)
+  -- the burst with a transition that is the instruction's
+  burst_with : {new : Program} {d : Output}
+      → Takes Stands (performs before (row before.memory.ram before.cpu)) new b d
+      → Advances StandsBooted w budget turn.bursts.taken (left - 1) new a d
+  burst_with {new} {d} h =
+      let some = turn.some in
+      advanced turn.bursts.reached (left - 1) (omega (arith, some)) next
+      (takes_with h StandsBooted booted new (λ g. (refl, g)))
 
-    pub plain_advances : event ≡ Plain → (new : Iop)
-        → new ≡ record v { cpu = cpu'; memory = memory'; clock = clock + 1 }
-        → Advances w budget k (left - 1) (booted new) a c
-    plain_advances e new is =
-        let plain = (subst (λ (x : Event). Concludes before m cpu' memory' b c x
-        (performs before m (row self.memory.ram cpu))) e result).0 in
-        burst_with (record {
-          state = is ∙ ap (λ (s : Iop). record s
-              { cpu = cpu'; memory = memory'; clock = clock + 1 }) turn.same ∙ plain.state;
-          gives = plain.gives;
-        })
+  -- a plain instruction
+  pub plain_advances : {new : Program} → event ≡ Plain
+      → ((s : Iop) → Stands m s → Stands new (after s cpu' memory' (m.kernel.clock + 1)))
+      → Advances StandsBooted w budget turn.bursts.taken (left - 1) new a c
+  plain_advances {new} e to =
+      let plain = concludes_as e in
+      burst_with (record {
+        state = subst (Stands new)
+            (ap (λ n. after before cpu' memory' (n + 1)) (sym stands.kernel.clock) ∙ plain.0)
+            (to before stands);
+        gives = plain.1;
+      })
 
-    module _ (now : Iop) (is : now ≡ record v { cpu = cpu'; memory = memory'; clock = clock }) where
-      settled_is : now ≡ settled before m cpu' memory' b c
-      settled_is = is ∙ ap (λ (s : Iop). record s { cpu = cpu'; memory = memory'; clock = clock })
-          turn.same
+  -- after which the burst goes on
+  pub plain_goes_on : {new : Program} → event ≡ Plain → c.failed ≡ false
+      → ((s : Iop) → Stands m s → Stands new (after s cpu' memory' (m.kernel.clock + 1)))
+      → Bursts w budget (left - 1) new a c
+  plain_goes_on e well to = record {
+    taken = suc turn.bursts.taken;
+    reached = reached_more (plain_advances e to) well;
+    runs = subst Runs
+        ((concludes_as e).0 ∙ sym (ap (λ (d : Transition World). d.state.iop) next.step_is)
+        ∙ sym (ap (λ (d : Transition World). d.state.iop) (steps_suc turn.bursts.taken w)))
+        (keeps_running before cpu' memory' (before.kernel.clock + 1) turn.bursts.runs);
+  }
 
-      pub fault_advances : (kind : GuestFault) → event ≡ Fault kind → (new : Iop)
-          → new ≡ faults_with now kind
-          → Advances w budget k (left - 1) (booted new) a c
-      fault_advances kind e new after =
-          let fault = subst (λ (x : Event). Concludes before m cpu' memory' b c x
-          (performs before m (row self.memory.ram cpu))) e result in
-          burst_with (takes_as fault.1
-          (record { state = after ∙ ap (λ s. faults_with s kind) settled_is; gives = fault.0 }))
+  module _ {now : Program}
+      (to : (s : Iop) → Stands m s → Stands now (after s cpu' memory' m.kernel.clock)) where
+    now_stands : Stands now (settled before cpu' memory' b c)
+    now_stands = subst (λ n. Stands now (after before cpu' memory' n)) (sym stands.kernel.clock)
+        (to before stands)
 
-      pub call_advances : (code : ℕ) (position : Position) → event ≡ Service code
-          → position ≡ position_of cpu → {new : Iop} {d : Output}
-          → Takes (calls (record now { cpu = standing_at position now.cpu }) m now.cpu
-          (call_of code)) new c d
-          → Advances w budget k (left - 1) (booted new) a d
-      call_advances code position e p h =
-          let call = subst (λ (x : Event). Concludes before m cpu' memory' b c x
-          (performs before m (row self.memory.ram cpu))) e result in
-          let is_call = ap (λ (s : Iop). calls (record s { cpu = standing_at position s.cpu }) m
-          s.cpu (call_of code)) settled_is
-          ∙ ap (λ x. called before m cpu' memory' b c x code) p ∙ call.1 in
-          burst_with (takes_as is_call (silent_then call.0 h))
+    -- an instruction that faults
+    pub fault_advances : {new : Program} (kind : GuestFault) → event ≡ Fault kind
+        → ((s : Iop) → Stands now s → Stands new (faults_with s kind))
+        → Advances StandsBooted w budget turn.bursts.taken (left - 1) new a c
+    fault_advances kind e faults =
+        let fault = concludes_as e in
+        burst_with (takes_as (record { state = faults _ now_stands; gives = fault.0 }) fault.1)
+
+    -- one that calls a service
+    pub call_advances : {new : Program} {d : Output} (code : ℕ) (position : Position)
+        → event ≡ Service code → position ≡ position_of m.cpu
+        → ((s : Iop) → Stands now s
+        → Takes Stands (calls (record s { cpu = standing_at position s.cpu }) s.cpu code) new c d)
+        → Advances StandsBooted w budget turn.bursts.taken (left - 1) new a d
+    call_advances code position e p serves =
+        let call = concludes_as e in
+        let same = p ∙ ap (λ (s : Iop). position_of s.cpu) (sym stands.rest) in
+        burst_with (takes_as (silent_then call.0 (serves _ now_stands))
+        (ap (λ x. called before cpu' memory' b c x code) same ∙ call.1))

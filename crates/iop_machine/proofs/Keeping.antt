@@ -1,5 +1,5 @@
 -- What stays of memory and its blocks, whatever is stored, loaded, finished or called.
-use Rattle.std.proofs.Common.{◌⊎◌, inl, inr, ℕ, false, Option, Some, None, Result, Ok, Err, List, [], ◌∷◌, ◌++◌, length, replicate, Contains, refl, sym, ◌∙◌, arith, not}
+use Rattle.std.proofs.Common.{◌≡◌, ◌⊎◌, inl, inr, ℕ, Option, Some, None, Result, Ok, Err, List, [], ◌∷◌, ◌++◌, length, replicate, Contains, refl, sym, ◌∙◌, arith, not, subst}
 use Rattle.std.proofs.lemmas.List.Elements.{All-filter, All-contains, All-contains_itself, Contains-append_cases, Contains-append_left, Contains-append_right}
 use Rattle.iop_base.specs.Numbers.{width_bytes, bytes_of}
 use Rattle.iop_base.specs.Piece.{Piece}
@@ -8,32 +8,31 @@ use Rattle.iop_base.specs.declared.code.Code.{Code}
 use Rattle.iop_base.specs.declared.line.Line.{Line}
 use Rattle.iop_base.specs.declared.line.Line.TheVariants.{Load, Refused}
 use Rattle.iop_exec.specs.declared.cpu.Cpu.{Cpu}
-use Rattle.iop_exec.specs.Row.{Row, Goes, Serves, Faults, Storing, at_next, reg, row}
-use Rattle.iop_libs.specs.Calls.{Sight, calls_row}
-use Rattle.iop_libs.specs.declared.answer.Answer.{Answer}
-use Rattle.iop_libs.specs.declared.answer.Answer.TheVariants.{Value, Unlisted, Fault, Other}
+use Rattle.iop_exec.specs.Row.{Row, Goes, Serves, Faults, Storing, at_next, row}
+use Rattle.iop_kernel.specs.Dispatching.{Dispatched}
+use Rattle.iop_kernel.specs.Laws.{Writes, ServiceKeeps}
+use Rattle.iop_kernel.specs.Serving.{services}
+use Rattle.iop_kernel.specs.System.{System, Served}
+use Rattle.iop_kernel.specs.declared.after.After.{After}
+use Rattle.iop_kernel.specs.declared.after.After.TheVariants.{Resume, Switch, ModuleReturned, Fault}
+use Rattle.iop_kernel.proofs.KeepingServices.{services_keep}
+use Rattle.iop_modload.specs.Finishing.{finishes}
 use Rattle.iop_modload.specs.Laws.{HasBlocks, IsLiveOrTold, Keeps as LoadingKeeps}
 use Rattle.iop_modload.specs.declared.loaded.Loaded.{Loaded}
 use Rattle.iop_modload.proofs.LoadingLemmas.{loading_keeps}
 use Rattle.iop_modload.proofs.FinishingLemmas.{finishing_keeps}
-use Rattle.iop_services.specs.Table.{row_of}
 use Rattle.iop_stubs.specs.Stubs.{access_place, Memory, after_store, meets, stub_line, store_lines}
 use Rattle.iop_stubs.specs.declared.live_stub.Stub.{Stub}
 use Rattle.iop_stubs.proofs.Storing.{store_sound}
 use Rattle.iop_sysmem.specs.BlockMap.{BlockMap}
 use Rattle.iop_machine.specs.declared.arguments.TheConstants.{ARGUMENTS, ARGUMENTS_LEN}
-use Rattle.iop_machine.specs.declared.call.Call.{Call}
-use Rattle.iop_machine.specs.declared.call.Call.TheVariants.{Library, ThreadReturn, ModuleReturn}
-use Rattle.iop_machine.specs.declared.loader.Begun.{Begun}
-use Rattle.iop_machine.specs.declared.loader.Loader.{Loader}
-use Rattle.iop_machine.specs.declared.loader.Loader.TheVariants.{Dormant, Ready, Running}
-use Rattle.iop_machine.specs.Iop.{Iop, Transition, tells}
-use Rattle.iop_machine.specs.Loading.{loading_of, places, passes, enters_or, loads_first}
+use Rattle.iop_machine.specs.declared.begun_module.BegunModule.{BegunModule}
+use Rattle.iop_machine.specs.Iop.{Iop, Transition, tells, system_of}
+use Rattle.iop_machine.specs.Loading.{loading_of, places, passes, enters_or, loads_first, starts_by}
 use Rattle.iop_machine.specs.Modules.{Module, argument_block}
-use Rattle.iop_machine.specs.Services.{call_of, calls, returns, serves, leaves, answers_by}
-use Rattle.iop_machine.specs.Stepping.{performs, stores_it, goes_by}
+use Rattle.iop_machine.specs.Services.{calls, calls_by, serves, leaves, returns_by, ends_module, goes_on_by}
+use Rattle.iop_machine.specs.Stepping.{performs, stores_it, acts_by, goes_by}
 use Rattle.iop_machine.specs.Storing.{stores_bytes, fills}
-use Rattle.iop_machine.proofs.BlockKeeping.{call_keeps}
 use Rattle.iop_machine.proofs.Elements.{fails_or_passes}
 use Rattle.iop_machine.proofs.Inside.{LiesInside, range_by, number_inside, length-after_store}
 
@@ -50,7 +49,7 @@ pub record Stays (clock : ℕ) (old new : Memory) (blocks : BlockMap) (pieces : 
 
 -- over a transition of the core
 abbrev pub Keeps : Iop → Transition Iop → Type 0
-Keeps s t = Stays s.clock s.memory t.state.memory t.state.blocks t.pieces t.bound
+Keeps s t = Stays s.kernel.clock s.memory t.state.memory t.state.blocks t.pieces t.bound
 
 -- one that was live, where none was bound
 only_old : (live : List Stub) (stub : Stub) → Contains live stub ⊎ Contains [] stub
@@ -89,13 +88,13 @@ stays_stores : (s : Iop) (at : ℕ) (bytes : List ℕ) → HasBlocks s.memory s.
     → Keeps s (stores_bytes s at bytes)
 stays_stores s at bytes =
     let size = length s.memory.ram in
-    stays_store s.clock s.memory s.blocks _ bytes
+    stays_store s.kernel.clock s.memory s.blocks _ bytes
     (λ p e. range_by (phys size at) size at (length bytes) p refl e)
 
 stays_number : (s : Iop) (storing : Storing) → HasBlocks s.memory s.blocks
     → Keeps s (stores_it s (Some storing))
 stays_number s storing =
-    stays_store s.clock s.memory s.blocks (access_place s.memory storing.at storing.width)
+    stays_store s.kernel.clock s.memory s.blocks (access_place s.memory storing.at storing.width)
     (bytes_of (width_bytes storing.width) storing.value) (number_inside s.memory storing)
 
 -- one change of memory and then another
@@ -159,9 +158,9 @@ passes_keeps s block h =
 
 -- a line, and then a transition
 told : (s : Iop) (line : Line) (t : Transition Iop) → HasBlocks s.memory s.blocks → Keeps s t
-    → Stays s.clock s.memory t.state.memory t.state.blocks ((tells s line).pieces ++ t.pieces)
+    → Stays s.kernel.clock s.memory t.state.memory t.state.blocks ((tells s line).pieces ++ t.pieces)
     t.bound
-told s line t h keeps = stays_then (same s.clock s.memory s.blocks (tells s line).pieces h) keeps
+told s line t h keeps = stays_then (same s.kernel.clock s.memory s.blocks (tells s line).pieces h) keeps
 
 -- by what the loading came to, where the next one keeps it
 enters_keeps : (next : Iop → Transition Iop)
@@ -175,66 +174,111 @@ enters_keeps next keeps s m (Err code) h = told s (Refused m.number code) (next 
 pub loads_first_keeps : (modules : List Module) (s : Iop) → HasBlocks s.memory s.blocks
     → Keeps s (loads_first modules s)
 unfolding loads_first
-loads_first_keeps [] s h = same s.clock s.memory s.blocks [] h
+loads_first_keeps [] s h = same s.kernel.clock s.memory s.blocks [] h
 loads_first_keeps (m ∷ rest) s h =
     let loading = loading_of s m in
     let placed : Keeps s (places s rest loading) =
-    stays_as (loading_keeps s.clock s.memory s.blocks s.libraries h m.file) in
+    stays_as (loading_keeps s.kernel.clock s.memory s.blocks s.libraries h m.file) in
     stays_then placed (enters_keeps (loads_first rest) (loads_first_keeps rest)
     (places s rest loading).state m loading.answer placed.whole)
 
-returns_keep : (s : Iop) (m : Begun) (value : ℕ) → HasBlocks s.memory s.blocks
-    → Keeps s (returns s m value)
-unfolding returns
-returns_keep s m value h =
-    let ended = stays_as (finishing_keeps s.clock s.memory s.blocks s.libraries h m.number
+-- whether the loader's thread goes on or ends, and whether it begins, memory and its blocks stay
+goes_on_keeps : {clock : ℕ} {old : Memory} {pieces : List Piece} {bound : List Stub} (s : Iop)
+    (o : Option BegunModule) → Stays clock old s.memory s.blocks pieces bound
+    → Stays clock old (goes_on_by s o).memory (goes_on_by s o).blocks pieces bound
+goes_on_keeps s None h = h
+goes_on_keeps s (Some begun) h = h
+
+pub starts_keep : {clock : ℕ} {old : Memory} {pieces : List Piece} {bound : List Stub} (s : Iop)
+    (o : Option BegunModule) → Stays clock old s.memory s.blocks pieces bound
+    → Stays clock old (starts_by s o).memory (starts_by s o).blocks pieces bound
+starts_keep s None h = h
+starts_keep s (Some begun) h = h
+
+-- a module returns
+ends_keep : (s : Iop) (m : BegunModule) (value : ℕ) → HasBlocks s.memory s.blocks
+    → Keeps s (ends_module s m value)
+unfolding ends_module
+ends_keep s m value h =
+    let left = (leaves s
+    (finishes s.kernel.clock s.memory s.blocks s.libraries m.number m.loaded value)).state in
+    let now = (loads_first s.modules left).state in
+    let ended = stays_as (finishing_keeps s.kernel.clock s.memory s.blocks s.libraries h m.number
     m.loaded value) in
-    stays_then ended (loads_first_keeps s.modules _ ended.whole)
+    goes_on_keeps now now.begun (stays_then ended (loads_first_keeps s.modules left ended.whole))
 
--- a service of a library
-module _ (before : Cpu) (library number : ℕ) where
-  answers_keep : (s : Iop) (answer : Answer) → HasBlocks s.memory s.blocks
-      → Keeps s (answers_by before library number s answer)
-  answers_keep s (Value value) h = same s.clock s.memory s.blocks _ h
-  answers_keep s Unlisted h = same s.clock s.memory s.blocks _ h
-  answers_keep s Fault h = same s.clock s.memory s.blocks _ h
-  answers_keep s (Other service) h = same s.clock s.memory s.blocks _ h
+-- the loader's thread returned
+returns_keep : (s : Iop) (o : Option BegunModule) (value : ℕ) → HasBlocks s.memory s.blocks
+    → Keeps s (returns_by s o value)
+returns_keep s None value h = same s.kernel.clock s.memory s.blocks [] h
+returns_keep s (Some m) value h = ends_keep s m value h
 
-  serves_keep : (s : Iop) → HasBlocks s.memory s.blocks → Keeps s (serves before library number s)
-  unfolding serves
-  serves_keep s h =
-      let sight : Sight = record { memory = s.memory; cpu = s.cpu } in
-      let row = row_of library number in
-      let after = calls_row sight s.blocks s.libraries false row in
-      let kept = call_keeps sight s.blocks s.libraries h.are_blocks false row in
-      let left = leaves before library number s sight after in
-      let whole : HasBlocks s.memory after.blocks = record {
-        sound = h.sound;
-        are_blocks = kept.are_blocks;
-        same_size = kept.size ∙ h.same_size;
-      } in
-      stays_then (same s.clock s.memory after.blocks left.pieces whole)
-      (answers_keep left.state after.answer whole)
+-- what a service stores, of which it tells each live stub that it meets
+stays_written : (s : System) (memory : Memory) (blocks : BlockMap) (pieces : List Piece)
+    → Writes s memory pieces → HasBlocks s.memory blocks
+    → Stays s.core.kernel.clock s.memory memory blocks pieces []
+stays_written s memory blocks pieces writes h =
+    let clock = s.core.kernel.clock in
+    let stored = stays_store clock s.memory blocks writes.place writes.bytes writes.inside h in
+    subst (λ (m : Memory). Stays clock s.memory m blocks pieces []) (sym writes.left) (record {
+      whole = stored.whole;
+      live = stored.live;
+      line = λ stub x. elim (stored.line stub x) [
+        | inl there ↦ inl there
+        | inr line ↦ inr (writes.told (stub_line clock stub) line)
+      ];
+    })
 
-calls_keep : (s : Iop) (m : Begun) (after : Cpu) (o : Option Call) → HasBlocks s.memory s.blocks
-    → Keeps s (calls s m after o)
-calls_keep s m after None h = same s.clock s.memory s.blocks [] h
-calls_keep s m after (Some ThreadReturn) h = returns_keep (record s { cpu = after }) m 0 h
-calls_keep s m after (Some ModuleReturn) h =
-    returns_keep (record s { cpu = after }) m (reg after 2) h
-calls_keep s m after (Some (Library library number)) h =
-    serves_keep s.cpu library number (record s { cpu = after }) h
+-- a service
+serves_keep : (s : System) (d : Served) → ServiceKeeps s d → HasBlocks s.memory s.blocks
+    → Stays s.core.kernel.clock s.memory d.left.state.memory d.left.state.blocks d.pieces []
+serves_keep s d kept h =
+    stays_written s d.left.state.memory d.left.state.blocks d.pieces kept.memory (record {
+      sound = h.sound;
+      are_blocks = kept.blocks.are_blocks h.are_blocks;
+      same_size = kept.blocks.size ∙ h.same_size;
+    })
 
-performs_keeps : (s : Iop) (m : Begun) (r : Row) → HasBlocks s.memory s.blocks
-    → Keeps s (performs s m r)
-performs_keeps s m (Goes after None) h = same s.clock s.memory s.blocks [] h
-performs_keeps s m (Goes after (Some storing)) h =
+-- by what becomes of the caller
+calls_by_keep : (s : Iop) (d : Served) → Keeps s (serves s d)
+    → d.left.state.core.kernel.clock ≡ s.kernel.clock → HasBlocks s.memory s.blocks
+    → (after : After) → Keeps s (calls_by s d after)
+calls_by_keep s d served clock h Resume = served
+calls_by_keep s d served clock h Switch = served
+calls_by_keep s d served clock h (ModuleReturned value) =
+    let now = (serves s d).state in
+    let t = returns_by now now.begun value in
+    stays_then served (subst (λ k. Stays k now.memory t.state.memory t.state.blocks t.pieces t.bound)
+    clock (returns_keep now now.begun value served.whole))
+calls_by_keep s d served clock h (Fault kind) = same s.kernel.clock s.memory s.blocks [] h
+
+-- a `syscall`
+calls_keep : (s : Iop) (behind : Cpu) (code id : ℕ) → s.kernel.threads.running ≡ Some id
+    → HasBlocks s.memory s.blocks → Keeps s (calls s behind code)
+unfolding calls
+calls_keep s behind code id runs h =
+    let system = system_of (record s { cpu = behind }) in
+    let kept = services_keep system code id runs in
+    let d = services system code in
+    calls_by_keep s d (serves_keep system d kept h) kept.clock h d.left.after
+
+-- an instruction of the thread that runs
+performs_keeps : (s : Iop) (id : ℕ) (r : Row) → s.kernel.threads.running ≡ Some id
+    → HasBlocks s.memory s.blocks → Keeps s (performs s r)
+performs_keeps s id (Goes after None) runs h = same s.kernel.clock s.memory s.blocks [] h
+performs_keeps s id (Goes after (Some storing)) runs h =
     stays_number (record s { cpu = after }) storing h
-performs_keeps s m (Serves code) h = calls_keep s m (at_next s.cpu) (call_of code) h
-performs_keeps s m (Faults kind) h = same s.clock s.memory s.blocks [] h
+performs_keeps s id (Serves code) runs h = calls_keep s (at_next s.cpu) code id runs h
+performs_keeps s id (Faults kind) runs h = same s.kernel.clock s.memory s.blocks [] h
 
--- a step of the core that was booted
-pub goes_keep : (s : Iop) (l : Loader) → HasBlocks s.memory s.blocks → Keeps s (goes_by s l)
-goes_keep s (Ready m) h = same s.clock s.memory s.blocks _ h
-goes_keep s (Running m) h = performs_keeps s m (row s.memory.ram s.cpu) h
-goes_keep s Dormant h = same s.clock s.memory s.blocks [] h
+-- where nothing is dispatched
+acts_keep : (s : Iop) (running : Option ℕ) → s.kernel.threads.running ≡ running
+    → HasBlocks s.memory s.blocks → Keeps s (acts_by s running)
+acts_keep s None none h = same s.kernel.clock s.memory s.blocks [] h
+acts_keep s (Some id) runs h = performs_keeps s id (row s.memory.ram s.cpu) runs h
+
+-- a step of the machine that was booted
+pub goes_keep : (s : Iop) (o : Option Dispatched) → HasBlocks s.memory s.blocks
+    → Keeps s (goes_by s o)
+goes_keep s (Some d) h = same s.kernel.clock s.memory s.blocks _ h
+goes_keep s None h = acts_keep s s.kernel.threads.running refl h

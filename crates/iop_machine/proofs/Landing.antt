@@ -5,24 +5,26 @@ use Rattle.std.proofs.lemmas.List.Elements.{All-nil, Contains-append_left, Conta
 use Rattle.iop_base.specs.Places.{IsRamSize}
 use Rattle.iop_base.specs.declared.stop.Stop.{Stop}
 use Rattle.iop_base.proofs.Memory.{length-with_bytes}
-use Rattle.iop_exec.specs.Positions.{IsStraight}
+use Rattle.iop_kernel.specs.Dispatching.{dispatches}
+use Rattle.iop_kernel.specs.Laws.{IsCore}
+use Rattle.iop_thread.proofs.Placed.{placed_opening}
+use Rattle.iop_thread.proofs.Straight.{operations_keep_straight}
 use Rattle.iop_modload.specs.Laws.{HasBlocks}
 use Rattle.iop_stubs.specs.Binding.{IsBound}
 use Rattle.iop_stubs.specs.declared.live_stub.Stub.{Stub}
 use Rattle.iop_sysmem.specs.BlockMap.{AreBlocks, IsBlockSize, block_of, end_of}
 use Rattle.iop_sysmem.specs.declared.blocks.TheConstants.{KERNEL}
-use Rattle.iop_machine.specs.Iop.{Iop, Transition, and_then}
+use Rattle.iop_machine.specs.Iop.{Iop, Transition, and_then, core_of}
 use Rattle.iop_machine.specs.KernelArea.{kernel_area}
 use Rattle.iop_machine.specs.Laws.{IsMachine, StaysSound, RunsStaySound, RunsKeepStubs, StubsLeaveWithTheirLine}
-use Rattle.iop_machine.specs.Loading.{with_kernel, boots}
+use Rattle.iop_machine.specs.Loading.{with_kernel, loads_first, boots}
 use Rattle.iop_machine.specs.Modules.{Module}
 use Rattle.iop_machine.specs.Stepping.{step, steps}
 use Rattle.iop_machine.specs.World.{World, reset, beginning, zeros}
 use Rattle.iop_machine.proofs.AreaLemmas.{length-kernel_area}
-use Rattle.iop_machine.proofs.Keeping.{Stays, Keeps, same, loads_first_keeps, goes_keep}
-use Rattle.iop_machine.proofs.Moving.{goes_move}
+use Rattle.iop_machine.proofs.Keeping.{Stays, Keeps, same, loads_first_keeps, starts_keep, goes_keep}
+use Rattle.iop_machine.proofs.Moving.{boots_stand, goes_move}
 use Rattle.iop_machine.proofs.Reaching.{steps_zero, steps_suc}
-use Rattle.iop_machine.proofs.Resting.{boots_land}
 use Rattle.iop_machine.proofs.Stepping.{step_over, step_begins}
 
 -- memory behind the kernel's area
@@ -54,13 +56,18 @@ module _ (s : Iop) (has : HasBlocks s.memory s.blocks) where
   unfolding boots
   boots_keep none =
       let loaded = loads_first_keeps s.modules (with_kernel s) (area_blocks none) in
-      record { whole = loaded.whole; live = loaded.live; line = loaded.line }
+      let left = (loads_first s.modules (with_kernel s)).state in
+      starts_keep left left.begun (record {
+        whole = loaded.whole;
+        live = loaded.live;
+        line = loaded.line;
+      })
 
 -- what a step of a machine keeps
 pub record StepKeeps (w : World) (t : Transition World) : Type 0 where
-  pub stays : Stays w.iop.clock w.iop.memory t.state.iop.memory t.state.iop.blocks t.pieces t.bound
+  pub stays : Stays w.iop.kernel.clock w.iop.memory t.state.iop.memory t.state.iop.blocks t.pieces t.bound
   pub none_live : t.state.is_new ≡ true → t.state.iop.memory.live ≡ []
-  pub straight : IsStraight w.iop.cpu → IsStraight t.state.iop.cpu
+  pub core : IsCore (core_of w.iop) → IsCore (core_of t.state.iop)
 
 module _ (w : World) (machine : IsMachine w) where
   has : HasBlocks w.iop.memory w.iop.blocks
@@ -71,21 +78,21 @@ module _ (w : World) (machine : IsMachine w) where
       subst (StepKeeps w) (sym (step_begins w true e f)) (record {
         stays = boots_keep w.iop has (machine.none_live f);
         none_live = λ x. absurd (cc x);
-        straight = (boots_land w.iop).straight;
+        core = (boots_stand w.iop).core;
       })
   begins_keeps false e f =
       subst (StepKeeps w) (sym (step_begins w false e f)) (record {
-        stays = goes_keep w.iop w.iop.loader has;
+        stays = goes_keep w.iop (dispatches (core_of w.iop)) has;
         none_live = λ x. absurd (cc x);
-        straight = (goes_move w.iop w.iop.loader).straight;
+        core = (goes_move w.iop (dispatches (core_of w.iop)) refl).core;
       })
 
   step_by : (o : Option Stop) → w.iop.over ≡ o → StepKeeps w (step w)
   step_by (Some stop) e =
       subst (StepKeeps w) (sym (step_over w stop e)) (record {
-        stays = same w.iop.clock w.iop.memory w.iop.blocks [] has;
+        stays = same w.iop.kernel.clock w.iop.memory w.iop.blocks [] has;
         none_live = machine.none_live;
-        straight = λ h. h;
+        core = λ h. h;
       })
   step_by None e = begins_keeps w.is_new e refl
 
@@ -100,7 +107,7 @@ record Descends (w : World) (t : Transition World) : Type 0 where
   machine : IsMachine t.state
   live : (stub : Stub) → Contains t.state.iop.memory.live stub
       → Contains w.iop.memory.live stub ⊎ Contains t.bound stub
-  straight : IsStraight w.iop.cpu → IsStraight t.state.iop.cpu
+  core : IsCore (core_of w.iop) → IsCore (core_of t.state.iop)
 
 next_descends : (w : World) (t : Transition World) → Descends w t → Descends w (and_then t step)
 next_descends w t h =
@@ -118,13 +125,13 @@ next_descends w t h =
         ]
         | inr one ↦ inr (Contains-append_right t.bound after.bound stub one)
       ];
-      straight = λ x. next.straight (h.straight x);
+      core = λ x. next.core (h.core x);
     }
 
 descends : (w : World) (k : ℕ) → IsMachine w → Descends w (steps k w)
 descends w zero machine =
     subst (Descends w) (sym (steps_zero w))
-    (record { machine = machine; live = λ stub x. inl x; straight = λ x. x })
+    (record { machine = machine; live = λ stub x. inl x; core = λ x. x })
 descends w (suc k) machine =
     subst (Descends w) (sym (steps_suc k w))
     (next_descends w (steps k w) (descends w k machine))
@@ -172,6 +179,16 @@ module _ (size : ℕ) (modules : List Module) (sized : IsRamSize size) where
     none_live = λ e. refl;
   }
 
+  -- the loader's thread alone stands, dormant
+  begins_as_core : IsCore (core_of (reset size modules))
+  begins_as_core = record {
+    placed = placed_opening;
+    awake = λ none. refl;
+    straight = λ out. refl;
+    threads = operations_keep_straight.opening;
+  }
+
+  -- what holds of all states that it reaches
   reached : (k : ℕ) → let run = steps k (beginning size modules) in StaysSound run.bound run.state.iop
   reached k =
       let h = descends (beginning size modules) k begins_as_machine in
@@ -181,7 +198,7 @@ module _ (size : ℕ) (modules : List Module) (sized : IsRamSize size) where
           | inl none ↦ absurd (omega (arith, none.1))
           | inr one ↦ one
         ];
-        straight = h.straight (λ out. refl);
+        core = h.core begins_as_core;
       }
 
 pub runs_stay_sound : RunsStaySound

@@ -1,5 +1,5 @@
 -- What lasts over whole runs.
-use Rattle.std.proofs.Common.{◌≡◌, ℕ, zero, suc, ◌+◌, ◌-◌, ◌<◌, ◌≤◌, Bool, true, false, Option, Some, None, List, [], ◌++◌, refl, ap, sym, ◌∙◌, arith, subst, inl, inr, nat_lt}
+use Rattle.std.proofs.Common.{◌≡◌, ℕ, zero, suc, ◌+◌, ◌-◌, ◌*◌, ◌<◌, ◌≤◌, Bool, true, false, Option, Some, None, List, [], ◌++◌, refl, ap, sym, ◌∙◌, arith, subst, inl, inr, nat_lt}
 use Rattle.std.specs.Prelude.{◌⊎◌}
 use Rattle.std.proofs.lemmas.Bool.Decides.{nat_tests}
 use Rattle.iop_base.specs.Piece.{Piece}
@@ -176,7 +176,7 @@ computed_at (suc f) w n (suc k) stop h lt =
 
 -- the steps without an instruction are few
 pub few_steps : (w : World) (n k : ℕ) → GoesOnFor w n k
-    → k + rest (steps k w).state ≤ executed k w + rest w
+    → k + rest (steps k w).state ≤ 2 * executed k w + rest w
 unfolding steps executed
 few_steps w n zero f = omega arith
 few_steps w n (suc k) f =
@@ -186,13 +186,13 @@ few_steps w n (suc k) f =
     let same = ap (λ (d : Transition World). rest d.state) (steps_suc k w) in
     omega (arith, so_far, next, same, executed_suc k w)
 
-ends_soon : (w : World) (n k : ℕ) (stop : Stop) → Ends w n k stop → k ≤ n + 3
+ends_soon : (w : World) (n k : ℕ) (stop : Stop) → Ends w n k stop → k ≤ 2 * n + 3
 ends_soon w n k stop h =
     omega (arith, few_steps w n k h.before, within w n k h.before, rest_few w)
 
 pub runs_are_computed : RunsAreComputed
 unfolding run_of
-runs_are_computed = λ w n k stop h. computed_at (n + 4) w n k stop h
+runs_are_computed = λ w n k stop h. computed_at (2 * n + 4) w n k stop h
     (omega (arith, ends_soon w n k stop h))
 
 ends_now : (w : World) (n : ℕ) (stop : Stop) → stop_at w n ≡ Some stop → Ends w n 0 stop
@@ -221,8 +221,8 @@ record Ending (w : World) (n : ℕ) : Type 0 where
   ends : Ends w n k stop
 
 -- f bounds the instructions and the other steps that are left
-any_by : (f : ℕ) → ((v : World) (m : ℕ) → m + rest v < f → Ending v m)
-    → (w : World) (n : ℕ) (o : Option Stop) → stop_at w n ≡ o → n + rest w < suc f → Ending w n
+any_by : (f : ℕ) → ((v : World) (m : ℕ) → 2 * m + rest v < f → Ending v m)
+    → (w : World) (n : ℕ) (o : Option Stop) → stop_at w n ≡ o → 2 * n + rest w < suc f → Ending w n
 any_by f less w n (Some stop) e lt = record { k = 0; stop = stop; ends = ends_now w n stop e }
 any_by f less w n None e lt =
     let next = rest_step w (not_over w n e) in
@@ -230,13 +230,13 @@ any_by f less w n None e lt =
     let h = less (step w).state (n - one_if (executes w)) (omega (arith, lt, next, one)) in
     record { k = suc h.k; stop = h.stop; ends = ends_cons w n h.k h.stop e h.ends }
 
-any_ends : (f : ℕ) (w : World) (n : ℕ) → n + rest w < f → Ending w n
+any_ends : (f : ℕ) (w : World) (n : ℕ) → 2 * n + rest w < f → Ending w n
 any_ends zero w n lt = absurd (omega (arith, lt))
 any_ends (suc f) w n lt = any_by f (any_ends f) w n (stop_at w n) refl lt
 
 pub runs_end : RunsEnd
 runs_end = λ w n.
-    let h = any_ends (suc (n + rest w)) w n (omega arith) in
+    let h = any_ends (suc (2 * n + rest w)) w n (omega arith) in
     (h.k, h.stop, ends_soon w n h.k h.stop h.ends, h.ends)
 
 not_ended : (w : World) (n k later : ℕ) (stop : Stop) → GoesOnFor w n k → Ends w n later stop

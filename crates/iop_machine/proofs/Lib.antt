@@ -1,9 +1,9 @@
 mod Elements
 mod Inside
+mod StandingLemmas
 mod Taking
 mod Stepping
 pub mod Reaching
-mod BlockKeeping
 mod Keeping
 mod Moving
 mod Resting
@@ -11,6 +11,8 @@ mod Composing
 pub mod Lasting
 pub mod Advancing
 mod Bursting
+mod Dispatching
+mod Progressing
 mod WaitingLemmas
 mod ArgumentLemmas
 mod ServiceLemmas
@@ -19,10 +21,10 @@ mod Storing
 mod StubLemmas
 mod StubSteps
 mod LoadingLemmas
-mod Landing
+pub mod Landing
+mod Strict
 mod Area
 mod AreaLemmas
-mod MachineLemmas
 mod AreaReading
 mod AreaLanding
 mod ArgumentReading

@@ -1,24 +1,37 @@
 -- How the machine begins, and how its modules come into memory.
-use Rattle.std.proofs.Common.{◌≡◌, ℕ, suc, Some, None, Result, Ok, Err, List, [], ◌∷◌, length, drop, get_or, replicate, refl, ap, sym, ◌∙◌}
+use Rattle.std.proofs.Common.{◌≡◌, ℕ, suc, true, false, Option, Some, None, Result, Ok, Err, List, [], ◌∷◌, length, drop, get_or, replicate, refl, ap, sym, ◌∙◌, subst}
+use Rattle.std.specs.Prelude.{is_some}
 use Rattle.std.specs.List.{slice_get}
+use Rattle.iop_base.specs.Numbers.{with_bytes}
+use Rattle.iop_base.specs.Output.{Output, Gives}
+use Rattle.iop_base.specs.declared.code.Code.{Code}
+use Rattle.iop_base.specs.declared.line.Line.TheVariants.{Refused}
 use Rattle.iop_exec.specs.declared.cpu.Cpu.{Cpu}
-use Rattle.iop_registry.specs.declared.registry.Entry.{Entry}
+use Rattle.iop_kernel.specs.Standing as kernel
+use Rattle.iop_kernel.specs.System.{Kernel}
+use Rattle.iop_kernel.specs.declared.kernel.Kernel.{Kernel as Kernels}
+use Rattle.iop_modload.specs.Loading.{Loads, loads}
+use Rattle.iop_modload.specs.declared.loaded.Loaded.{Loaded}
+use Rattle.iop_ready.specs.ReadyList.{StandsFor}
+use Rattle.iop_ready.specs.declared.entry.Entry.{Entry}
 use Rattle.iop_registry.specs.KernelLibraries.{kernel_libraries}
 use Rattle.iop_stubs.specs.Stubs.{Memory}
 use Rattle.iop_sysmem.specs.BlockMap.{BlockMap}
 use Rattle.iop_sysmem.specs.declared.blocks.TheConstants.{KERNEL}
-use Rattle.iop_base.specs.Output.{Output, Gives}
-use Rattle.iop_base.specs.declared.code.Code.{Code}
-use Rattle.iop_base.specs.declared.line.Line.TheVariants.{Load, Refused}
-use Rattle.iop_modload.specs.declared.loaded.Loaded.{Loaded}
-use Rattle.iop_machine.specs.declared.loader.Begun.{Begun}
-use Rattle.iop_machine.specs.declared.loader.Loader.TheVariants.{Dormant, Ready}
-use Rattle.iop_machine.specs.Loading.{with_kernel, boots, loading_of, places, passes, begins, enters, enters_or, loads_first}
-use Rattle.iop_machine.specs.Modules.{Module, cpu_at, argument_block, module_start}
-use Rattle.iop_machine.specs.Iop.{Iop, Transition, Takes, Remains, silent, tells, and_then, with_state}
+use Rattle.iop_thread.specs.Operations as threads
+use Rattle.iop_thread.specs.States.{zeroed_at}
+use Rattle.iop_machine.specs.declared.begun_module.BegunModule.{BegunModule}
+use Rattle.iop_machine.specs.declared.iop.Iop.{Iop as Program}
+use Rattle.iop_machine.specs.Iop.{Iop, Transition, Takes, Remains, silent, tells, and_then}
+use Rattle.iop_machine.specs.KernelArea.{kernel_area}
+use Rattle.iop_machine.specs.Loading.{with_kernel, boots, loading_of, places, begins, enters, enters_or, loads_first, starts_by}
+use Rattle.iop_machine.specs.Modules.{Module, argument_block, module_start}
+use Rattle.iop_machine.specs.Standing.{iop_of, Stands}
 use Rattle.iop_machine.specs.World.{reset, zeros}
-use Rattle.iop_machine.proofs.Taking.{silent_takes, silent_then, takes_as, takes_then, takes_to, takes_with}
+use Rattle.iop_machine.proofs.StandingLemmas.{IsMoment, carried, stands_for}
+use Rattle.iop_machine.proofs.Taking.{silent_takes, silent_then, takes_as, takes_then, takes_with}
 
+-- what is 0 everywhere is zeros
 zeros_are : (xs : List ℕ) → ((p : ℕ) → get_or xs p 0 ≡ 0) → xs ≡ replicate (length xs) 0
 zeros_are [] f = refl
 zeros_are (x ∷ xs) f = ap (λ y. y ∷ xs) (f 0) ∙ ap (λ ys. 0 ∷ ys) (zeros_are xs (λ p. f (suc p)))
@@ -32,46 +45,49 @@ zero_memory n memory zero none size =
     ap (λ r. record { ram = r; live = memory.live }) ram
     ∙ ap (λ l. record { ram = zeros n; live = l }) none
 
--- the core as it begins
-pub reset_is : (n : ℕ) (memory : Memory) (blocks : BlockMap) (libraries : List Entry)
-    (modules : List Module) (cpu : Cpu)
-    → ((p : ℕ) → get_or memory.ram p 0 ≡ 0) → memory.live ≡ [] → length memory.ram ≡ n
-    → blocks ≡ record { size = n; used = KERNEL ∷ [] } → libraries ≡ kernel_libraries
-    → cpu ≡ cpu_at 0
-    → record {
-      clock = 0;
-      memory = memory;
-      blocks = blocks;
-      libraries = libraries;
-      modules = modules;
-      loader = Dormant;
-      cpu = cpu;
-      over = None;
-    } ≡ reset n modules
-reset_is n memory blocks libraries modules cpu zero none size map e f =
-    let start = reset n modules in
-    ap (λ (x : Memory). record start
-    { memory = x; blocks = blocks; libraries = libraries; cpu = cpu })
-    (zero_memory n memory zero none size)
-    ∙ ap (λ (x : BlockMap). record start { blocks = x; libraries = libraries; cpu = cpu }) map
-    ∙ ap (λ (x : List Entry). record start { libraries = x; cpu = cpu }) e
-    ∙ ap (λ (x : Cpu). record start { cpu = x }) f
+-- what a program has that was just made with so much memory
+pub record IsReset (n : ℕ) (m : Program) : Type 0 where
+  pub kernel : kernel.Stands StandsFor m.kernel (reset n m.waiting).kernel
+  pub cpu : m.cpu ≡ zeroed_at 0
+  pub zero : (p : ℕ) → get_or m.guest.ram p 0 ≡ 0
+  pub none : m.guest.live ≡ []
+  pub sized : length m.guest.ram ≡ n
+  pub map : m.blocks ≡ record { size = n; used = KERNEL ∷ [] }
+  pub registry : m.registry ≡ kernel_libraries
+  pub begun : m.begun ≡ None
+  pub over : m.over ≡ None
 
--- a module was told to be loaded, its argument block was written, and it is ready to begin
-pub enters_takes : {self passed : Iop} {a b c : Output} (begun : Begun) (words : ℕ) (cpu : Cpu)
-    (block : List ℕ)
-    → Takes (tells self (Load begun.number begun.loaded.base begun.loaded.len)) self a b
-    → Takes (passes self block) passed b c → cpu ≡ module_start begun.loaded words
-    → Takes (enters self begun words block) (record passed { loader = Ready begun; cpu = cpu }) a c
-enters_takes {self} {passed} begun words cpu block told written start =
-    takes_to (ap (λ x. record passed { loader = Ready begun; cpu = x }) (sym start))
-    (takes_then told (λ v. with_state (λ u. begins u begun words) (passes v block))
-    (takes_with written (λ u. begins u begun words)))
+-- it stands for the machine as it begins
+pub reset_stands : (n : ℕ) (m : Program) → IsReset n m → Stands m (reset n m.waiting)
+reset_stands n m h =
+    let start = reset n m.waiting in
+    record {
+      kernel = h.kernel;
+      rest = ap (λ (x : Memory). record start { memory = x }) (sym (zero_memory n m.guest h.zero h.none h.sized))
+          ∙ ap (λ (x : Cpu). record start { memory = m.guest; cpu = x }) (sym h.cpu)
+          ∙ ap (λ (x : BlockMap). record start { memory = m.guest; cpu = m.cpu; blocks = x }) (sym h.map)
+          ∙ ap (λ x. record (iop_of m start.kernel) { libraries = x; begun = None; over = None }) (sym h.registry)
+          ∙ ap (λ (x : Option BegunModule). record (iop_of m start.kernel) { begun = x; over = None }) (sym h.begun)
+          ∙ ap (λ x. record (iop_of m start.kernel) { over = x }) (sym h.over);
+    }
 
+-- a module begins
+pub stands_begun : (m : Program) (begun : BegunModule) (words : ℕ) (cpu : Cpu)
+    → cpu ≡ module_start begun.loaded words → (s : Iop) → Stands m s
+    → Stands (record m { cpu = cpu; begun = Some begun }) (begins s begun words)
+stands_begun m begun words cpu e =
+    carried m (λ s. Stands (record m { cpu = cpu; begun = Some begun }) (begins s begun words))
+    (λ k h. record {
+      kernel = h;
+      rest = ap (λ x. record (iop_of m k) { cpu = x; begun = Some begun }) (sym e);
+    })
+
+-- the first of a list
 first_is : {X : Type 0} (xs : List X) (x : X) → Some x ≡ slice_get xs 0 → xs ≡ x ∷ drop 1 xs
 first_is [] x e = absurd (cc e)
 first_is (y ∷ ys) x e = ap (λ z. z ∷ ys) (cc e)
 
+-- a list that has no first
 none_is : {X : Type 0} (xs : List X) → None ≡ slice_get xs 0 → xs ≡ []
 none_is [] e = refl
 none_is (x ∷ xs) e = absurd (cc e)
@@ -83,92 +99,158 @@ loads_it : (s : Iop) (m : Module) (modules : List Module) → modules ≡ m ∷ 
 unfolding loads_first
 loads_it s m modules e = ap (λ ms. loads_first ms s) e
 
-nothing_loads : (s : Iop) → s.modules ≡ []
-    → loads_first s.modules s ≡ silent (record s { loader = Dormant })
+-- there is none
+nothing_loads : (s : Iop) (modules : List Module) → modules ≡ []
+    → loads_first modules s ≡ silent (record s { modules = modules; begun = None })
 unfolding loads_first
-nothing_loads s e =
-    ap (λ ms. loads_first ms s) e ∙ ap (λ (ms : List Module). silent (record s { modules = ms; loader = Dormant })) (sym e)
+nothing_loads s modules e =
+    ap (λ ms. loads_first ms s) e
+    ∙ ap (λ (ms : List Module). silent (record s { modules = ms; begun = None })) (sym e)
 
 -- no module is left
-pub none_left : {v self : Iop} (a : Output) → v ≡ self → None ≡ slice_get v.modules 0
-    → Takes (loads_first self.modules self) (record v { loader = Dormant }) a a
-none_left {v} a same none =
-    takes_as (sym (nothing_loads v (none_is v.modules none)) ∙ ap (λ (s : Iop). loads_first s.modules s) same)
-    (silent_takes a refl)
+pub none_left : (m : Program) (a : Output) → None ≡ slice_get m.waiting 0 → (s : Iop) → Stands m s
+    → Takes Stands (loads_first s.modules s) (record m { begun = None }) a a
+none_left m a none =
+    carried m (λ s. Takes Stands (loads_first s.modules s) (record m { begun = None }) a a)
+    (λ k h. takes_as (silent_takes a (stands_for (record m { begun = None }) k h))
+    (sym (nothing_loads (iop_of m k) m.waiting (none_is m.waiting none))))
 
-module _ {v self : Iop} (same : v ≡ self) (m : Module) (first : Some m ≡ slice_get v.modules 0) where
-  abbrev placing : Transition Iop
-  placing = places v (drop 1 v.modules) (loading_of v m)
-
-  first_loads : and_then placing
-      (λ s. enters_or (loads_first (drop 1 v.modules)) s m (loading_of v m).answer)
-      ≡ loads_first self.modules self
-  first_loads = sym (loads_it v m v.modules (first_is v.modules m first))
-      ∙ ap (λ (s : Iop). loads_first s.modules s) same
+module _ (m : Program) (t : ℕ) (first : Module) where
+  -- what the loading of a module comes to at a moment
+  abbrev loading : Loads
+  loading = loads t m.guest m.blocks m.registry first.file
 
   -- the first module was loaded or refused, and taken out
-  pub record Places (answer : Result Loaded Code) (placed : Iop) (a b : Output) : Type 0 where
-    pub takes : Takes placing placed a b
-    pub answer_is : answer ≡ (loading_of v m).answer
-    pub modules : placed.modules ≡ drop 1 v.modules
+  pub record Places (answer : Result Loaded Code) (placed : Program) (a b : Output) : Type 0 where
+    pub moment : IsMoment m t
+    pub is_first : Some first ≡ slice_get m.waiting 0
+    pub answer_is : answer ≡ loading.answer
+    pub takes : (s : Iop) → Stands m s
+        → Takes Stands (places s (drop 1 s.modules) (loading_of s first)) placed a b
 
+  -- as the clauses of the calls say it
   pub places_as : {a b : Output} (answer : Result Loaded Code) (memory : Memory) (blocks : BlockMap)
-      (modules : List Module)
-      → answer ≡ (loading_of v m).answer → memory ≡ (loading_of v m).memory
-      → blocks ≡ (loading_of v m).blocks → Gives a b (loading_of v m).pieces
-      → modules ≡ drop 1 v.modules
-      → Places answer (record v { memory = memory; blocks = blocks; modules = modules }) a b
-  places_as answer memory blocks modules is e f lines rest =
-      let loading = loading_of v m in
+      (modules : List Module) → IsMoment m t → Some first ≡ slice_get m.waiting 0
+      → answer ≡ loading.answer → memory ≡ loading.memory → blocks ≡ loading.blocks
+      → Gives a b loading.pieces → modules ≡ drop 1 m.waiting
+      → Places answer (record m { guest = memory; blocks = blocks; waiting = modules }) a b
+  places_as {a} {b} answer memory blocks modules moment is_first answer_is e f lines rest =
+      let placed = record m { guest = memory; blocks = blocks; waiting = modules } in
       record {
-        takes = record {
-          state = ap (λ (x : Memory). record v { memory = x; blocks = blocks; modules = modules }) e
-              ∙ ap (λ (x : BlockMap). record v
-              { memory = loading.memory; blocks = x; modules = modules }) f
-              ∙ ap (λ (x : List Module). record v
-              { memory = loading.memory; blocks = loading.blocks; modules = x }) rest;
-          gives = lines;
-        };
-        answer_is = is;
-        modules = rest;
+        moment = moment;
+        is_first = is_first;
+        answer_is = answer_is;
+        takes = carried m (λ s. Takes Stands (places s (drop 1 s.modules) (loading_of s first)) placed a b)
+            (λ k h. subst (λ u. Takes Stands
+            (places (iop_of m k) (drop 1 m.waiting) (loads u m.guest m.blocks m.registry first.file))
+            placed a b) (moment k h) (record {
+              state = record {
+                kernel = h;
+                rest = ap (λ (x : Memory). record (iop_of m k)
+                    { memory = x; blocks = loading.blocks; modules = drop 1 m.waiting }) (sym e)
+                    ∙ ap (λ (x : BlockMap). record (iop_of m k)
+                    { memory = memory; blocks = x; modules = drop 1 m.waiting }) (sym f)
+                    ∙ ap (λ (x : List Module). record (iop_of m k)
+                    { memory = memory; blocks = blocks; modules = x }) (sym rest);
+              };
+              gives = lines;
+            }));
       }
 
-  module _ {answer : Result Loaded Code} {placed : Iop} {a b : Output}
+  -- what is left where the first of a state's modules was loaded or refused
+  abbrev placed_of : Iop → Iop
+  placed_of s = (places s (drop 1 s.modules) (loading_of s first)).state
+
+  -- what follows then, by its answer
+  abbrev follows : Iop → Result Loaded Code → Transition Iop
+  follows s r = enters_or (loads_first (drop 1 s.modules)) (placed_of s) first r
+
+  module _ {answer : Result Loaded Code} {placed : Program} {a b : Output}
       (h : Places answer placed a b) where
     -- then by its answer
-    then_by : (r : Result Loaded Code) → answer ≡ r → {new : Iop} {d : Output}
-        → Takes (enters_or (loads_first (drop 1 v.modules)) placed m r) new b d
-        → Takes (loads_first self.modules self) new a d
-    then_by r is {new} {d} t =
-        takes_as first_loads
-        (takes_then h.takes (λ s. enters_or (loads_first (drop 1 v.modules)) s m (loading_of v m).answer)
-        (takes_as (ap (enters_or (loads_first (drop 1 v.modules)) placed m) (sym is ∙ h.answer_is)) t))
+    then_by : (r : Result Loaded Code) → answer ≡ r → (new : Program) (d : Output) → (s : Iop)
+        → Stands m s → Takes Stands (follows s r) new b d
+        → Takes Stands (loads_first s.modules s) new a d
+    then_by r is new d =
+        carried m (λ s. Takes Stands (follows s r) new b d → Takes Stands (loads_first s.modules s) new a d)
+        (λ k stands rest.
+        let s = iop_of m k in
+        let same : r ≡ (loading_of s first).answer = sym is ∙ h.answer_is
+        ∙ ap (λ u. (loads u m.guest m.blocks m.registry first.file).answer) (h.moment k stands) in
+        takes_as (takes_then (h.takes s (stands_for m k stands))
+        (λ v. enters_or (loads_first (drop 1 m.waiting)) v first (loading_of s first).answer)
+        (takes_as rest (ap (follows s) same)))
+        (sym (loads_it s first m.waiting (first_is m.waiting first h.is_first))))
 
-    -- it is ready to begin with what it is handed
-    pub loaded_takes : {new : Iop} {c : Output} (loaded : Loaded) (words : ℕ) (block : List ℕ)
-        → answer ≡ Ok loaded → words ≡ length m.words → block ≡ argument_block m.words
-        → Takes (enters placed (record { number = m.number; loaded = loaded }) words block) new b c
-        → Takes (loads_first self.modules self) new a c
-    loaded_takes loaded words block is few handed t =
-        let begun : Begun = record { number = m.number; loaded = loaded } in
-        then_by (Ok loaded) is
-        (takes_as (ap (λ n. enters placed begun n block) few
-        ∙ ap (enters placed begun (length m.words)) handed) t)
+    -- it begins with what it is handed
+    pub loaded_takes : {new : Program} {c : Output} (loaded : Loaded) (words : ℕ) (block : List ℕ)
+        → answer ≡ Ok loaded → words ≡ length first.words → block ≡ argument_block first.words
+        → ((v : Iop) → Stands placed v → Takes Stands
+        (enters v (record { number = first.number; loaded = loaded }) words block) new b c)
+        → (s : Iop) → Stands m s → Takes Stands (loads_first s.modules s) new a c
+    loaded_takes {new} {c} loaded words block is few handed g s stands =
+        let v = placed_of s in
+        let begun : BegunModule = record { number = first.number; loaded = loaded } in
+        then_by (Ok loaded) is new c s stands (takes_as (g v (h.takes s stands).state)
+        (ap (λ n. enters v begun n block) few ∙ ap (enters v begun (length first.words)) handed))
 
     -- it was told to be refused, and the next ones remain
     pub refused_remains : {c : Output} (code : Code) → answer ≡ Err code
-        → Takes (tells placed (Refused m.number code)) placed b c
-        → Remains (loads_first self.modules self) (loads_first placed.modules placed) a c
-    refused_remains code is told = λ later last t.
-        then_by (Err code) is (takes_then told (loads_first (drop 1 v.modules))
-        (takes_as (ap (λ ms. loads_first ms placed) h.modules) t))
+        → ((v : Iop) → Stands placed v → Takes Stands (tells v (Refused first.number code)) placed b c)
+        → (s : Iop) → Stands m s
+        → (v : Iop) × Stands placed v
+        × Remains Stands (loads_first s.modules s) (loads_first v.modules v) a c
+    refused_remains code is told s stands =
+        let v = placed_of s in
+        let there = (h.takes s stands).state in (
+          v,
+          there,
+          λ later last rest. then_by (Err code) is later last s stands
+              (takes_then (told v there) (loads_first v.modules) rest),
+        )
 
--- the kernel's area was written, and then the first module that loads is ready to begin
-pub boots_takes : {v self : Iop} {a b c : Output} {now : Iop} (memory : Memory) → v ≡ self
-    → memory ≡ (with_kernel v).memory → Gives a b []
-    → Takes (loads_first v.modules (record v { memory = memory })) now b c
-    → Takes (boots self) now a c
+-- the kernel's area was written
+pub stands_with_area : (m : Program) (memory : Memory)
+    → memory ≡ record m.guest { ram = with_bytes m.guest.ram 0 kernel_area }
+    → (s : Iop) → Stands m s → Stands (record m { guest = memory }) (with_kernel s)
+stands_with_area m memory e =
+    carried m (λ s. Stands (record m { guest = memory }) (with_kernel s)) (λ k h. record {
+      kernel = h;
+      rest = ap (λ x. record (iop_of m k) { memory = x }) (sym e);
+    })
+
+-- the loader's thread was made ready
+pub stands_started : (m : Program) (new : Kernels (List Entry))
+    → ((k : Kernel) → kernel.Stands StandsFor m.kernel k
+    → kernel.Stands StandsFor new (record k { threads = threads.begins k.threads m.cpu }))
+    → is_some m.begun ≡ true → (s : Iop) → Stands m s
+    → Stands (record m { kernel = new }) (starts_by s s.begun)
+stands_started m new g some =
+    carried m (λ s. Stands (record m { kernel = new }) (starts_by s s.begun))
+    (λ k h. by m.begun some k h)
+  where
+    by : (o : Option BegunModule) → is_some o ≡ true → (k : Kernel) → kernel.Stands StandsFor m.kernel k
+        → Stands (record m { kernel = new }) (starts_by (iop_of m k) o)
+    by None e k h = absurd (cc e)
+    by (Some begun) e k h = record { kernel = g k h; rest = refl }
+
+-- there is no module for which it would be
+pub stands_unstarted : (m : Program) → is_some m.begun ≡ false → (s : Iop) → Stands m s
+    → Stands m (starts_by s s.begun)
+stands_unstarted m none s h = by s.begun (ap (λ (x : Iop). is_some x.begun) h.rest ∙ none)
+  where
+    by : (o : Option BegunModule) → is_some o ≡ false → Stands m (starts_by s o)
+    by None e = h
+    by (Some begun) e = absurd (cc e)
+
+-- the kernel's area was written, and then the first module that loads begins
+pub boots_takes : (m : Program) {a b c : Output} {loaded : Program} (memory : Memory)
+    → memory ≡ record m.guest { ram = with_bytes m.guest.ram 0 kernel_area } → Gives a b []
+    → ((s : Iop) → Stands (record m { guest = memory }) s
+    → Takes Stands (loads_first s.modules s) loaded b c) → (now : Program)
+    → ((s : Iop) → Stands loaded s → Stands now (starts_by s s.begun))
+    → (s : Iop) → Stands m s → Takes Stands (boots s) now a c
 unfolding boots
-boots_takes {v} memory same is lines h =
-    takes_as (ap boots same) (silent_then lines
-    (takes_as (ap (λ x. loads_first v.modules (record v { memory = x })) is) h))
+boots_takes m memory is lines loads now starts s h =
+    silent_then lines (takes_with (loads _ (stands_with_area m memory is s h)) Stands
+    (λ v. starts_by v v.begun) now (starts _))

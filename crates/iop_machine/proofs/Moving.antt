@@ -1,145 +1,222 @@
--- How far each step takes the clock, that no module waits where one has begun, and that a processor stays straight.
-use Rattle.std.proofs.Common.{◌≡◌, ℕ, ◌+◌, ◌≤◌, ◌==◌, Bool, true, false, cond, Option, Some, None, Result, Ok, Err, List, [], ◌∷◌, refl, arith}
+-- How far each step takes the clock, and that it keeps what holds of the kernel.
+use Rattle.std.proofs.Common.{◌≡◌, ℕ, ◌+◌, ◌≤◌, Bool, true, false, if◌then◌else◌, Option, Some, None, Result, Ok, Err, List, [], ◌∷◌, refl, ap, sym, ◌∙◌, arith, subst}
 use Rattle.iop_base.specs.declared.code.Code.{Code}
 use Rattle.iop_exec.specs.declared.cpu.Cpu.{Cpu}
 use Rattle.iop_exec.specs.Laws.{cpu_after}
 use Rattle.iop_exec.specs.Positions.{IsStraight}
 use Rattle.iop_exec.proofs.Following.{row_follows}
-use Rattle.iop_exec.specs.Row.{Row, Goes, Serves, Faults, at_next, reg, with_reg, row}
-use Rattle.iop_libs.specs.Calls.{Sight, calls_row}
-use Rattle.iop_libs.specs.declared.answer.Answer.{Answer}
-use Rattle.iop_libs.specs.declared.answer.Answer.TheVariants.{Value, Unlisted, Fault, Other}
+use Rattle.iop_exec.specs.Row.{Row, Goes, Serves, Faults, at_next, row}
+use Rattle.iop_thread.specs.Laws.{AreStraight}
+use Rattle.iop_thread.specs.Operations as threads
+use Rattle.iop_thread.specs.Placing.{IsPlaced}
+use Rattle.iop_thread.specs.ThreadTable.{ThreadTable, thread_of}
+use Rattle.iop_thread.specs.States.{is_dormant}
+use Rattle.iop_thread.specs.declared.thread.Thread.{Thread}
+use Rattle.iop_thread.specs.declared.thread.TheConstants.{LOADER}
+use Rattle.iop_kernel.specs.Dispatching.{Dispatched, dispatches}
+use Rattle.iop_kernel.specs.Laws.{IsCore}
+use Rattle.iop_kernel.specs.Serving.{services}
+use Rattle.iop_kernel.specs.System.{Kernel, Core, Served, may_switch}
+use Rattle.iop_kernel.specs.declared.after.After.{After}
+use Rattle.iop_kernel.specs.declared.after.After.TheVariants.{Resume, Switch, ModuleReturned, Fault}
+use Rattle.iop_kernel.proofs.KeepingCore.{CoreKeeps, nothing_changes, keeps_then, with_them, places as stay_placed, straights as stay_straight}
+use Rattle.iop_kernel.proofs.KeepingServices.{services_keep}
+use Rattle.iop_kernel.proofs.Returning.{returning_opens}
+use Rattle.iop_kernel.proofs.Settling.{dispatch_clock}
+use Rattle.iop_kernel.proofs.Strict.{dispatches_are_strict}
 use Rattle.iop_modload.specs.Finishing.{finishes}
 use Rattle.iop_modload.specs.declared.loaded.Loaded.{Loaded}
-use Rattle.iop_services.specs.Table.{row_of}
-use Rattle.iop_machine.specs.declared.call.Call.{Call}
-use Rattle.iop_machine.specs.declared.call.Call.TheVariants.{Library, ThreadReturn, ModuleReturn}
-use Rattle.iop_machine.specs.declared.loader.Begun.{Begun}
-use Rattle.iop_machine.specs.declared.loader.Loader.{Loader}
-use Rattle.iop_machine.specs.declared.loader.Loader.TheVariants.{Dormant, Ready, Running}
-use Rattle.iop_machine.specs.Iop.{Iop, Transition}
-use Rattle.iop_machine.specs.Loading.{loading_of, places, enters_or, loads_first}
+use Rattle.iop_machine.specs.declared.begun_module.BegunModule.{BegunModule}
+use Rattle.iop_machine.specs.Iop.{Iop, Transition, with_state, later, core_of, system_of}
+use Rattle.iop_machine.specs.Loading.{loading_of, places, enters_or, loads_first, with_kernel, starts_by, boots}
 use Rattle.iop_machine.specs.Modules.{Module, module_start}
-use Rattle.iop_machine.specs.Services.{call_of, calls, returns, runs_on, serves, leaves, answers_by, ends}
-use Rattle.iop_machine.specs.Stepping.{performs, goes_by, executes_by, one_if}
+use Rattle.iop_machine.specs.Services.{calls, calls_by, serves, leaves, goes_on_by, ends_module, returns_by}
+use Rattle.iop_machine.specs.Stepping.{performs, acts_by, goes_by, executes_by, one_if}
 
--- what loads modules takes no time
+-- what loads modules leaves the kernel as it is, and a processor straight
 pub record Lands (s : Iop) (t : Transition Iop) : Type 0 where
-  pub clock : t.state.clock ≡ s.clock
+  pub kernel : t.state.kernel ≡ s.kernel
   pub straight : IsStraight s.cpu → IsStraight t.state.cpu
 
+-- by what its loading came to, where the next one leaves it so
 enters_land : (next : Iop → Transition Iop) → ((v : Iop) → Lands v (next v)) → (s : Iop) (m : Module)
     (r : Result Loaded Code) → Lands s (enters_or next s m r)
 unfolding module_start
-enters_land next lands s m (Ok loaded) = record { clock = refl; straight = λ h out. refl }
+enters_land next lands s m (Ok loaded) = record { kernel = refl; straight = λ h out. refl }
 enters_land next lands s m (Err code) =
-    let later = lands s in record { clock = later.clock; straight = later.straight }
+    let later = lands s in record { kernel = later.kernel; straight = later.straight }
 
+-- the first module that loads begins
 pub loads_first_lands : (modules : List Module) (s : Iop) → Lands s (loads_first modules s)
 unfolding loads_first
-loads_first_lands [] s = record { clock = refl; straight = λ h. h }
+loads_first_lands [] s = record { kernel = refl; straight = λ h. h }
 loads_first_lands (m ∷ rest) s =
     let loading = loading_of s m in
     let entered = enters_land (loads_first rest) (loads_first_lands rest)
     (places s rest loading).state m loading.answer in
-    record { clock = entered.clock; straight = entered.straight }
+    record { kernel = entered.kernel; straight = entered.straight }
 
--- no module waits to begin
-abbrev pub HasBegun : Loader → Type 0
-HasBegun (Ready m) = ⊥
-HasBegun (Running m) = Unit {0}
-HasBegun Dormant = Unit {0}
+-- what holds of the kernel is kept, and no time is taken
+abbrev pub Stands : Iop → Iop → Type 0
+Stands s t = CoreKeeps (core_of s) (core_of t)
 
--- what a transition leaves of a processor and a loader's thread, at this moment at the latest
-pub record Moves (before : Cpu) (loader : Loader) (latest : ℕ) (t : Transition Iop) : Type 0 where
-  pub clock : t.state.clock ≤ latest
-  pub begun : HasBegun loader → HasBegun t.state.loader
-  pub straight : IsStraight before → IsStraight t.state.cpu
+-- where no thread runs, another may
+abbrev IsAwake : Kernel → Type 0
+IsAwake k = k.threads.running ≡ None → may_switch k ≡ true
 
-runs_on_begun : (l : Loader) → HasBegun (runs_on l)
-runs_on_begun (Ready m) = tt
-runs_on_begun (Running m) = tt
-runs_on_begun Dormant = tt
+-- what was loaded keeps it
+landed : {s : Iop} {t : Transition Iop} → Lands s t → Stands s t.state
+landed {s} lands = record {
+  core = λ h. record {
+    placed = subst (λ (k : Kernel). IsPlaced k.threads) (sym lands.kernel) h.placed;
+    awake = subst IsAwake (sym lands.kernel) h.awake;
+    straight = lands.straight h.straight;
+    threads = subst (λ (k : Kernel). AreStraight k.threads) (sym lands.kernel) h.threads;
+  };
+  clock = ap (λ (k : Kernel). k.clock) lands.kernel;
+}
 
-straight_if : (zero : Bool) (c d : Cpu) → IsStraight c → IsStraight d → IsStraight (cond zero c d)
-straight_if true c d h g = h
-straight_if false c d h g = g
+-- the loader's thread becomes ready, which leaves the thread that runs
+running_begins : (s : ThreadTable) (registers : Cpu) (o : Option Thread)
+    → (threads.begins_it s registers o).running ≡ s.running
+running_begins s registers None = refl
+running_begins s registers (Some t) = either (is_dormant t.state) _ refl
+  where
+    either : (b : Bool) (x : ThreadTable) → x.running ≡ s.running
+        → (if b then x else s).running ≡ s.running
+    either true x same = same
+    either false x same = refl
 
-straight_with : (c : Cpu) (n value : ℕ) → IsStraight c → IsStraight (with_reg c n value)
-straight_with c n value h = straight_if (n == 0) c _ h (λ out. h out)
+-- it begins, if it is to
+starts_stand : (s : Iop) (o : Option BegunModule) → Stands s (starts_by s o)
+starts_stand s None = nothing_changes (core_of s)
+starts_stand s (Some begun) = with_them (core_of s) _ (λ h. record {
+  placed = (stay_placed (core_of s) h).begins s.cpu;
+  straight = (stay_straight (core_of s) h).begins s.cpu h.straight;
+  awake = λ none. h.awake (sym (running_begins s.kernel.threads s.cpu
+      (thread_of s.kernel.threads.live LOADER)) ∙ none);
+})
 
--- of a processor that moved on before
-module _ (before : Cpu) (s : Iop) (moved : IsStraight before → IsStraight s.cpu) where
-  returns_move : (m : Begun) (value : ℕ)
-      → Moves before s.loader (s.clock + 1) (returns s m value)
-  unfolding returns
-  returns_move m value =
-      let left = (ends s
-      (finishes s.clock s.memory s.blocks s.libraries m.number m.loaded value)).state in
-      let lands = loads_first_lands s.modules left in
-      record {
-        clock = let clock = lands.clock in omega (arith, clock);
-        begun = λ h. runs_on_begun (loads_first s.modules left).state.loader;
-        straight = λ h. lands.straight (moved h);
-      }
+-- booting takes no time
+pub boots_stand : (s : Iop) → Stands s (boots s).state
+unfolding boots
+boots_stand s =
+    let lands = loads_first_lands s.modules (with_kernel s) in
+    let left = (loads_first s.modules (with_kernel s)).state in
+    keeps_then (landed lands) (starts_stand left left.begun)
 
-  answers_move : (library number : ℕ) (answer : Answer)
-      → Moves before s.loader (s.clock + 1) (answers_by before library number s answer)
-  answers_move library number (Value value) =
-      record {
-        clock = omega arith;
-        begun = λ h. h;
-        straight = λ h. straight_with s.cpu 2 value (moved h);
-      }
-  answers_move library number Unlisted =
-      record {
-        clock = omega arith;
-        begun = λ h. h;
-        straight = λ h. straight_with s.cpu 2 0xFFFFFFFF (moved h);
-      }
-  answers_move library number Fault =
-      record { clock = omega arith; begun = λ h. h; straight = λ h. h }
-  answers_move library number (Other service) =
-      record { clock = omega arith; begun = λ h. h; straight = λ h. h }
+-- the loader's thread goes on or ends, where another may run
+goes_on_stands : (s : Iop) (o : Option BegunModule) → may_switch s.kernel ≡ true
+    → Stands s (goes_on_by s o)
+goes_on_stands s None may = with_them (core_of s) _ (λ h. record {
+  placed = (stay_placed (core_of s) h).ends_running;
+  straight = (stay_straight (core_of s) h).ends_running;
+  awake = λ none. may;
+})
+goes_on_stands s (Some begun) may = nothing_changes (core_of s)
 
-serves_move : (before : Cpu) (s : Iop) (library number : ℕ)
-    → (IsStraight before → IsStraight s.cpu)
-    → Moves before s.loader (s.clock + 1) (serves before library number s)
-unfolding serves
-serves_move before s library number moved =
-    let sight : Sight = record { memory = s.memory; cpu = s.cpu } in
-    let after = calls_row sight s.blocks s.libraries false (row_of library number) in
-    let answered = answers_move before (leaves before library number s sight after).state moved
-    library number after.answer in
-    record { clock = answered.clock; begun = answered.begun; straight = answered.straight }
+-- a module ends
+ends_stand : (s : Iop) (m : BegunModule) (value : ℕ) → may_switch s.kernel ≡ true
+    → Stands s (ends_module s m value).state
+unfolding ends_module
+ends_stand s m value may =
+    let left = (leaves s
+    (finishes s.kernel.clock s.memory s.blocks s.libraries m.number m.loaded value)).state in
+    let lands = loads_first_lands s.modules left in
+    let now = (loads_first s.modules left).state in
+    keeps_then (landed lands)
+    (goes_on_stands now now.begun (ap may_switch lands.kernel ∙ may))
 
-calls_move : (s : Iop) (m : Begun) (after : Cpu) (o : Option Call)
-    → (IsStraight s.cpu → IsStraight after)
-    → Moves s.cpu s.loader (s.clock + 1) (calls s m after o)
-calls_move s m after None moved =
-    record { clock = omega arith; begun = λ h. h; straight = λ h. h }
-calls_move s m after (Some ThreadReturn) moved =
-    returns_move s.cpu (record s { cpu = after }) moved m 0
-calls_move s m after (Some ModuleReturn) moved =
-    returns_move s.cpu (record s { cpu = after }) moved m (reg after 2)
-calls_move s m after (Some (Library library number)) moved =
-    serves_move s.cpu (record s { cpu = after }) library number moved
+-- the loader's thread returned
+returns_stand : (s : Iop) (o : Option BegunModule) (value : ℕ) → may_switch s.kernel ≡ true
+    → Stands s (returns_by s o value).state
+returns_stand s None value may = goes_on_stands s None may
+returns_stand s (Some m) value may = ends_stand s m value may
 
-performs_move : (s : Iop) (m : Begun) (r : Row)
+-- what a step leaves of the kernel, at this moment at the latest
+pub record Moves (s : Iop) (latest : ℕ) (t : Transition Iop) : Type 0 where
+  pub clock : t.state.kernel.clock ≤ latest
+  pub core : IsCore (core_of s) → IsCore (core_of t.state)
+
+-- what holds of the kernel holds at any moment
+at_moment : (c : Core) (clock : ℕ) → IsCore c
+    → IsCore (record c { kernel = record c.kernel { clock = clock } })
+at_moment c clock h = record {
+  placed = h.placed;
+  awake = h.awake;
+  straight = h.straight;
+  threads = h.threads;
+}
+
+-- a transition that takes no time, and then one moment
+moves_later : {s : Iop} {t : Transition Iop} → t.state.kernel.clock ≡ s.kernel.clock
+    → (IsCore (core_of s) → IsCore (core_of t.state))
+    → Moves s (s.kernel.clock + 1) (with_state later t)
+moves_later {s} {t} clock core = record {
+  clock = omega (arith, clock);
+  core = λ h. at_moment (core_of t.state) (t.state.kernel.clock + 1) (core h);
+}
+
+-- and with another processor, if that is straight too
+moves_with : (s : Iop) (cpu : Cpu) → (IsStraight s.cpu → IsStraight cpu) → IsCore (core_of s)
+    → IsCore (record (core_of s) { cpu = cpu })
+moves_with s cpu moved h = record {
+  placed = h.placed;
+  awake = h.awake;
+  straight = moved h.straight;
+  threads = h.threads;
+}
+
+-- by what becomes of the caller
+calls_by_move : (s : Iop) (d : Served) → d.left.state.core.kernel.clock ≡ s.kernel.clock
+    → (IsCore (core_of s) → IsCore d.left.state.core) → (after : After)
+    → ((value : ℕ) → after ≡ ModuleReturned value → may_switch d.left.state.core.kernel ≡ true)
+    → Moves s (s.kernel.clock + 1) (calls_by s d after)
+calls_by_move s d clock core Resume opens = moves_later clock core
+calls_by_move s d clock core Switch opens = moves_later clock core
+calls_by_move s d clock core (ModuleReturned value) opens =
+    let now = (serves s d).state in
+    let returns = returns_stand now now.begun value (opens value refl) in
+    moves_later (returns.clock ∙ clock) (λ h. returns.core (core h))
+calls_by_move s d clock core (Fault kind) opens =
+    record { clock = omega arith; core = λ h. h }
+
+-- a `syscall`
+calls_move : (s : Iop) (behind : Cpu) (code id : ℕ) → s.kernel.threads.running ≡ Some id
+    → (IsStraight s.cpu → IsStraight behind) → Moves s (s.kernel.clock + 1) (calls s behind code)
+unfolding calls
+calls_move s behind code id runs moved =
+    let system = system_of (record s { cpu = behind }) in
+    let kept = services_keep system code id runs in
+    let d = services system code in
+    calls_by_move s d kept.clock (λ h. kept.core (moves_with s behind moved h)) d.left.after
+    (λ value e. returning_opens system code value e)
+
+-- an instruction of the thread that runs
+performs_move : (s : Iop) (id : ℕ) (r : Row) → s.kernel.threads.running ≡ Some id
     → (IsStraight s.cpu → IsStraight (cpu_after s.cpu r))
-    → Moves s.cpu s.loader (s.clock + 1) (performs s m r)
-performs_move s m (Goes after None) moved =
-    record { clock = omega arith; begun = λ h. h; straight = moved }
-performs_move s m (Goes after (Some storing)) moved =
-    record { clock = omega arith; begun = λ h. h; straight = moved }
-performs_move s m (Serves code) moved = calls_move s m (at_next s.cpu) (call_of code) moved
-performs_move s m (Faults kind) moved =
-    record { clock = omega arith; begun = λ h. h; straight = λ h. h }
+    → Moves s (s.kernel.clock + 1) (performs s r)
+performs_move s id (Goes after None) runs moved =
+    moves_later refl (moves_with s after moved)
+performs_move s id (Goes after (Some storing)) runs moved =
+    moves_later refl (moves_with s after moved)
+performs_move s id (Serves code) runs moved = calls_move s (at_next s.cpu) code id runs moved
+performs_move s id (Faults kind) runs moved =
+    record { clock = omega arith; core = λ h. h }
 
--- a step of the core that was booted
-pub goes_move : (s : Iop) (l : Loader)
-    → Moves s.cpu s.loader (s.clock + one_if (executes_by None false l)) (goes_by s l)
-goes_move s (Ready m) = record { clock = omega arith; begun = λ h. tt; straight = λ h. h }
-goes_move s (Running m) =
-    performs_move s m (row s.memory.ram s.cpu) (row_follows s.memory.ram s.cpu).straight
-goes_move s Dormant = record { clock = omega arith; begun = λ h. h; straight = λ h. h }
+-- where nothing is dispatched
+acts_move : (s : Iop) (running : Option ℕ) → s.kernel.threads.running ≡ running
+    → Moves s (s.kernel.clock + one_if (executes_by None false None running)) (acts_by s running)
+acts_move s None none = record { clock = omega arith; core = λ h. h }
+acts_move s (Some id) runs =
+    performs_move s id (row s.memory.ram s.cpu) runs (row_follows s.memory.ram s.cpu).straight
+
+-- a step of the machine that was booted
+pub goes_move : (s : Iop) (o : Option Dispatched) → dispatches (core_of s) ≡ o
+    → Moves s (s.kernel.clock + one_if (executes_by None false o s.kernel.threads.running))
+    (goes_by s o)
+goes_move s (Some d) is = record {
+  clock = let same = dispatch_clock (core_of s) d is in omega (arith, same);
+  core = λ h. (dispatches_are_strict.dispatched (core_of s) d h is).core;
+}
+goes_move s None is = acts_move s s.kernel.threads.running refl

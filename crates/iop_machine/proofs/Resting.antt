@@ -1,127 +1,117 @@
 -- How many steps execute no instruction, and how far the clock goes.
-use Rattle.std.proofs.Common.{◌≡◌, ℕ, zero, suc, ◌+◌, ◌≤◌, Bool, true, false, Option, Some, None, refl, ap, sym, ◌∙◌, arith, subst}
+use Rattle.std.proofs.Common.{◌≡◌, ℕ, zero, suc, ◌+◌, ◌*◌, ◌≤◌, Bool, true, false, Option, Some, None, refl, ap, ◌∙◌, arith}
 use Rattle.iop_base.specs.declared.stop.Stop.{Stop}
-use Rattle.iop_machine.specs.declared.loader.Loader.{Loader}
-use Rattle.iop_machine.specs.declared.loader.Loader.TheVariants.{Dormant, Ready, Running}
-use Rattle.iop_machine.specs.Iop.{Iop, Transition}
-use Rattle.iop_machine.specs.Loading.{boots, with_kernel}
-use Rattle.iop_machine.specs.Stepping.{step, steps, executes, executed, executes_by, one_if, goes_by}
+use Rattle.iop_kernel.specs.Dispatching.{Dispatched, dispatches}
+use Rattle.iop_kernel.proofs.Settling.{dispatch_settles}
+use Rattle.iop_machine.specs.Iop.{Iop, Transition, core_of}
+use Rattle.iop_machine.specs.Loading.{boots}
+use Rattle.iop_machine.specs.Stepping.{step, steps, executes, executed, executes_by, one_if, acts_by, goes_by}
 use Rattle.iop_machine.specs.World.{World, booted}
-use Rattle.iop_machine.proofs.Moving.{HasBegun, Lands, loads_first_lands, goes_move}
+use Rattle.iop_machine.proofs.Moving.{boots_stand, goes_move}
 use Rattle.iop_machine.proofs.Reaching.{steps_suc, executed_suc}
-use Rattle.iop_machine.proofs.Stepping.{step_over, step_begins, executes_are}
+use Rattle.iop_machine.proofs.Stepping.{step_over, step_begins, executes_as}
 
 -- how many steps at most execute no instruction from here on, if no more instruction is executed
-abbrev rest_by : Option Stop → (is_new : Bool) → Loader → ℕ
-rest_by (Some stop) is_new loader = 0
-rest_by None true loader = 3
-rest_by None false (Ready m) = 2
-rest_by None false (Running m) = 1
-rest_by None false Dormant = 1
+abbrev rest_by : Option Stop → (is_new : Bool) → Option Dispatched → ℕ
+rest_by (Some stop) is_new dispatch = 0
+rest_by None true dispatch = 3
+rest_by None false (Some d) = 2
+rest_by None false None = 1
 
 abbrev pub rest : World → ℕ
-rest w = rest_by w.iop.over w.is_new w.iop.loader
+rest w = rest_by w.iop.over w.is_new (dispatches (core_of w.iop))
 
-few_by : (o : Option Stop) (is_new : Bool) (l : Loader) → rest_by o is_new l ≤ 3
-few_by (Some stop) is_new l = omega arith
-few_by None true l = omega arith
-few_by None false (Ready m) = omega arith
-few_by None false (Running m) = omega arith
-few_by None false Dormant = omega arith
+-- they are three at most
+few_by : (o : Option Stop) (is_new : Bool) (d : Option Dispatched) → rest_by o is_new d ≤ 3
+few_by (Some stop) is_new d = omega arith
+few_by None true d = omega arith
+few_by None false (Some d) = omega arith
+few_by None false None = omega arith
 
 pub rest_few : (w : World) → rest w ≤ 3
-rest_few w = few_by w.iop.over w.is_new w.iop.loader
+rest_few w = few_by w.iop.over w.is_new (dispatches (core_of w.iop))
 
--- booting takes no time
-pub boots_land : (s : Iop) → Lands s (boots s)
-unfolding boots
-boots_land s =
-    let lands = loads_first_lands s.modules (with_kernel s) in
-    record { clock = lands.clock; straight = lands.straight }
+-- two, once it was booted
+booted_rest : (o : Option Stop) (d : Option Dispatched) → rest_by o false d ≤ 2
+booted_rest (Some stop) d = omega arith
+booted_rest None (Some d) = omega arith
+booted_rest None None = omega arith
 
-booted_rest : (o : Option Stop) (l : Loader) → rest_by o false l ≤ 2
-booted_rest (Some stop) l = omega arith
-booted_rest None (Ready m) = omega arith
-booted_rest None (Running m) = omega arith
-booted_rest None Dormant = omega arith
+-- by the thread that runs
+rest_acts : (s : Iop) (running : Option ℕ)
+    → rest (booted (acts_by s running).state) + 1
+    ≤ 1 + 2 * one_if (executes_by None false None running)
+rest_acts s None = omega arith
+rest_acts s (Some id) =
+    let now = (acts_by s (Some id)).state in
+    omega (arith, booted_rest now.over (dispatches (core_of now)))
 
-begun_rest : (o : Option Stop) (l : Loader) → HasBegun l → rest_by o false l ≤ 1
-begun_rest (Some stop) l h = omega arith
-begun_rest None (Ready m) h = absurd h
-begun_rest None (Running m) h = omega arith
-begun_rest None Dormant h = omega arith
-
-rest_goes : (s : Iop) (l : Loader) → s.over ≡ None → s.loader ≡ l
-    → rest (booted (goes_by s l).state) + 1 ≤ rest_by None false l + one_if (executes_by None false l)
-rest_goes s (Ready m) e f = omega (arith, ap (λ o. rest_by o false (Running m)) e)
-rest_goes s (Running m) e f =
-    let now = (goes_by s (Running m)).state in
-    let begun = (goes_move s (Running m)).begun (subst HasBegun (sym f) tt) in
-    omega (arith, begun_rest now.over now.loader begun)
-rest_goes s Dormant e f = omega arith
+-- by what is dispatched, after which nothing is
+rest_goes : (s : Iop) (d : Option Dispatched) → s.over ≡ None → dispatches (core_of s) ≡ d
+    → rest (booted (goes_by s d).state) + 1
+    ≤ rest_by None false d + 2 * one_if (executes_by None false d s.kernel.threads.running)
+rest_goes s (Some d) over is =
+    let now = (goes_by s (Some d)).state in
+    omega (
+      arith,
+      ap (λ o. rest_by o false (dispatches (core_of now))) over,
+      ap (rest_by None false) (dispatch_settles (core_of s) d is),
+    )
+rest_goes s None over is = rest_acts s s.kernel.threads.running
 
 module _ (w : World) (over : w.iop.over ≡ None) where
-  rest_is : (is_new : Bool) → w.is_new ≡ is_new → rest w ≡ rest_by None is_new w.iop.loader
-  rest_is is_new f = ap (λ x. rest_by x w.is_new w.iop.loader) over
-      ∙ ap (λ x. rest_by None x w.iop.loader) f
+  abbrev dispatch : Option Dispatched
+  dispatch = dispatches (core_of w.iop)
 
-  executes_as : (is_new : Bool) → w.is_new ≡ is_new
-      → executes w ≡ executes_by None is_new w.iop.loader
-  executes_as is_new f =
-      executes_are w ∙ ap (λ x. executes_by x w.is_new w.iop.loader) over
-      ∙ ap (λ x. executes_by None x w.iop.loader) f
+  -- what rests where it is not stopped
+  rest_is : (is_new : Bool) → w.is_new ≡ is_new → rest w ≡ rest_by None is_new dispatch
+  rest_is is_new f = ap (λ x. rest_by x w.is_new dispatch) over
+      ∙ ap (λ x. rest_by None x dispatch) f
 
+  -- how many instructions it executes then
+  executes_if : (is_new : Bool) → w.is_new ≡ is_new
+      → one_if (executes w) ≡ one_if (executes_by None is_new dispatch w.iop.kernel.threads.running)
+  executes_if is_new f = ap one_if (executes_as w is_new _ _ over f refl refl)
+
+  -- by whether it is to be booted
   rest_after : (is_new : Bool) → w.is_new ≡ is_new
-      → rest (step w).state + 1 ≤ rest w + one_if (executes w)
+      → rest (step w).state + 1 ≤ rest w + 2 * one_if (executes w)
   rest_after true f =
       let now = (boots w.iop).state in
       let is = ap (λ (t : Transition World). rest t.state) (step_begins w true over f) in
-      omega (arith, is, rest_is true f, booted_rest now.over now.loader)
+      omega (arith, is, rest_is true f, booted_rest now.over (dispatches (core_of now)))
   rest_after false f =
       let is = ap (λ (t : Transition World). rest t.state) (step_begins w false over f) in
-      omega (
-        arith,
-        is,
-        rest_is false f,
-        ap one_if (executes_as false f),
-        rest_goes w.iop w.iop.loader
-            over refl,
-      )
+      omega (arith, is, rest_is false f, executes_if false f, rest_goes w.iop dispatch over refl)
 
-  -- a step leaves fewer steps without an instruction, unless it executes one
-  pub rest_step : rest (step w).state + 1 ≤ rest w + one_if (executes w)
+  -- a step leaves fewer steps without an instruction; one that executes an instruction leaves one more
+  -- at most
+  pub rest_step : rest (step w).state + 1 ≤ rest w + 2 * one_if (executes w)
   rest_step = rest_after w.is_new refl
 
+  -- by whether it is to be booted
   clock_after : (is_new : Bool) → w.is_new ≡ is_new
-      → (step w).state.iop.clock ≤ w.iop.clock + one_if (executes w)
+      → (step w).state.iop.kernel.clock ≤ w.iop.kernel.clock + one_if (executes w)
   clock_after true f =
-      omega (
-        arith,
-        ap (λ (t : Transition World). t.state.iop.clock)
-            (step_begins w true over f),
-        (boots_land w.iop).clock,
-      )
+      let is = ap (λ (t : Transition World). t.state.iop.kernel.clock) (step_begins w true over f) in
+      omega (arith, is, (boots_stand w.iop).clock)
   clock_after false f =
-      let is = ap (λ (t : Transition World). t.state.iop.clock) (step_begins w false over f) in
-      omega (arith, is, ap one_if (executes_as false f), (goes_move w.iop w.iop.loader).clock)
+      let is = ap (λ (t : Transition World). t.state.iop.kernel.clock) (step_begins w false over f) in
+      omega (arith, is, executes_if false f, (goes_move w.iop dispatch refl).clock)
 
+-- a step takes a tick, if it executes an instruction
 clock_by : (w : World) (o : Option Stop) → w.iop.over ≡ o
-    → (step w).state.iop.clock ≤ w.iop.clock + one_if (executes w)
+    → (step w).state.iop.kernel.clock ≤ w.iop.kernel.clock + one_if (executes w)
 clock_by w (Some stop) e =
-    omega (arith, ap (λ (t : Transition World). t.state.iop.clock) (step_over w stop e))
+    omega (arith, ap (λ (t : Transition World). t.state.iop.kernel.clock) (step_over w stop e))
 clock_by w None e = clock_after w e w.is_new refl
 
 -- the clock takes no more ticks than instructions are executed
-pub clock_steps : (w : World) (k : ℕ) → (steps k w).state.iop.clock ≤ w.iop.clock + executed k w
+pub clock_steps : (w : World) (k : ℕ)
+    → (steps k w).state.iop.kernel.clock ≤ w.iop.kernel.clock + executed k w
 unfolding steps executed
 clock_steps w zero = omega arith
 clock_steps w (suc k) =
     let v = (steps k w).state in
-    omega (
-      arith,
-      clock_steps w k,
-      clock_by v v.iop.over refl,
-      ap
-          (λ (t : Transition World). t.state.iop.clock) (steps_suc k w),
-      executed_suc k w,
-    )
+    let same = ap (λ (t : Transition World). t.state.iop.kernel.clock) (steps_suc k w) in
+    omega (arith, clock_steps w k, clock_by v v.iop.over refl, same, executed_suc k w)

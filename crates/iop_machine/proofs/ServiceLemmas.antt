@@ -1,94 +1,254 @@
--- What a service and the return of a module make of the core.
-use Rattle.std.proofs.Common.{◌≡◌, ℕ, false, List, ap, sym, ◌∙◌}
+-- What a service and the return of a module make of the machine.
+use Rattle.std.proofs.Common.{◌≡◌, ℕ, true, false, Option, Some, None, List, length, refl, ap, sym, ◌∙◌, subst}
+use Rattle.std.specs.Prelude.{is_some}
 use Rattle.iop_base.specs.Output.{Output, Gives}
+use Rattle.iop_base.specs.declared.guest_fault.GuestFault.{GuestFault}
 use Rattle.iop_exec.specs.Positions.{standing_at}
+use Rattle.iop_exec.specs.declared.cpu.Cpu.{Cpu}
 use Rattle.iop_exec.specs.declared.position.Position.{Position}
-use Rattle.iop_libs.specs.Calls.{Sight, After, calls_row, row_pieces}
-use Rattle.iop_libs.specs.declared.answer.Answer.{Answer}
+use Rattle.iop_kernel.proofs.Faulting.{services_alone}
+use Rattle.iop_kernel.proofs.KeepingServices.{services_keep}
+use Rattle.iop_kernel.specs.Laws.{ServiceKeeps}
+use Rattle.iop_kernel.specs.Serving.{services}
+use Rattle.iop_kernel.specs.Standing as kernel
+use Rattle.iop_kernel.specs.System.{Kernel, Served}
+use Rattle.iop_kernel.specs.declared.after.After.{After}
+use Rattle.iop_kernel.specs.declared.after.After.TheVariants.{Fault}
+use Rattle.iop_kernel.specs.declared.kernel.Kernel.{Kernel as Kernels}
 use Rattle.iop_modload.specs.Finishing.{finishes}
-use Rattle.iop_registry.specs.declared.registry.Entry.{Entry}
-use Rattle.iop_services.specs.Table.{row_of}
+use Rattle.iop_ready.specs.ReadyList.{StandsFor}
+use Rattle.iop_ready.specs.declared.entry.Entry.{Entry}
+use Rattle.iop_registry.specs.declared.registry.Entry.{Entry as Library}
 use Rattle.iop_stubs.specs.Stubs.{Memory}
 use Rattle.iop_sysmem.specs.BlockMap.{BlockMap}
-use Rattle.iop_machine.specs.declared.loader.Begun.{Begun}
-use Rattle.iop_machine.specs.declared.loader.Loader.{Loader}
-use Rattle.iop_machine.specs.Iop.{Iop, Takes, with_state, later}
+use Rattle.iop_thread.specs.Operations as threads
+use Rattle.iop_machine.specs.declared.begun_module.BegunModule.{BegunModule}
+use Rattle.iop_machine.specs.declared.iop.Iop.{Iop as Program}
+use Rattle.iop_machine.specs.Iop.{Iop, Takes, with_state, system_of, with_system}
 use Rattle.iop_machine.specs.Loading.{loads_first}
-use Rattle.iop_machine.specs.Services.{answers_by, leaves, serves, ends, runs_on, returns}
+use Rattle.iop_machine.specs.Services.{faults_with, leaves, goes_on_by, ends_module, returns_by, serves, calls_by, calls}
+use Rattle.iop_machine.specs.Standing.{iop_of, Stands}
+use Rattle.iop_machine.proofs.Inside.{length-after_store}
 use Rattle.iop_machine.proofs.Moving.{loads_first_lands}
+use Rattle.iop_machine.proofs.StandingLemmas.{IsMoment, carried}
 use Rattle.iop_machine.proofs.Taking.{takes_as, takes_then, takes_with}
 
-abbrev sight_of : Iop → Sight
-sight_of s = record { memory = s.memory; cpu = s.cpu }
+-- what a module leaves that was ended at a moment
+module _ (m : Program) (t : ℕ) (moment : IsMoment m t) (begun : BegunModule) (value : ℕ) where
+  pub ended_takes : {a b : Output} (memory : Memory) (blocks : BlockMap) (libraries : List Library)
+      → let l = finishes t m.guest m.blocks m.registry begun.number begun.loaded value in
+      memory ≡ l.memory → blocks ≡ l.blocks → libraries ≡ l.libraries → Gives a b l.pieces
+      → (s : Iop) → Stands m s
+      → Takes Stands (leaves s
+      (finishes s.kernel.clock s.memory s.blocks s.libraries begun.number begun.loaded value))
+      (record m { guest = memory; blocks = blocks; registry = libraries }) a b
+  ended_takes {a} {b} memory blocks libraries d e f lines =
+      let l = finishes t m.guest m.blocks m.registry begun.number begun.loaded value in
+      let now = record m { guest = memory; blocks = blocks; registry = libraries } in
+      carried m (λ s. Takes Stands (leaves s
+      (finishes s.kernel.clock s.memory s.blocks s.libraries begun.number begun.loaded value)) now a b)
+      (λ k h. subst (λ u. Takes Stands (leaves (iop_of m k)
+      (finishes u m.guest m.blocks m.registry begun.number begun.loaded value)) now a b) (moment k h)
+      (record {
+        state = record {
+          kernel = h;
+          rest = ap (λ (x : Memory). record (iop_of m k)
+              { memory = x; blocks = l.blocks; libraries = l.libraries }) (sym d)
+              ∙ ap (λ (x : BlockMap). record (iop_of m k)
+              { memory = memory; blocks = x; libraries = l.libraries }) (sym e)
+              ∙ ap (λ (x : List Library). record (iop_of m k)
+              { memory = memory; blocks = blocks; libraries = x }) (sym f);
+        };
+        gives = lines;
+      }))
 
--- the library was called, and then its answer was given
-module _ {v self : Iop} (same : v ≡ self) (position : Position) (library number : ℕ) {a b : Output}
-    (after : After)
-    (is : after ≡ calls_row (sight_of v) v.blocks v.libraries false (row_of library number))
-    (lines : Gives a b (row_pieces (sight_of v) false (row_of library number))) where
-  called : Takes (leaves (standing_at position v.cpu) library number v (sight_of v)
-      (calls_row (sight_of v) v.blocks v.libraries false (row_of library number)))
-      (record v { blocks = after.blocks; libraries = after.libraries }) a b
-  called = record {
-    state = ap (λ (x : After). record v { blocks = x.blocks; libraries = x.libraries }) is;
-    gives = lines;
-  }
+-- another module begins: the loader's thread goes on
+pub stands_going_on : (m : Program) → is_some m.begun ≡ true → (s : Iop) → Stands m s
+    → Stands m (goes_on_by s s.begun)
+stands_going_on m some s h = by s.begun (ap (λ (x : Iop). is_some x.begun) h.rest ∙ some)
+  where
+    by : (o : Option BegunModule) → is_some o ≡ true → Stands m (goes_on_by s o)
+    by None e = absurd (cc e)
+    by (Some begun) e = h
 
-  pub serves_takes : (answer : Answer) → after.answer ≡ answer → {new : Iop} {c : Output}
-      → Takes (answers_by (standing_at position v.cpu) library number
-      (record v { blocks = after.blocks; libraries = after.libraries }) answer) new b c
-      → Takes (serves (standing_at position self.cpu) library number self) new a c
-  unfolding serves
-  serves_takes answer told h =
-      let before = standing_at position v.cpu in
-      let row = calls_row (sight_of v) v.blocks v.libraries false (row_of library number) in
-      let left = record v { blocks = after.blocks; libraries = after.libraries } in
-      takes_as (ap (λ (s : Iop). serves (standing_at position s.cpu) library number s) same)
-      (takes_then called (λ s. answers_by before library number s row.answer)
-      (takes_as (ap (answers_by before library number left)
-      (sym told ∙ ap (λ (x : After). x.answer) is)) h))
+-- none does: it has ended
+module _ (m : Program) (new : Kernels (List Entry))
+    (ends : (k : Kernel) → kernel.Stands StandsFor m.kernel k
+    → kernel.Stands StandsFor new (record k { threads = threads.ends_running k.threads })) where
+  pub stands_ended : (s : Iop) → Stands m s → Stands (record m { kernel = new }) (goes_on_by s None)
+  stands_ended =
+      carried m (λ s. Stands (record m { kernel = new }) (goes_on_by s None))
+      (λ k h. record { kernel = ends k h; rest = refl })
 
--- what a return leaves before the next module is loaded
-abbrev pub left_by : Iop → Memory → BlockMap → List Entry → Iop
-left_by s memory blocks libraries =
-    record s { memory = memory; blocks = blocks; libraries = libraries }
+  -- where no module begins
+  pub stands_not_going_on : is_some m.begun ≡ false → (s : Iop) → Stands m s
+      → Stands (record m { kernel = new }) (goes_on_by s s.begun)
+  stands_not_going_on none s h = by s.begun (ap (λ (x : Iop). is_some x.begun) h.rest ∙ none)
+    where
+      by : (o : Option BegunModule) → is_some o ≡ false
+          → Stands (record m { kernel = new }) (goes_on_by s o)
+      by None e = stands_ended s h
+      by (Some begun) e = absurd (cc e)
 
--- memory, blocks and libraries are those that finishing leaves, and these are its lines
-abbrev pub Finished : Iop → Begun → (value : ℕ) → Memory → BlockMap → List Entry → (old new : Output)
-    → Type 0
-Finished s m value memory blocks libraries old new =
-    let l = finishes s.clock s.memory s.blocks s.libraries m.number m.loaded value in
-    (memory ≡ l.memory) × (blocks ≡ l.blocks) × (libraries ≡ l.libraries) × Gives old new l.pieces
+-- a module was ended, and then the next one was loaded
+pub ends_module_takes : {m left loaded : Program} {a b c : Output} (begun : BegunModule) (value : ℕ)
+    → ((s : Iop) → Stands m s → Takes Stands (leaves s
+    (finishes s.kernel.clock s.memory s.blocks s.libraries begun.number begun.loaded value)) left a b)
+    → ((s : Iop) → Stands left s → Takes Stands (loads_first s.modules s) loaded b c)
+    → (now : Program) → ((s : Iop) → Stands loaded s → Stands now (goes_on_by s s.begun))
+    → (s : Iop) → Stands m s → Takes Stands (ends_module s begun value) now a c
+unfolding ends_module
+ends_module_takes begun value ended loads now goes s h =
+    let taken = ended s h in
+    takes_then taken (λ v. with_state (λ u. goes_on_by u u.begun) (loads_first v.modules v))
+    (takes_with (loads _ taken.state) Stands (λ u. goes_on_by u u.begun) now (goes _))
 
--- a module that returned was ended, and then the next one was loaded
-module _ {v self : Iop} (same : v ≡ self) (memory : Memory) (blocks : BlockMap)
-    (libraries : List Entry) {b c : Output} {loaded : Iop}
-    (t : Takes (loads_first v.modules (left_by v memory blocks libraries)) loaded b c) where
-  pub returns_takes : {a : Output} (m : Begun) (value : ℕ)
-      → Finished v m value memory blocks libraries a b
-      → Takes (returns self m value) (later (record loaded { loader = runs_on loaded.loader })) a c
-  unfolding returns
-  returns_takes {a} m value h =
-      let l = finishes v.clock v.memory v.blocks v.libraries m.number m.loaded value in
-      let runs = λ (s : Iop). later (record s { loader = runs_on s.loader }) in
-      let ended : Takes (ends v l) (left_by v memory blocks libraries) a b = record {
-        state = ap (λ x. left_by v x blocks libraries) h.0
-            ∙ ap (λ x. left_by v l.memory x libraries) h.1 ∙ ap (left_by v l.memory l.blocks) h.2;
-        gives = h.3;
-      } in
-      takes_as (ap (λ (s : Iop). returns s m value) same)
-      (takes_then ended (λ s. with_state runs (loads_first s.modules s)) (takes_with t runs))
+-- by whether a module had begun
+pub returns_takes : {m now : Program} {a b : Output} (o : Option BegunModule) (value : ℕ)
+    → m.begun ≡ o → ((s : Iop) → Stands m s → Takes Stands (returns_by s o value) now a b)
+    → (s : Iop) → Stands m s → Takes Stands (returns_by s s.begun value) now a b
+returns_takes {m} {now} {a} {b} o value is g s h =
+    subst (λ x. Takes Stands (returns_by s x value) now a b)
+    (sym (ap (λ (x : Iop). x.begun) h.rest ∙ is)) (g s h)
 
-  -- which takes no time
-  pub clock_left : loaded.clock ≡ self.clock
-  clock_left =
-      ap (λ (s : Iop). s.clock) t.state
-      ∙ (loads_first_lands v.modules (left_by v memory blocks libraries)).clock
-      ∙ ap (λ (s : Iop). s.clock) same
+-- the end of the loader's thread takes no time
+goes_on_clock : (s : Iop) (o : Option BegunModule) → (goes_on_by s o).kernel.clock ≡ s.kernel.clock
+goes_on_clock s None = refl
+goes_on_clock s (Some begun) = refl
 
--- the loader's thread runs on, a moment later
-pub runs_on_as : {v loaded : Iop} (l : Loader) → v ≡ loaded → l ≡ runs_on v.loader
-    → later (record loaded { loader = runs_on loaded.loader }) ≡ later (record v { loader = l })
-runs_on_as {v} l same is =
-    ap (λ (s : Iop). later (record s { loader = runs_on s.loader })) (sym same)
-    ∙ ap (λ x. later (record v { loader = x })) (sym is)
+-- nor does the return of a module
+returns_clock : (s : Iop) (o : Option BegunModule) (value : ℕ)
+    → (returns_by s o value).state.kernel.clock ≡ s.kernel.clock
+unfolding ends_module
+returns_clock s None value = refl
+returns_clock s (Some m) value =
+    let l = finishes s.kernel.clock s.memory s.blocks s.libraries m.number m.loaded value in
+    let loaded = loads_first s.modules (leaves s l).state in
+    goes_on_clock loaded.state loaded.state.begun
+    ∙ ap (λ (k : Kernel). k.clock) (loads_first_lands s.modules (leaves s l).state).kernel
+
+-- the processor stands again where it stood before
+pub stands_restored : (m : Program) (before : Position) (cpu : Cpu) → cpu ≡ standing_at before m.cpu
+    → (s : Iop) → Stands m s
+    → Stands (record m { cpu = cpu }) (record s { cpu = standing_at before s.cpu })
+stands_restored m before cpu e =
+    carried m (λ s. Stands (record m { cpu = cpu }) (record s { cpu = standing_at before s.cpu }))
+    (λ k h. record { kernel = h; rest = ap (λ x. record (iop_of m k) { cpu = x }) (sym e) })
+
+-- what a `syscall` of a code comes to
+abbrev pub did : ℕ → Iop → Served
+did code s = services (system_of s) code
+
+-- this call left the kernel with its processor, the memory, the blocks and the libraries so, and gave
+-- its pieces
+pub record IsServed (m left : Program) (code : ℕ) (after : After) (a b : Output) : Type 0 where
+  pub taken : (k : Kernel) → kernel.Stands StandsFor m.kernel k
+      → kernel.Takes StandsFor (did code (iop_of m k)).left after
+      left.kernel left.cpu left.guest left.blocks left.registry
+  pub lines : (k : Kernel) → kernel.Stands StandsFor m.kernel k
+      → Gives a b (did code (iop_of m k)).pieces
+
+-- as the clauses of the kernel's call say it
+pub served : (m : Program) (new : Kernels (List Entry)) (cpu : Cpu) (memory : Memory)
+    (blocks : BlockMap) (libraries : List Library) (code : ℕ) (after : After) {a b : Output}
+    → ((k : Kernel) → kernel.Stands StandsFor m.kernel k
+    → kernel.Takes StandsFor (did code (iop_of m k)).left after new cpu memory blocks libraries)
+    → ((k : Kernel) → kernel.Stands StandsFor m.kernel k → Gives a b (did code (iop_of m k)).pieces)
+    → IsServed m (record m
+    { kernel = new; cpu = cpu; guest = memory; blocks = blocks; registry = libraries }) code after a b
+served m new cpu memory blocks libraries code after taken lines =
+    record { taken = taken; lines = lines }
+
+-- the program with what was left
+abbrev pub with_left : Program → Program → Program
+with_left m left = record m { kernel = left.kernel; cpu = left.cpu; guest = left.guest; blocks = left.blocks; registry = left.registry }
+
+module _ {m left : Program} {code : ℕ} {after : After} {a b : Output}
+    (h : IsServed m left code after a b) (before : Position) where
+  -- the state in which the processor stood at the `syscall`
+  abbrev pub stood : Iop → Iop
+  stood s = record s { cpu = standing_at before s.cpu }
+
+  -- the call took what it leaves and gives
+  pub serves_takes : (s : Iop) → Stands m s
+      → Takes Stands (serves (stood s) (did code s)) (with_left m left) a b
+  serves_takes =
+      carried m (λ s. Takes Stands (serves (stood s) (did code s)) (with_left m left) a b) (λ k stands.
+      let taken = h.taken k stands in
+      let x = (did code (iop_of m k)).left.state in
+      let now = iop_of (with_left m left) x.core.kernel in
+      record {
+        state = record {
+          kernel = taken.core.kernel;
+          rest = ap (λ (v : Cpu). record now
+              { cpu = v; memory = x.memory; blocks = x.blocks; libraries = x.libraries })
+              (sym taken.core.processor)
+              ∙ ap (λ (v : Memory). record now
+              { memory = v; blocks = x.blocks; libraries = x.libraries }) (sym taken.ram)
+              ∙ ap (λ (v : BlockMap). record now { blocks = v; libraries = x.libraries })
+              (sym taken.map)
+              ∙ ap (λ (v : List Library). record now { libraries = v }) (sym taken.registry);
+        };
+        gives = h.lines k stands;
+      })
+
+  -- what it answered becomes of its caller
+  answer_is : (s : Iop) → Stands m s → after ≡ (did code s).left.after
+  answer_is = carried m (λ s. after ≡ (did code s).left.after) (λ k stands. (h.taken k stands).core.answer)
+
+  -- then by what becomes of its caller
+  pub calls_takes : (r : After) → after ≡ r → {now : Program} {c : Output} (s : Iop) → Stands m s
+      → Takes Stands (calls_by (stood s) (did code s) r) now a c
+      → Takes Stands (calls (stood s) s.cpu code) now a c
+  unfolding calls
+  calls_takes r is s stands t =
+      takes_as t (ap (calls_by (stood s) (did code s)) (sym is ∙ answer_is s stands))
+
+  -- one that faulted has changed nothing, and given nothing
+  pub faults_takes : (kind : GuestFault) → after ≡ Fault kind → (cpu : Cpu)
+      → cpu ≡ standing_at before left.cpu → (now : Program)
+      → ((s : Iop) → Stands (record (with_left m left) { cpu = cpu }) s → Stands now (faults_with s kind))
+      → (s : Iop) → Stands m s → Takes Stands (calls (stood s) s.cpu code) now a b
+  faults_takes kind is cpu restored now faults s stands =
+      let taken = serves_takes s stands in
+      let alone = services_alone (system_of s) code kind (sym (answer_is s stands) ∙ is) in
+      let same : Stands (with_left m left) s =
+      subst (λ x. Stands (with_left m left) (with_system s x)) alone.0 taken.state in
+      calls_takes (Fault kind) is s stands (record {
+        state = faults _ (stands_restored (with_left m left) before cpu restored s same);
+        gives = subst (Gives a b) alone.1 taken.gives;
+      })
+
+  -- where a thread runs, a call keeps what each service keeps
+  pub keeps : (s : Iop) → is_some s.kernel.threads.running ≡ true
+      → ServiceKeeps (system_of s) (did code s)
+  keeps s runs = by s.kernel.threads.running refl runs
+    where
+      by : (o : Option ℕ) → s.kernel.threads.running ≡ o → is_some o ≡ true
+          → ServiceKeeps (system_of s) (did code s)
+      by None e some = absurd (cc some)
+      by (Some id) e some = services_keep (system_of s) code id e
+
+  -- so the moment is that of before
+  pub clock_left : (s : Iop) → Stands m s → is_some s.kernel.threads.running ≡ true
+      → left.kernel.clock ≡ m.kernel.clock
+  clock_left s stands runs =
+      sym (serves_takes s stands).state.kernel.clock ∙ (keeps s runs).clock ∙ stands.kernel.clock
+
+  -- and the blocks are those of the same memory
+  pub size_left : (s : Iop) → Stands m s → is_some s.kernel.threads.running ≡ true
+      → m.blocks.size ≡ length m.guest.ram → left.blocks.size ≡ length left.guest.ram
+  size_left s stands runs same =
+      let left_is = (serves_takes s stands).state.rest in
+      let kept = keeps s runs in
+      let memory = kept.memory in
+      sym (ap (λ (v : Iop). v.blocks.size) left_is) ∙ kept.blocks.size ∙ ap (λ (v : Iop). v.blocks.size) stands.rest
+      ∙ same ∙ ap (λ (v : Iop). length v.memory.ram) (sym stands.rest)
+      ∙ sym (ap (λ (x : Memory). length x.ram) memory.left ∙ length-after_store s.memory memory.place memory.bytes memory.inside)
+      ∙ ap (λ (v : Iop). length v.memory.ram) left_is
+
+-- the module that returned takes no time
+pub clock_returned : {v now : Program} {a b : Output} (value : ℕ) (s : Iop) → Stands v s
+    → Takes Stands (returns_by s s.begun value) now a b → now.kernel.clock ≡ v.kernel.clock
+clock_returned value s stands t =
+    sym t.state.kernel.clock ∙ returns_clock s s.begun value ∙ stands.kernel.clock

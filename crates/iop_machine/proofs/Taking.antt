@@ -1,42 +1,32 @@
 -- How transitions that calls took follow one another.
-use Rattle.std.proofs.Common.{◌≡◌, [], refl, ap, ◌∙◌, subst}
+use Rattle.std.proofs.Common.{◌≡◌, [], subst}
 use Rattle.iop_base.specs.Output.{Output, Gives}
 use Rattle.iop_base.proofs.Giving.{gives_none, gives_then}
-use Rattle.iop_base.specs.declared.line.Line.{Line}
-use Rattle.iop_machine.specs.Iop.{Iop, Transition, Takes, silent, tells, and_then, with_state}
+use Rattle.iop_machine.specs.Iop.{Transition, Takes, silent, and_then, with_state}
 
-module _ {S : Type 0} {t : Transition S} {now : S} {a b : Output} (h : Takes t now a b) where
+module _ {P S : Type 0} {stands_for : P → S → Type 0} {t : Transition S} {now : P} {a b : Output}
+    (h : Takes stands_for t now a b) where
   -- the second transition begins in the state that the first one left
-  pub takes_then : {c : Output} {later : S} (f : S → Transition S) → Takes (f now) later b c
-      → Takes (and_then t f) later a c
-  takes_then {c} {later} f g = record {
-    state = g.state ∙ ap (λ s. (f s).state) h.state;
-    gives = gives_then h.gives (subst (λ s. Gives b c (f s).pieces) h.state g.gives);
-  }
+  pub takes_then : {c : Output} {later : P} (f : S → Transition S)
+      → Takes stands_for (f t.state) later b c → Takes stands_for (and_then t f) later a c
+  takes_then f g = record { state = g.state; gives = gives_then h.gives g.gives }
 
-  pub takes_with : {T : Type 0} (f : S → T) → Takes (with_state f t) (f now) a b
-  takes_with f = record { state = ap f h.state; gives = h.gives }
+  -- a state is made of the one that was left
+  pub takes_with : {Q T : Type 0} (stands : Q → T → Type 0) (f : S → T) (later : Q)
+      → (stands_for now t.state → stands later (f t.state))
+      → Takes stands (with_state f t) later a b
+  takes_with stands f later g = record { state = g h.state; gives = h.gives }
 
--- the state by another name
-pub takes_to : {S : Type 0} {t : Transition S} {now new : S} {a b : Output} → now ≡ new
-    → Takes t now a b → Takes t new a b
-takes_to {t} {a} {b} e h = subst (λ s. Takes t s a b) e h
-
--- a line that was given
-pub tells_takes : {s now : Iop} {a b : Output} (line : Line) → s ≡ now
-    → Gives a b (tells s line).pieces → Takes (tells now line) now a b
-tells_takes {a} {b} line e h =
-    record { state = refl; gives = subst (λ (x : Iop). Gives a b (tells x line).pieces) e h }
+  -- the same transition, by another name
+  pub takes_as : {u : Transition S} → t ≡ u → Takes stands_for u now a b
+  takes_as e = subst (λ x. Takes stands_for x now a b) e h
 
 -- what gives nothing takes no piece of what follows
-pub silent_then : {S : Type 0} {t : Transition S} {now : S} {a b c : Output} → Gives a b []
-    → Takes t now b c → Takes t now a c
+pub silent_then : {P S : Type 0} {stands_for : P → S → Type 0} {t : Transition S} {now : P}
+    {a b c : Output} → Gives a b [] → Takes stands_for t now b c → Takes stands_for t now a c
 silent_then g h = record { state = h.state; gives = gives_then g h.gives }
 
--- the same transition, by another name
-pub takes_as : {S : Type 0} {t u : Transition S} {now : S} {a b : Output} → t ≡ u → Takes t now a b
-    → Takes u now a b
-takes_as {now} {a} {b} e h = subst (λ x. Takes x now a b) e h
-
-pub silent_takes : {S : Type 0} {now s : S} (a : Output) → now ≡ s → Takes (silent s) now a a
-silent_takes a e = record { state = e; gives = gives_none a }
+-- nothing is given
+pub silent_takes : {P S : Type 0} {stands_for : P → S → Type 0} {now : P} {s : S} (a : Output)
+    → stands_for now s → Takes stands_for (silent s) now a a
+silent_takes a h = record { state = h; gives = gives_none a }

@@ -12,7 +12,9 @@ use Rattle.iop_registry.specs.KernelLibraries.{kernel_libraries}
 use Rattle.iop_registry.specs.declared.registry.Entry.{Entry}
 use Rattle.irx_tables.specs.Exports.{header_of, functions}
 use Rattle.iop_machine.specs.declared.arguments.TheConstants.{MODULE_RETURN}
-use Rattle.iop_machine.specs.declared.kernel_area.TheConstants.{SERVICES}
+use Rattle.iop_kernel.specs.declared.call.TheConstants.{SERVICES, THREAD_RETURN_CALL, HANDLER_RETURN_CALL, MODULE_RETURN_CALL}
+use Rattle.iop_thread.specs.declared.thread.TheConstants.{THREAD_RETURN}
+use Rattle.iop_machine.specs.declared.kernel_area.TheConstants.{HANDLER_RETURN}
 use Rattle.iop_machine.specs.KernelArea.{syscall_word, service_at, kernel_area}
 use Rattle.iop_machine.specs.Modules.{Module, HasRoom}
 use Rattle.iop_machine.specs.Stepping.{step}
@@ -45,9 +47,9 @@ pub record HasLibrary (memory : List ℕ) (library : ℕ) (entry : Entry) : Type
 pub record HasKernel (memory : List ℕ) : Type 0 where
   pub library : (number : ℕ) (entry : Entry) → slice_get kernel_libraries number ≡ Some entry
       → HasLibrary memory number entry
-  pub thread_return : HasCall memory 0x3000 0xF00
-  pub handler_return : HasCall memory 0x3010 0xF01
-  pub module_return : HasCall memory MODULE_RETURN 0xF02
+  pub thread_return : HasCall memory THREAD_RETURN THREAD_RETURN_CALL
+  pub handler_return : HasCall memory HANDLER_RETURN HANDLER_RETURN_CALL
+  pub module_return : HasCall memory MODULE_RETURN MODULE_RETURN_CALL
 
 -- the area is read so whatever else stands in memory
 abbrev pub KernelAreaIsRead : Type 0

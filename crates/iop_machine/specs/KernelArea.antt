@@ -3,6 +3,10 @@
 use Rattle.std.specs.Prelude.{ℕ, zero, suc, ◌+◌, ◌-◌, ◌*◌, ◌/◌, ◌%◌, ◌^◌, ◌==◌, nat_le, nat_lt, ◌&&◌, if◌then◌else◌, List, [], ◌++◌, slice_index_or}
 use Rattle.iop_base.specs.Numbers.{number_at, bytes_of}
 use Rattle.iop_base.specs.declared.libraries.TheConstants.{KERNEL_LIBRARIES}
+use Rattle.iop_kernel.specs.declared.call.TheConstants.{THREAD_RETURN_CALL, HANDLER_RETURN_CALL, MODULE_RETURN_CALL}
+use Rattle.iop_thread.specs.declared.thread.TheConstants.{THREAD_RETURN}
+use Rattle.iop_machine.specs.declared.arguments.TheConstants.{MODULE_RETURN}
+use Rattle.iop_machine.specs.declared.kernel_area.TheConstants.{HANDLER_RETURN}
 use Rattle.iop_base.specs.declared.words.TheConstants.{EXPORT_MAGIC, JUMP_BACK}
 
 -- syscall code
@@ -38,9 +42,9 @@ service_word library number index =
 unfoldable pub kernel_word : ℕ → ℕ
 kernel_word place =
     if place / 0x1000 == 1 then table_word (place % 0x1000 / 0x200) (place % 0x200 / 4)
-    else if place == 0x3000 then syscall_word 0xF00
-    else if place == 0x3010 then syscall_word 0xF01
-    else if place == 0x3020 then syscall_word 0xF02
+    else if place == THREAD_RETURN then syscall_word THREAD_RETURN_CALL
+    else if place == HANDLER_RETURN then syscall_word HANDLER_RETURN_CALL
+    else if place == MODULE_RETURN then syscall_word MODULE_RETURN_CALL
     else if place / 0x2000 ==
     2 then service_word (place % 0x2000 / 0x400) (place % 0x400 / 0x10) (place % 0x10 / 4)
     else 0

@@ -1,21 +1,23 @@
 -- What the laws on runs and on live stubs say.
-use Rattle.std.specs.Prelude.{◌≡◌, ℕ, ◌+◌, ◌/◌, ◌*◌, ◌^◌, ◌≤◌, true, ◌⊎◌, false, if◌then◌else◌, Option, Some, None, List, [], ◌++◌, length, Contains}
+use Rattle.std.specs.Prelude.{◌≡◌, ℕ, suc, ◌+◌, ◌/◌, ◌*◌, ◌^◌, ◌≤◌, true, ◌⊎◌, false, if◌then◌else◌, Option, Some, None, List, [], ◌∷◌, ◌++◌, length, Contains}
 use Rattle.iop_base.specs.Numbers.{wrapped}
 use Rattle.iop_base.specs.Places.{IsRamSize, phys}
 use Rattle.iop_base.specs.declared.guest_fault.GuestFault.TheVariants.{BranchInSlot}
 use Rattle.iop_base.specs.declared.stop.Stop.{Stop}
 use Rattle.iop_exec.specs.declared.cpu.Cpu.{Cpu}
-use Rattle.iop_exec.specs.Positions.{IsStraight}
 use Rattle.iop_exec.specs.Row.{Row, Goes, Faults, Storing, row}
 use Rattle.iop_stubs.specs.Binding.{IsSound}
 use Rattle.iop_stubs.specs.Stubs.{Memory, stub_line}
 use Rattle.iop_stubs.specs.declared.live_stub.Stub.{Stub}
 use Rattle.iop_modload.specs.Laws.{HasBlocks}
 use Rattle.iop_machine.specs.Running.{Ends, Runs}
-use Rattle.iop_machine.specs.Stepping.{step, steps, run_of}
+use Rattle.iop_machine.specs.Stepping.{step, steps, executes, run_of}
 use Rattle.iop_machine.specs.World.{World, booted, beginning}
-use Rattle.iop_machine.specs.declared.loader.Begun.{Begun}
-use Rattle.iop_machine.specs.Iop.{Iop, silent}
+use Rattle.iop_kernel.specs.Laws.{IsCore, IsSwitch}
+use Rattle.iop_kernel.specs.Dispatching.{Dispatched, dispatches}
+use Rattle.iop_kernel.specs.System.{may_switch}
+use Rattle.iop_thread.specs.Laws.{IsSettled}
+use Rattle.iop_machine.specs.Iop.{Iop, silent, core_of}
 use Rattle.iop_machine.specs.Modules.{Module}
 
 -- the steps of a run are those of its first part and then those of the rest
@@ -48,7 +50,7 @@ OverStays = (w : World) (n k : ℕ) (stop : Stop) → w.iop.over ≡ Some stop �
 
 -- each run ends
 abbrev pub RunsEnd : Type 0
-RunsEnd = (w : World) (n : ℕ) → (k : ℕ) × (stop : Stop) × (k ≤ n + 3) × Ends w n k stop
+RunsEnd = (w : World) (n : ℕ) → (k : ℕ) × (stop : Stop) × (k ≤ 2 * n + 3) × Ends w n k stop
 
 -- and is what the function gives
 abbrev pub RunsAreComputed : Type 0
@@ -88,8 +90,9 @@ pub record StaysSound (stubs : List Stub) (s : Iop) : Type 0 where
   pub whole : HasBlocks s.memory s.blocks
   -- each live stub is one that a linking has bound
   pub live : (stub : Stub) → Contains s.memory.live stub → Contains stubs stub
-  -- outside a delay slot the next instruction is the one behind
-  pub straight : IsStraight s.cpu
+  -- threads stand where their states say; where none runs, another may; and outside a delay slot the next
+  -- instruction of each is the one behind
+  pub core : IsCore (core_of s)
 
 abbrev pub RunsStaySound : Type 0
 RunsStaySound =
@@ -103,7 +106,7 @@ StubsLeaveWithTheirLine =
     (w : World) (stub : Stub) → IsMachine w
     → Contains w.iop.memory.live stub ⊎ Contains (step w).bound stub
     → Contains (step w).state.iop.memory.live stub
-    ⊎ Contains (step w).pieces (stub_line w.iop.clock stub)
+    ⊎ Contains (step w).pieces (stub_line w.iop.kernel.clock stub)
 
 -- a stub that is live after some steps was live before them, or was bound in them; and a machine stays one
 pub record KeepsStubs (w : World) (k : ℕ) : Type 0 where
@@ -117,7 +120,7 @@ RunsKeepStubs = (w : World) (k : ℕ) → IsMachine w → KeepsStubs w k
 -- after a live stub, which is not executed in a delay slot, the instruction behind it is executed
 abbrev pub behind_stub : Iop → Stub → Iop
 behind_stub s stub = record s {
-  clock = s.clock + 1;
+  kernel = record s.kernel { clock = s.kernel.clock + 1 };
   cpu = record s.cpu { pc = s.cpu.next; next = stub_target s.cpu.pc stub; in_slot = true };
 }
 
@@ -130,6 +133,22 @@ pub record IsFollowed (s : Iop) (stub : Stub) : Type 0 where
 
 abbrev pub StubsAreFollowed : Type 0
 StubsAreFollowed =
-    (s : Iop) (m : Begun) (stub : Stub) → Runs s m → IsSound s.memory
+    (s : Iop) (stub : Stub) → Runs s → IsSound s.memory
     → Contains s.memory.live stub → phys (length s.memory.ram) s.cpu.pc ≡ Some stub.at
     → s.cpu.in_slot ≡ false → IsFollowed s stub
+
+-- what each step of a run shows of its threads
+pub record IsStrict (s : Iop) : Type 0 where
+  -- where a thread is dispatched, it is the first of the best priority, and the step tells its `run` line
+  pub switch : (d : Dispatched) → dispatches (core_of s) ≡ Some d
+      → IsSwitch (core_of s) d × ((step (booted s)).pieces ≡ d.line ∷ [])
+  -- where an instruction is executed while another thread may run, no ready one is better
+  pub settled : executes (booted s) ≡ true → may_switch s.kernel ≡ true
+      → IsSettled s.kernel.threads
+
+-- in each state that a run reaches and in which it goes on
+abbrev pub RunsAreStrict : Type 0
+RunsAreStrict =
+    (size : ℕ) (modules : List Module) (k : ℕ) → IsRamSize size
+    → let run = steps (suc k) (beginning size modules) in
+    run.state.iop.over ≡ None → IsStrict run.state.iop

@@ -9,6 +9,7 @@ pub mod Stepping
 pub mod Running
 pub mod Advancing
 pub mod Laws
+pub mod Standing
 pub mod ArgumentLaws
 pub mod AreaLaws
 pub mod Waiting

@@ -1,18 +1,18 @@
 -- How the machine loads its modules, one after the other. That the first module that loads is begun, and how,
 -- is this project's own profile.
-use Rattle.std.specs.Prelude.{ℕ, Result, Ok, Err, List, [], ◌∷◌, length}
+use Rattle.std.specs.Prelude.{ℕ, Option, Some, None, Result, Ok, Err, List, [], ◌∷◌, length}
 use Rattle.iop_base.specs.Numbers.{with_bytes}
 use Rattle.iop_base.specs.declared.code.Code.{Code}
 use Rattle.iop_base.specs.declared.line.Line.TheVariants.{Load, Refused}
 use Rattle.iop_modload.specs.Loading.{Loads, loads}
 use Rattle.iop_modload.specs.declared.loaded.Loaded.{Loaded}
 use Rattle.iop_machine.specs.declared.arguments.TheConstants.{ARGUMENTS, ARGUMENTS_LEN}
-use Rattle.iop_machine.specs.declared.loader.Begun.{Begun}
-use Rattle.iop_machine.specs.declared.loader.Loader.TheVariants.{Dormant, Ready}
+use Rattle.iop_thread.specs.Operations as threads
+use Rattle.iop_machine.specs.declared.begun_module.BegunModule.{BegunModule}
 use Rattle.iop_machine.specs.KernelArea.{kernel_area}
 use Rattle.iop_machine.specs.Modules.{Module, argument_block, module_start}
 use Rattle.iop_machine.specs.Storing.{stores_bytes, fills}
-use Rattle.iop_machine.specs.Iop.{Iop, Transition, silent, tells, and_then, with_state}
+use Rattle.iop_machine.specs.Iop.{Iop, Transition, silent, tells, and_then, with_state, with_threads}
 
 -- the kernel's area is written
 abbrev pub with_kernel : Iop → Iop
@@ -23,7 +23,7 @@ with_kernel s = record s {
 
 -- what the loading of a module comes to now
 abbrev pub loading_of : Iop → Module → Loads
-loading_of s m = loads s.clock s.memory s.blocks s.libraries m.file
+loading_of s m = loads s.kernel.clock s.memory s.blocks s.libraries m.file
 
 -- a module is loaded or refused; these are left
 abbrev pub places : Iop → List Module → Loads → Transition Iop
@@ -39,20 +39,20 @@ abbrev pub passes : Iop → List ℕ → Transition Iop
 passes s block =
     and_then (fills s ARGUMENTS ARGUMENTS_LEN) (λ v. stores_bytes v ARGUMENTS block)
 
--- the loader's thread is ready to begin a module that is handed so many words
-abbrev pub begins : Iop → Begun → (words : ℕ) → Iop
+-- the registers are those with which a module begins that is handed so many words
+abbrev pub begins : Iop → BegunModule → (words : ℕ) → Iop
 begins s begun words = record s {
-  loader = Ready begun;
+  begun = Some begun;
   cpu = module_start begun.loaded words;
 }
 
--- a module that was loaded is told, handed its argument block, and ready to begin
-abbrev pub enters : Iop → Begun → (words : ℕ) → (block : List ℕ) → Transition Iop
+-- a module that was loaded is told, handed its argument block, and begins
+abbrev pub enters : Iop → BegunModule → (words : ℕ) → (block : List ℕ) → Transition Iop
 enters s begun words block =
     and_then (tells s (Load begun.number begun.loaded.base begun.loaded.len))
     (λ v. with_state (λ u. begins u begun words) (passes v block))
 
--- by what its loading came to: it is ready to begin, or told to be refused, and then the next one follows
+-- by what its loading came to: it begins, or is told to be refused, and then the next one follows
 abbrev pub enters_or : (next : Iop → Transition Iop) → Iop → Module → Result Loaded Code
     → Transition Iop
 enters_or next s m (Ok loaded) =
@@ -60,13 +60,18 @@ enters_or next s m (Ok loaded) =
     (argument_block m.words)
 enters_or next s m (Err code) = and_then (tells s (Refused m.number code)) next
 
--- the first of these modules that loads is ready to begin; where none does, the loader's thread is dormant
+-- the first of these modules that loads begins, if one does
 unfoldable pub loads_first : List Module → Iop → Transition Iop
-loads_first [] s = silent (record s { modules = []; loader = Dormant })
+loads_first [] s = silent (record s { modules = []; begun = None })
 loads_first (m ∷ rest) s =
     let loading = loading_of s m in
     and_then (places s rest loading) (λ v. enters_or (loads_first rest) v m loading.answer)
 
--- the kernel's area is written, and the first module that loads is ready to begin
+-- the loader's thread is ready, with the registers of the module that begins, if there is one
+abbrev pub starts_by : Iop → Option BegunModule → Iop
+starts_by s None = s
+starts_by s (Some begun) = with_threads s (threads.begins s.kernel.threads s.cpu)
+
+-- the kernel's area is written, and the first module that loads begins
 unfoldable pub boots : Iop → Transition Iop
-boots s = loads_first s.modules (with_kernel s)
+boots s = with_state (λ v. starts_by v v.begun) (loads_first s.modules (with_kernel s))

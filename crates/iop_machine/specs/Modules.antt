@@ -1,13 +1,14 @@
 -- The modules of a command, and what the kernel hands each of them. How many there can be, and how much
 -- they are handed, is this project's own profile.
-use Rattle.std.specs.Prelude.{ℕ, suc, ◌+◌, ◌*◌, ◌≤◌, false, List, [], ◌∷◌, ◌++◌, length, replicate}
+use Rattle.std.specs.Prelude.{ℕ, suc, ◌+◌, ◌*◌, ◌≤◌, List, [], ◌∷◌, ◌++◌, length}
 use Rattle.iop_base.specs.Numbers.{wrapped, bytes_of}
 use Rattle.iop_exec.specs.declared.cpu.Cpu.{Cpu}
 use Rattle.iop_exec.specs.Row.{with_reg}
+use Rattle.iop_thread.specs.States.{zeroed_at}
 use Rattle.iop_modload.specs.declared.limits.TheConstants.{LONGEST_FILE}
 use Rattle.iop_modload.specs.declared.loaded.Loaded.{Loaded}
 use Rattle.iop_script.specs.Scripts.{Args, words_for}
-use Rattle.iop_machine.specs.declared.arguments.TheConstants.{ARGUMENTS, LOADER_STACK, MODULE_RETURN, MOST_WORDS, MOST_WORD_BYTES}
+use Rattle.iop_machine.specs.declared.arguments.TheConstants.{ARGUMENTS, LOADER_STACK_TOP, MODULE_RETURN, MOST_WORDS, MOST_WORD_BYTES}
 
 -- a module as the command names it
 pub record NamedFile : Type 0 where
@@ -53,23 +54,11 @@ pub record HasRoom (m : Module) : Type 0 where
   pub words : length m.words ≤ MOST_WORDS
   pub strings : length (strings m.words) ≤ MOST_WORD_BYTES
 
--- all registers zero, at an address
-abbrev pub cpu_at : ℕ → Cpu
-cpu_at pc = record {
-  regs = replicate 32 0;
-  hi = 0;
-  lo = 0;
-  pc = pc;
-  next =
-      wrapped (pc + 4);
-  in_slot = false;
-}
-
 -- the loader's thread as a module begins that is handed so many words: `$a0`, how many; `$a1`, where they
 -- stand; `$gp`; the loader's stack in `$sp`; and the module's return in `$ra`. The registers are those of the
 -- MIPS calling convention O32.
 unfoldable pub module_start : Loaded → (words : ℕ) → Cpu
 module_start m words =
     with_reg (with_reg (with_reg
-    (with_reg (with_reg (cpu_at (wrapped (m.base + m.entry))) 4 words) 5 ARGUMENTS) 28
-    (wrapped (m.base + m.gp))) 29 LOADER_STACK) 31 MODULE_RETURN
+    (with_reg (with_reg (zeroed_at (wrapped (m.base + m.entry))) 4 words) 5 ARGUMENTS) 28
+    (wrapped (m.base + m.gp))) 29 LOADER_STACK_TOP) 31 MODULE_RETURN

@@ -1,18 +1,18 @@
 -- What the runs of a machine give: this project's profile.
-use Rattle.std.specs.Prelude.{◌≡◌, ℕ, suc, ◌-◌, ◌<◌, Some, None, List, [], ◌∷◌, ◌++◌}
+use Rattle.std.specs.Prelude.{◌≡◌, ℕ, suc, ◌-◌, ◌<◌, true, is_some, Some, None, List, [], ◌∷◌, ◌++◌}
 use Rattle.iop_base.specs.Piece.{Piece, IsPartOf}
 use Rattle.iop_base.specs.Output.{Output, Adds, HasNoFault, FailsAt}
 use Rattle.iop_base.specs.declared.stop.Stop.{Stop}
-use Rattle.iop_machine.specs.declared.loader.Begun.{Begun}
-use Rattle.iop_machine.specs.declared.loader.Loader.TheVariants.{Running}
-use Rattle.iop_machine.specs.Iop.{Iop}
+use Rattle.iop_kernel.specs.Dispatching.{dispatches}
+use Rattle.iop_machine.specs.Iop.{Iop, core_of}
 use Rattle.iop_machine.specs.Stepping.{step, steps, executed, stop_at}
 use Rattle.iop_machine.specs.World.{World}
 
--- the module runs, and nothing else is to be done first
-pub record Runs (s : Iop) (m : Begun) : Type 0 where
+-- a thread runs, and nothing else is to be done first
+pub record Runs (s : Iop) : Type 0 where
   pub over : s.over ≡ None
-  pub loader : s.loader ≡ Running m
+  pub dispatch : dispatches (core_of s) ≡ None
+  pub running : is_some s.kernel.threads.running ≡ true
 
 -- after k steps the run goes on
 abbrev pub GoesOn : World → ℕ → ℕ → Type 0

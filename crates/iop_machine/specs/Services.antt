@@ -1,95 +1,63 @@
--- What a `syscall` of the loader's thread asks of the kernel. The codes are this project's own profile.
-use Rattle.std.specs.Prelude.{ℕ, ◌/◌, ◌%◌, ◌==◌, nat_lt, ◌&&◌, false, if◌then◌else◌, Option, Some, None, [], length}
-use Rattle.iop_base.specs.declared.libraries.TheConstants.{KERNEL_LIBRARIES}
+-- What a `syscall` leaves of the machine, and how modules end. That the next module begins in the instruction
+-- in which one returns is this project's own profile.
+use Rattle.std.specs.Prelude.{ℕ, Option, Some, None, []}
 use Rattle.iop_base.specs.declared.guest_fault.GuestFault.{GuestFault}
-use Rattle.iop_base.specs.declared.guest_fault.GuestFault.TheVariants as faults
-use Rattle.iop_base.specs.declared.line.Line.TheVariants as lines
 use Rattle.iop_base.specs.declared.stop.Stop.TheVariants as stops
 use Rattle.iop_exec.specs.declared.cpu.Cpu.{Cpu}
-use Rattle.iop_exec.specs.Row.{reg, with_reg}
-use Rattle.iop_libs.specs.Calls.{Sight, After, calls_row, row_pieces}
-use Rattle.iop_libs.specs.declared.answer.Answer.{Answer}
-use Rattle.iop_libs.specs.declared.answer.Answer.TheVariants.{Value, Unlisted, Fault, Other}
+use Rattle.iop_kernel.specs.Serving.{services}
+use Rattle.iop_kernel.specs.System.{Served}
+use Rattle.iop_kernel.specs.declared.after.After.{After}
+use Rattle.iop_kernel.specs.declared.after.After.TheVariants.{Resume, Switch, ModuleReturned, Fault}
 use Rattle.iop_modload.specs.Finishing.{Leaves, finishes}
-use Rattle.iop_services.specs.Table.{row_of}
-use Rattle.iop_machine.specs.declared.call.Call.{Call}
-use Rattle.iop_machine.specs.declared.call.Call.TheVariants.{Library, ThreadReturn, ModuleReturn}
-use Rattle.iop_machine.specs.declared.kernel_area.TheConstants.{SERVICES}
-use Rattle.iop_machine.specs.declared.loader.Begun.{Begun}
-use Rattle.iop_machine.specs.declared.loader.Loader.{Loader}
-use Rattle.iop_machine.specs.declared.loader.Loader.TheVariants.{Dormant, Ready, Running}
+use Rattle.iop_thread.specs.Operations as threads
+use Rattle.iop_machine.specs.declared.begun_module.BegunModule.{BegunModule}
 use Rattle.iop_machine.specs.Loading.{loads_first}
-use Rattle.iop_machine.specs.Iop.{Iop, Transition, silent, tells, and_then, with_state, later}
-
--- what a code calls, if it has a meaning: service n of library L has the code L * 256 + n
-abbrev pub call_of : ℕ → Option Call
-call_of code =
-    if code == 0xF00 then Some ThreadReturn
-    else if code == 0xF02 then Some ModuleReturn
-    else if nat_lt (code / 256) (length KERNEL_LIBRARIES) && nat_lt (code % 256) SERVICES
-    then Some (Library (code / 256) (code % 256))
-    else None
+use Rattle.iop_machine.specs.Iop.{Iop, Transition, silent, and_then, with_state, later, with_threads, system_of, with_system}
 
 -- the instruction at pc faults: the machine is stopped, and nothing else changes
 abbrev pub faults_with : Iop → GuestFault → Iop
 faults_with s kind = record s { over = Some (stops.Fault kind s.cpu.pc) }
 
--- a word is answered in `$v0`
-abbrev pub answers : Iop → ℕ → Iop
-answers s value = later (record s { cpu = with_reg s.cpu 2 value })
-
--- a call of service `number` of a library, with the processor after the `syscall`, which stood at `before`
-module _ (before : Cpu) (library number : ℕ) where
-  -- by its answer: a number that is not listed answers -1 and is told; what cannot be done faults
-  abbrev pub answers_by : Iop → Answer → Transition Iop
-  answers_by s (Value value) = silent (answers s value)
-  answers_by s Unlisted =
-      with_state (λ v. answers v 0xFFFFFFFF) (tells s (lines.Unlisted library number))
-  answers_by s Fault = silent (faults_with (record s { cpu = before }) faults.Address)
-  answers_by s (Other service) = silent (faults_with (record s { cpu = before }) faults.Service)
-
-  -- the library is called
-  abbrev pub leaves : Iop → Sight → After → Transition Iop
-  leaves s sight after = record {
-    state = record s { blocks = after.blocks; libraries = after.libraries };
-    pieces = row_pieces sight false (row_of library number);
-    bound = [];
-  }
-
-  -- what a service of a library does
-  unfoldable pub serves : Iop → Transition Iop
-  serves s =
-      let sight : Sight = record { memory = s.memory; cpu = s.cpu } in
-      let after = calls_row sight s.blocks s.libraries false (row_of library number) in
-      and_then (leaves s sight after) (λ v. answers_by v after.answer)
-
--- what the return of a module leaves
-abbrev pub ends : Iop → Leaves → Transition Iop
-ends s left = record {
+-- what the end of a module leaves
+abbrev pub leaves : Iop → Leaves → Transition Iop
+leaves s left = record {
   state =
       record s { memory = left.memory; blocks = left.blocks; libraries = left.libraries };
   pieces = left.pieces;
   bound = [];
 }
 
--- the loader's thread, which runs already, runs on into a module that is ready to begin
-abbrev pub runs_on : Loader → Loader
-runs_on (Ready m) = Running m
-runs_on (Running m) = Running m
-runs_on Dormant = Dormant
+-- the loader's thread, which runs, goes on with the registers of the module that begins; where there is
+-- none, it ends
+abbrev pub goes_on_by : Iop → Option BegunModule → Iop
+goes_on_by s None = with_threads s (threads.ends_running s.kernel.threads)
+goes_on_by s (Some begun) = s
 
--- a module returned a value: it is kept or removed, and the first of those left that loads begins in the
--- same instruction
-unfoldable pub returns : Iop → Begun → ℕ → Transition Iop
-returns s m value =
-    and_then (ends s (finishes s.clock s.memory s.blocks s.libraries m.number m.loaded value))
-    (λ v. with_state (λ u. later (record u { loader = runs_on u.loader }))
-    (loads_first v.modules v))
+-- a module returned a value: it is kept or removed, and the first of those left that loads begins
+unfoldable pub ends_module : Iop → BegunModule → ℕ → Transition Iop
+ends_module s m value =
+    and_then
+    (leaves s (finishes s.kernel.clock s.memory s.blocks s.libraries m.number m.loaded value))
+    (λ v. with_state (λ u. goes_on_by u u.begun) (loads_first v.modules v))
 
--- by what is called, with the processor after the call; the thread's return is the module's return of 0
-abbrev pub calls : Iop → Begun → Cpu → Option Call → Transition Iop
-calls s m after None = silent (faults_with s faults.Service)
-calls s m after (Some ThreadReturn) = returns (record s { cpu = after }) m 0
-calls s m after (Some ModuleReturn) = returns (record s { cpu = after }) m (reg after 2)
-calls s m after (Some (Library library number)) =
-    serves s.cpu library number (record s { cpu = after })
+-- the loader's thread returned
+abbrev pub returns_by : Iop → Option BegunModule → ℕ → Transition Iop
+returns_by s None value = silent (goes_on_by s None)
+returns_by s (Some m) value = ends_module s m value
+
+-- what a service left and gave
+abbrev pub serves : Iop → Served → Transition Iop
+serves s d = record { state = with_system s d.left.state; pieces = d.pieces; bound = [] }
+
+-- by what becomes of its caller, a call takes its instruction, or the instruction faults
+abbrev pub calls_by : Iop → Served → After → Transition Iop
+calls_by s d Resume = with_state later (serves s d)
+calls_by s d Switch = with_state later (serves s d)
+calls_by s d (ModuleReturned value) =
+    with_state later (and_then (serves s d) (λ v. returns_by v v.begun value))
+calls_by s d (Fault kind) = silent (faults_with s kind)
+
+-- a `syscall` of a code; the processor behind it is this one
+unfoldable pub calls : Iop → (behind : Cpu) → (code : ℕ) → Transition Iop
+calls s behind code =
+    let d = services (system_of (record s { cpu = behind })) code in calls_by s d d.left.after

@@ -17,7 +17,7 @@ use Rattle.iop_machine.specs.Iop.{Iop, Transition}
 abbrev pub stores_at : Iop → Option ℕ → List ℕ → Transition Iop
 stores_at s place bytes = record {
   state = record s { memory = after_store s.memory place bytes };
-  pieces = store_lines s.clock s.memory place (length bytes);
+  pieces = store_lines s.kernel.clock s.memory place (length bytes);
   bound = [];
 }
 

@@ -2,8 +2,9 @@
 use Rattle.std.specs.Prelude.{ℕ, Bool, true, false, None, List, [], ◌∷◌, replicate}
 use Rattle.iop_registry.specs.KernelLibraries.{kernel_libraries}
 use Rattle.iop_sysmem.specs.declared.blocks.TheConstants.{KERNEL}
-use Rattle.iop_machine.specs.declared.loader.Loader.TheVariants.{Dormant}
-use Rattle.iop_machine.specs.Modules.{Module, cpu_at}
+use Rattle.iop_kernel.specs.System as kernel
+use Rattle.iop_thread.specs.States.{zeroed_at}
+use Rattle.iop_machine.specs.Modules.{Module}
 use Rattle.iop_machine.specs.Iop.{Iop}
 
 pub record World : Type 0 where
@@ -21,13 +22,13 @@ zeros size = replicate size 0
 -- the core as it begins, with a memory of zeros in which the kernel's block alone is used
 abbrev pub reset : ℕ → List Module → Iop
 reset size modules = record {
-  clock = 0;
+  kernel = kernel.beginning;
+  cpu = zeroed_at 0;
   memory = record { ram = zeros size; live = [] };
   blocks = record { size = size; used = KERNEL ∷ [] };
   libraries = kernel_libraries;
   modules = modules;
-  loader = Dormant;
-  cpu = cpu_at 0;
+  begun = None;
   over = None;
 }
 

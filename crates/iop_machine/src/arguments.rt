@@ -9,6 +9,7 @@ use iop_exec::Cpu;
 use iop_modload::Loaded;
 use iop_script::Word;
 use iop_text::append;
+use iop_thread::{LOADER_STACK, LOADER_STACK_SIZE, registers_at};
 
 /// Where the words are handed to a module.
 pub(crate) const ARGUMENTS: u32 = 0x2000;
@@ -26,8 +27,8 @@ pub const MOST_WORD_BYTES: usize = ARGUMENTS_LEN - 4 * (MOST_WORDS + 1);
 /// The instruction to which a module returns.
 pub(crate) const MODULE_RETURN: u32 = 0x3020;
 
-/// The top of the loader's stack.
-pub(crate) const LOADER_STACK: u32 = 0xFFF0;
+/// Where the stack pointer of the loader's thread begins: 16 bytes below the end of its stack.
+pub(crate) const LOADER_STACK_TOP: u32 = LOADER_STACK + LOADER_STACK_SIZE - 16;
 
 /// Appends a word and the zero byte that ends it.
 fn append_string(block: &mut ArrayVec<u8, ARGUMENTS_LEN>, word: &[u8])
@@ -87,19 +88,11 @@ pub(crate) fn argument_block(name: &[u8], words: &[Word]) -> ArrayVec<u8, ARGUME
 pub(crate) fn module_start(loaded: &Loaded, words: u32) -> Cpu
     ensures { result ≡ module_start loaded.now words }
 {
-    let mut regs = [0; 32];
-    regs[4] = words;
-    regs[5] = ARGUMENTS;
-    regs[28] = loaded.base.wrapping_add(loaded.gp);
-    regs[29] = LOADER_STACK;
-    regs[31] = MODULE_RETURN;
-    let pc = loaded.base.wrapping_add(loaded.entry);
-    Cpu {
-        regs,
-        hi: 0,
-        lo: 0,
-        pc,
-        next: pc.wrapping_add(4),
-        in_slot: false,
-    }
+    let mut cpu = registers_at(loaded.base.wrapping_add(loaded.entry));
+    cpu.regs[4] = words;
+    cpu.regs[5] = ARGUMENTS;
+    cpu.regs[28] = loaded.base.wrapping_add(loaded.gp);
+    cpu.regs[29] = LOADER_STACK_TOP;
+    cpu.regs[31] = MODULE_RETURN;
+    cpu
 }

@@ -1,47 +1,55 @@
 //! The execution of instructions.
 
-ghost use Rattle.std.specs.Prelude.{◌≡◌, ℕ, ◌+◌, ◌^◌, ◌<◌, false, None, length};
+ghost use Rattle.std.specs.Prelude.{◌≡◌, ℕ, ◌+◌, ◌^◌, ◌<◌, ◌≤◌, not, false, None, length};
 ghost use Rattle.iop_trace.specs.Outs.{has_failed, output_of};
-ghost use Rattle.iop_machine.specs.Advancing.{Advances, Progresses};
+ghost use Rattle.iop_machine.specs.Advancing.{Advances, Settles, Progresses, IsLess};
 ghost use Rattle.iop_machine.specs.Running.{Runs};
+ghost use Rattle.iop_machine.specs.Iop.{Iop as State};
+ghost use Rattle.iop_machine.specs.Standing.{Stands, StandsBooted, IsSound};
 ghost use Rattle.iop_machine.specs.World.{booted};
 
 use crate::guest_bus::perform;
 use crate::iop::Iop;
-use crate::loader::{Begun, Loader};
 use crate::progress::Progress;
-use iop_base::{Line, Lines, Stop};
+use iop_base::Stop;
 use iop_exec::{Cpu, Event, Position};
 use iop_ports::Sink;
 use iop_trace::Out;
 
 impl Iop {
-    /// Takes over the processor and the clock of a burst.
+    /// Takes over the processor and the moment of a burst.
     fn settle(&mut self, cpu: Cpu, clock: u64)
-        ensures { self.new ≡ record self.old { cpu = cpu; clock = clock } }
+        requires sound { IsSound self.old }
+        requires later { self.old.kernel.clock ≤ clock }
+        ensures { (s : State) → Stands self.old s → Stands self.new
+            (record s { cpu = cpu; kernel = record s.kernel { clock = clock } }) }
     {
         self.cpu = cpu;
-        self.clock = clock;
+        self.kernel.advance(clock);
     }
 
-    /// Executes instructions of the module that runs, one at least, and answers how many of `budget` are left.
+    /// Executes instructions of the thread that runs, one at least, and answers how many of `budget`
+    /// are left.
     ///
-    /// Each instruction takes one of `budget`, also one that faults, which takes no tick. A burst ends at an instruction
-    /// that calls a service or faults, at one in which a write failed, and where none is left. Whether anything else is
-    /// due is not asked in between: a plain instruction changes processor, memory and clock alone. It is the one place
-    /// that executes instructions. The processor and the clock are local meanwhile.
-    fn burst<C: Sink, T: Sink>(&mut self, begun: Begun, budget: u64, out: &mut Out<'_, C, T>) -> u64
-        requires runs { Runs self.old begun }
+    /// Each instruction takes one of `budget`, also one that faults, which takes no tick. A burst ends at
+    /// an instruction that calls a service or faults, at one in which a write failed, and where none is
+    /// left. Whether anything else is due is not asked in between: a plain instruction changes processor,
+    /// memory and clock alone. It is the one place that executes instructions. The processor and the
+    /// clock are local meanwhile.
+    fn burst<C: Sink, T: Sink>(&mut self, budget: u64, out: &mut Out<'_, C, T>) -> u64
+        requires runs { (s : State) × Stands self.old s × Runs s }
         requires some { 0 < budget }
-        requires time { self.old.clock + budget < 2 ^ 64 }
-        requires same_size { self.old.blocks.size ≡ length self.old.memory.ram }
+        requires time { self.old.kernel.clock + budget < 2 ^ 64 }
+        requires same_size { self.old.blocks.size ≡ length self.old.guest.ram }
         requires well { has_failed out.old ≡ false }
-        ensures { (k : ℕ) × Advances (booted self.old) budget k result (booted self.new)
+        ensures advances { (s : State) → Stands self.old s → Runs s
+            → (k : ℕ) × Advances StandsBooted (booted s) budget k result self.new
             (output_of C.told T.told out.old)
             (output_of C.told T.told out.new) }
+        ensures fewer { result < budget }
     {
         let mut cpu = self.cpu;
-        let mut clock = self.clock;
+        let mut clock = self.kernel.now();
         let mut left = budget;
         'instructions: loop {
             // Taken apart: whole, it would be put into memory for each instruction.
@@ -62,40 +70,58 @@ impl Iop {
                 }
                 Event::Service(code) => {
                     self.settle(cpu, clock);
-                    self.call(begun, code, Position { pc, next, in_slot }, out);
+                    self.call(code, Position { pc, next, in_slot }, out);
                     return left;
                 }
             }
         }
     }
 
-    /// Goes on once it was booted: a module that runs gets a burst, one that is ready begins, and where there is
-    /// none the machine is quiet. It stops where a module runs and none of `budget` is left.
+    /// Dispatches a thread, if one is to be. Answers whether no write failed.
+    fn dispatch<C: Sink, T: Sink>(&mut self, out: &mut Out<'_, C, T>) -> bool
+        requires sound { IsSound self.old }
+        requires well { has_failed out.old ≡ false }
+        ensures answer { result ≡ not (has_failed out.new) }
+        ensures rest { self.new
+            ≡ record self.old { kernel = self.new.kernel; cpu = self.new.cpu } }
+        ensures settles { (s : State) (budget : ℕ) → Stands self.old s → s.over ≡ None
+            → Settles StandsBooted (has_failed out.new) (booted s) budget self.new
+            (output_of C.told T.told out.old)
+            (output_of C.told T.told out.new) }
+    {
+        self.kernel.dispatch(&mut self.cpu, out);
+        !out.failed()
+    }
+
+    /// Goes on once it was booted: a thread is dispatched, if one is to be, and the one that runs gets a
+    /// burst. Where none runs the machine is quiet. It stops where an instruction would be executed and
+    /// none of `budget` is left.
     pub(crate) fn advance<C: Sink, T: Sink>(
         &mut self,
         budget: u64,
         out: &mut Out<'_, C, T>,
     ) -> Progress
+        requires sound { IsSound self.old }
         requires goes_on { self.old.over ≡ None }
-        requires time { self.old.clock + budget < 2 ^ 64 }
-        requires same_size { self.old.blocks.size ≡ length self.old.memory.ram }
+        requires time { self.old.kernel.clock + budget < 2 ^ 64 }
+        requires same_size { self.old.blocks.size ≡ length self.old.guest.ram }
         requires well { has_failed out.old ≡ false }
-        ensures { Progresses result (booted self.old) budget (booted self.new)
+        ensures progresses { (s : State) → Stands self.old s
+            → Progresses StandsBooted result (booted s) budget self.new
             (output_of C.told T.told out.old)
             (output_of C.told T.told out.new) }
+        ensures less { IsLess result (has_failed out.new) self.new.over false (budget + 1) }
     {
-        match self.loader {
-            Loader::Running(_) if budget == 0 => Progress::Stopped(Stop::Budget),
-            Loader::Running(begun) => Progress::Advanced(self.burst(begun, budget, out)),
-            Loader::Ready(begun) => {
-                out.line(self.clock, Line::Run(1));
-                self.loader = Loader::Running(begun);
-                Progress::Advanced(budget)
-            }
-            Loader::Dormant => {
-                self.over = Some(Stop::Quiet);
-                Progress::Advanced(budget)
-            }
+        if !self.dispatch(out) {
+            return Progress::Advanced(budget);
         }
+        if !self.kernel.active() {
+            self.over = Some(Stop::Quiet);
+            return Progress::Advanced(budget);
+        }
+        if budget == 0 {
+            return Progress::Stopped(Stop::Budget);
+        }
+        Progress::Advanced(self.burst(budget, out))
     }
 }

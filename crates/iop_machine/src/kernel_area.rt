@@ -5,14 +5,17 @@ ghost use Rattle.iop_base.specs.Numbers.{with_bytes};
 ghost use Rattle.iop_base.specs.Output.{Gives};
 ghost use Rattle.iop_machine.specs.KernelArea.{syscall_word, name_word, service_at, table_word, service_word, kernel_word, kernel_area};
 
+use crate::arguments::MODULE_RETURN;
 use iop_base::{EXPORT_MAGIC, JUMP_BACK, KERNEL_LIBRARIES, Lines, Width};
+use iop_kernel::{HANDLER_RETURN_CALL, MODULE_RETURN_CALL, THREAD_RETURN_CALL};
 use iop_stubs::Guest;
+use iop_thread::THREAD_RETURN;
 
 /// The version of the kernel's libraries, and mode 0.
 const VERSION: u32 = 0x0101;
 
-/// How many services a kernel library has room for.
-pub(crate) const SERVICES: u32 = 64;
+/// Where a handler returns to.
+pub(crate) const HANDLER_RETURN: u32 = 0x3010;
 
 /// How many words the kernel's area has.
 const WORDS: u32 = 0x4000;
@@ -80,9 +83,9 @@ fn kernel_word(place: u32) -> u32
 {
     match place {
         0x1000..=0x1FFF => table_word(place % 0x1000 / 0x200, place % 0x200 / 4),
-        0x3000 => syscall(0xF00),
-        0x3010 => syscall(0xF01),
-        0x3020 => syscall(0xF02),
+        THREAD_RETURN => syscall(THREAD_RETURN_CALL),
+        HANDLER_RETURN => syscall(HANDLER_RETURN_CALL),
+        MODULE_RETURN => syscall(MODULE_RETURN_CALL),
         0x4000..=0x5FFF => service_word(
             place % 0x2000 / 0x400,
             place % 0x400 / 0x10,

@@ -3,7 +3,7 @@
 
 ghost use Rattle.iop_machine.specs.ArgumentLaws.{ArgumentsAreRead};
 ghost use Rattle.iop_machine.specs.AreaLaws.{KernelAreaIsRead, BootingKeepsKernel};
-ghost use Rattle.iop_machine.specs.Laws.{StepsCompose, RunsCompose, RunsAreDetermined, OverStays, RunsEnd, RunsAreComputed, StubsReachTheirFunctions, RunsStaySound, StubsLeaveWithTheirLine, RunsKeepStubs, StubsAreFollowed};
+ghost use Rattle.iop_machine.specs.Laws.{StepsCompose, RunsCompose, RunsAreDetermined, OverStays, RunsEnd, RunsAreComputed, StubsReachTheirFunctions, RunsStaySound, StubsLeaveWithTheirLine, RunsKeepStubs, StubsAreFollowed, RunsAreStrict};
 
 /// The steps of a run are those of its first part, and then those of the rest.
 pub fn steps_compose()
@@ -25,7 +25,8 @@ pub fn over_stays()
     ensures { OverStays }
 {}
 
-/// Each run ends, after no more than three steps besides those of its instructions.
+/// Each run ends: besides its instructions it takes one step at most that boots it, one dispatch at
+/// most before the first instruction and behind each, and one that finds that nothing is left.
 pub fn runs_end()
     ensures { RunsEnd }
 {}
@@ -59,9 +60,9 @@ pub fn arguments_are_read()
     ensures { ArgumentsAreRead }
 {}
 
-/// In each state that the machine reaches from its beginning memory is sound, the blocks are those of
-/// that memory, each live stub is one that a linking has bound on the way, and outside a delay slot the
-/// next instruction is the one behind.
+/// In each state that the machine reaches from its beginning memory is sound, the blocks are those
+/// of that memory, each live stub is one that a linking has bound on the way, threads stand where
+/// their states say, and outside a delay slot the next instruction of each is the one behind.
 pub fn runs_stay_sound()
     ensures { RunsStaySound }
 {}
@@ -77,8 +78,14 @@ pub fn runs_keep_stubs()
     ensures { RunsKeepStubs }
 {}
 
-/// After a live stub that the module executes, the instruction behind it is executed, and then the one
-/// at the target of the stub's function.
+/// After a live stub that a thread executes, the instruction behind it is executed, and then the
+/// one at the target of the stub's function.
 pub fn stubs_are_followed()
     ensures { StubsAreFollowed }
+{}
+
+/// In each state that a run reaches, a dispatch takes the first ready thread of the best priority,
+/// and tells it; and no instruction is executed while a better thread is ready and may run.
+pub fn runs_are_strict()
+    ensures { RunsAreStrict }
 {}

@@ -1,14 +1,13 @@
-//! The machine: RAM, the processor, the loader's thread, and the modules that it loads and runs.
+//! The machine: RAM, the processor, the kernel, and the modules that it loads and runs.
 #![tactic(auto)]
 
 mod arguments;
+mod begun_module;
 mod burst;
-mod call;
 mod guest_bus;
 mod iop;
 mod kernel_area;
 pub mod laws;
-mod loader;
 mod loading;
 mod machine;
 mod module;

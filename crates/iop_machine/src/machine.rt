@@ -1,13 +1,17 @@
 ghost use Rattle.std.specs.Prelude.{◌≡◌, ℕ, suc, ◌+◌, ◌^◌, ◌<◌, ◌≤◌, false, IfOk, OnErr, [], All, length, option_map};
 ghost use Rattle.iop_trace.specs.Outs.{has_failed, output_of, sinks};
 ghost use Rattle.iop_base.specs.Places.{IsRamSize};
+ghost use Rattle.iop_ready.specs.ReadyList.{StandsFor};
+ghost use Rattle.iop_thread.specs.Standing.{Lends};
 ghost use Rattle.iop_ram.specs.Windows.{window_of};
 ghost use Rattle.iop_machine.specs.Modules.{HasRoom, modules_from};
 ghost use Rattle.iop_machine.specs.declared.module.TheConstants.{MOST_MODULES};
-ghost use Rattle.iop_machine.specs.World.{beginning};
+ghost use Rattle.iop_machine.specs.World.{World, beginning};
+ghost use Rattle.iop_machine.specs.Laws.{IsMachine};
+ghost use Rattle.iop_machine.specs.Standing.{StandsForWorld, IsSoundMachine};
 ghost use Rattle.iop_machine.specs.Stepping.{steps};
 ghost use Rattle.iop_machine.specs.Running.{Finishes, Faults};
-ghost use Rattle.iop_machine.specs.Advancing.{Progresses};
+ghost use Rattle.iop_machine.specs.Advancing.{Progresses, IsLess, turns_by};
 
 use crate::iop::Iop;
 use crate::module::Module;
@@ -15,10 +19,10 @@ use crate::progress::Progress;
 use crate::waiting::Waiting;
 use iop_base::{Stop, WriteFault};
 use iop_ports::Sink;
+use iop_ready::KernelReady;
 use iop_script::Script;
 use iop_trace::Out;
 use std::alloc::{AllocError, Global};
-use std::marker::Model;
 
 /// The machine: the processor with its memory and its kernel, and the modules that it will load.
 ///
@@ -28,17 +32,6 @@ pub struct Machine {
     /// Whether it is still to be booted.
     is_new: bool,
     iop: Iop,
-}
-
-impl Model for Machine {
-    ghost use Rattle.iop_machine.specs.World.{World};
-    ghost use Rattle.iop_machine.specs.Laws.{IsMachine};
-
-    ghost Value = { World };
-
-    ghost view = { λ m. record { is_new = m.is_new; iop = m.iop } };
-
-    ghost invariant = { λ m. IsMachine (record { is_new = m.is_new; iop = m.iop }) };
 }
 
 impl Machine {
@@ -57,8 +50,9 @@ impl Machine {
         requires few { length modules.items ≤ MOST_MODULES }
         requires room { All HasRoom (modules_from script.args 1 modules.items) }
         requires no_events { script.events ≡ [] }
-        ensures { IfOk result (λ machine.
-            machine ≡ beginning size (modules_from script.args 1 modules.items)) }
+        ensures stands { IfOk result (λ machine.
+            StandsForWorld machine (beginning size (modules_from script.args 1 modules.items))) }
+        ensures sound { IfOk result IsSoundMachine }
     {
         let waiting = Waiting::new(modules, script.args);
         Ok(Machine {
@@ -67,29 +61,43 @@ impl Machine {
         })
     }
 
+    /// Lends the list of the ready threads, each by its slot and with its priority.
+    pub fn ready(&self) -> &KernelReady
+        ensures { (w : World) → StandsForWorld self.now w
+            → Lends StandsFor result.now w.iop.kernel.threads }
+    {
+        self.iop.kernel.ready()
+    }
+
     /// Answers the moment, in ticks of the clock: how many instructions were executed.
     pub fn now(&self) -> u64
-        ensures { result ≡ self.now.iop.clock }
+        ensures clock { result ≡ self.now.iop.kernel.clock }
+        ensures moment { (w : World) → StandsForWorld self.now w → result ≡ w.iop.kernel.clock }
     {
-        self.iop.clock
+        self.iop.kernel.now()
     }
 
     /// Lends the bytes of a range of memory. None exactly where it does not lie in RAM.
     pub fn window(&self, from: u32, len: u32) -> Option<&[u8]>
-        ensures { option_map (λ bytes. bytes.now) result ≡ window_of self.now.iop.memory.ram from len }
+        ensures { (w : World) → StandsForWorld self.now w
+            → option_map (λ bytes. bytes.now) result ≡ window_of w.iop.memory.ram from len }
     {
         self.iop.guest.ram().window(from, len)
     }
 
     /// Goes on: boots, or lets the core go on.
     fn advance<C: Sink, T: Sink>(&mut self, budget: u64, out: &mut Out<'_, C, T>) -> Progress
-        requires time { self.old.iop.clock + budget < 2 ^ 64 }
+        requires sound { IsSoundMachine self.old }
+        requires time { self.old.iop.kernel.clock + budget < 2 ^ 64 }
         requires well { has_failed out.old ≡ false }
-        ensures { Progresses result self.old budget self.new
+        ensures progresses { (w : World) → StandsForWorld self.old w → IsMachine w
+            → Progresses StandsForWorld result w budget self.new
             (output_of C.told T.told out.old)
             (output_of C.told T.told out.new) }
+        ensures less { IsLess result (has_failed out.new) self.new.iop.over self.new.is_new
+            (budget + turns_by self.old.iop.over self.old.is_new) }
     {
-        if let Some(stop) = self.iop.stop() {
+        if let Some(stop) = self.iop.over {
             return Progress::Stopped(stop);
         }
         if self.is_new {
@@ -113,13 +121,17 @@ impl Machine {
         console: &mut C,
         trace: &mut T,
     ) -> Result<Stop, WriteFault>
-        requires time { self.old.iop.clock + budget < 2 ^ 64 }
-        ensures whole { IfOk result (λ stop. (k : ℕ) × (self.new ≡ (steps k self.old).state)
-            × Finishes self.old budget k stop
+        requires sound { IsSoundMachine self.old }
+        requires time { self.old.iop.kernel.clock + budget < 2 ^ 64 }
+        ensures sound { IsSoundMachine self.new }
+        ensures whole { IfOk result (λ stop. (w : World) → StandsForWorld self.old w → IsMachine w
+            → (k : ℕ) × StandsForWorld self.new (steps k w).state
+            × Finishes w budget k stop
             (sinks C.told T.told console.old trace.old)
             (sinks C.told T.told console.new trace.new)) }
-        ensures fault { OnErr result ((k : ℕ) × (self.new ≡ (steps (suc k) self.old).state)
-            × Faults self.old budget k
+        ensures fault { OnErr result ((w : World) → StandsForWorld self.old w → IsMachine w
+            → (k : ℕ) × StandsForWorld self.new (steps (suc k) w).state
+            × Faults w budget k
             (sinks C.told T.told console.old trace.old)
             (sinks C.told T.told console.new trace.new)) }
     {

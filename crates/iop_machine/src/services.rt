@@ -1,83 +1,43 @@
-//! What the kernel does for the module that runs.
+//! What a `syscall` leaves of the machine, and how modules end.
 
-ghost use Rattle.std.specs.Prelude.{◌≡◌, ◌+◌, ◌^◌, ◌<◌, length};
+ghost use Rattle.std.specs.Prelude.{◌≡◌, ◌+◌, ◌^◌, ◌<◌, true, is_some, length};
 ghost use Rattle.iop_exec.specs.Positions.{standing_at};
-ghost use Rattle.iop_machine.specs.Iop.{Takes};
-ghost use Rattle.iop_machine.specs.Services.{faults_with, answers, serves, returns, calls, call_of};
+ghost use Rattle.iop_machine.specs.Iop.{Iop as State, Takes, later};
+ghost use Rattle.iop_machine.specs.Services.{faults_with, returns_by, ends_module, calls};
+ghost use Rattle.iop_machine.specs.Standing.{Stands, IsSound};
 
-use crate::call::Call;
+use crate::begun_module::BegunModule;
 use crate::iop::Iop;
-use crate::loader::{Begun, Loader};
-use iop_base::{GuestFault, Line, Lines, Stop};
+use iop_base::{GuestFault, Lines, Stop};
 use iop_exec::Position;
-use iop_libs::{Answer, call};
+use iop_kernel::After;
 use iop_modload::finish;
 
 impl Iop {
     /// Stops it with a fault of the instruction at pc.
     pub(crate) fn fault(&mut self, kind: GuestFault)
-        ensures { self.new ≡ faults_with self.old kind }
+        ensures { (s : State) → Stands self.old s → Stands self.new (faults_with s kind) }
     {
         self.over = Some(Stop::Fault(kind, self.cpu.pc));
     }
 
-    /// Stops it with a fault of the `syscall`, which stood at `before`: the processor has moved on from
-    /// it.
-    fn fault_at(&mut self, before: Position, kind: GuestFault)
-        ensures { self.new ≡ faults_with
-            (record self.old { cpu = standing_at before self.old.cpu }) kind }
+    /// Goes on to the next moment.
+    fn tick(&mut self)
+        requires sound { IsSound self.old }
+        requires time { self.old.kernel.clock + 1 < 2 ^ 64 }
+        ensures { (s : State) → Stands self.old s → Stands self.new (later s) }
     {
-        before.restore(&mut self.cpu);
-        self.fault(kind);
+        let now = self.kernel.now();
+        self.kernel.advance(now + 1);
     }
 
-    /// Answers a word in `$v0`.
-    fn answer(&mut self, value: u32)
-        requires time { self.old.clock + 1 < 2 ^ 64 }
-        ensures { self.new ≡ answers self.old value }
-    {
-        self.cpu.regs[2] = value;
-        self.clock += 1;
-    }
-
-    /// Calls a service of a kernel library, from the thread whose `syscall` stood at `before`.
-    fn serve<L: Lines>(&mut self, library: u32, number: u32, before: Position, lines: &mut L)
-        requires time { self.old.clock + 1 < 2 ^ 64 }
-        ensures { Takes (serves (standing_at before self.old.cpu) library number self.old) self.new
-            (L.output lines.old) (L.output lines.new) }
-    {
-        let answer = call(
-            library,
-            number,
-            false,
-            &self.cpu,
-            &self.guest,
-            &mut self.blocks,
-            &mut self.registry,
-            lines,
-        );
-        match answer {
-            Answer::Value(value) => self.answer(value),
-            Answer::Unlisted => {
-                lines.line(
-                    self.clock,
-                    Line::Unlisted {
-                        lib: library,
-                        index: number,
-                    },
-                );
-                self.answer(0xFFFF_FFFF);
-            }
-            Answer::Fault => self.fault_at(before, GuestFault::Address),
-            Answer::Other(_) => self.fault_at(before, GuestFault::Service),
-        }
-    }
-
-    /// Ends the module that runs, which returned a value, and goes on with the next one that loads.
-    fn finish<L: Lines>(&mut self, begun: Begun, value: u32, lines: &mut L)
-        requires time { self.old.clock + 1 < 2 ^ 64 }
-        requires same_size { self.old.blocks.size ≡ length self.old.memory.ram }
-        ensures { Takes (returns self.old begun value) self.new
+    /// Ends a module, which returned a value, and lets the next one that loads begin. Where none does,
+    /// the loader's thread, which runs, ends.
+    fn end_module<L: Lines>(&mut self, begun: BegunModule, value: u32, lines: &mut L)
+        requires sound { IsSound self.old }
+        requires same_size { self.old.blocks.size ≡ length self.old.guest.ram }
+        ensures { (s : State) → Stands self.old s
+            → Takes Stands (ends_module s begun value) self.new
             (L.output lines.old) (L.output lines.new) }
     {
         finish(
@@ -87,36 +47,61 @@ impl Iop {
             &mut self.guest,
             &mut self.blocks,
             &mut self.registry,
-            self.clock,
+            self.kernel.now(),
             lines,
         );
         self.load_first(lines);
-        self.loader = self.loader.running_on();
-        self.clock += 1;
+        if self.begun.is_none() {
+            self.kernel.end_running();
+        }
     }
 
-    /// Does what a code asks for, for the module that runs. Its `syscall` stood at `before`, and the
-    /// processor has moved on from it. A code without a meaning faults.
-    #[inline(never)]
+    /// Lets the loader's thread, which runs, return a value.
     #[tactic(auto, using(iop_base::proofs::Giving::gives_none))]
-    pub(crate) fn call<L: Lines>(
-        &mut self,
-        begun: Begun,
-        code: u32,
-        before: Position,
-        lines: &mut L,
-    )
-        requires time { self.old.clock + 1 < 2 ^ 64 }
-        requires same_size { self.old.blocks.size ≡ length self.old.memory.ram }
-        ensures { let stood = record self.old { cpu = standing_at before self.old.cpu } in
-            Takes (calls stood begun self.old.cpu (call_of code)) self.new
+    fn return_module<L: Lines>(&mut self, value: u32, lines: &mut L)
+        requires sound { IsSound self.old }
+        requires same_size { self.old.blocks.size ≡ length self.old.guest.ram }
+        ensures { (s : State) → Stands self.old s
+            → Takes Stands (returns_by s s.begun value) self.new
             (L.output lines.old) (L.output lines.new) }
     {
-        match Call::of_code(code) {
-            Some(Call::Library { library, number }) => self.serve(library, number, before, lines),
-            Some(Call::ThreadReturn) => self.finish(begun, 0, lines),
-            Some(Call::ModuleReturn) => self.finish(begun, self.cpu.regs[2], lines),
-            None => self.fault_at(before, GuestFault::Service),
+        match self.begun {
+            Some(begun) => self.end_module(begun, value, lines),
+            None => self.kernel.end_running(),
+        }
+    }
+
+    /// Does what a code asks for. Its `syscall` stood at `before`, and the processor has moved on from
+    /// it.
+    #[inline(never)]
+    pub(crate) fn call<L: Lines>(&mut self, code: u32, before: Position, lines: &mut L)
+        requires runs { (s : State) × Stands self.old s
+            × (is_some s.kernel.threads.running ≡ true) }
+        requires time { self.old.kernel.clock + 1 < 2 ^ 64 }
+        requires same_size { self.old.blocks.size ≡ length self.old.guest.ram }
+        ensures { (s : State) → Stands self.old s
+            → let stood = record s { cpu = standing_at before s.cpu } in
+            Takes Stands (calls stood s.cpu code) self.new
+            (L.output lines.old) (L.output lines.new) }
+    {
+        let after = self.kernel.service(
+            code,
+            &mut self.cpu,
+            &mut self.guest,
+            &mut self.blocks,
+            &mut self.registry,
+            lines,
+        );
+        match after {
+            After::Resume | After::Switch => self.tick(),
+            After::ModuleReturned(value) => {
+                self.return_module(value, lines);
+                self.tick();
+            }
+            After::Fault(kind) => {
+                before.restore(&mut self.cpu);
+                self.fault(kind);
+            }
         }
     }
 }

@@ -1,4 +1,5 @@
 ghost use Rattle.std.specs.Prelude.{◌≡◌, ◌≤◌, IfOk, [], ◌∷◌, length};
+ghost use Rattle.iop_machine.specs.Standing.{IsSoundMachine};
 
 use crate::{Machine, Module, laws};
 use iop_base::Stop;
@@ -55,7 +56,9 @@ fn words_for_first(alloc: Global) -> Result<Script, AllocError>
 }
 
 /// A machine that loads that module twice.
-fn loads_it_twice(alloc: Global) -> Result<Machine, AllocError> {
+fn loads_it_twice(alloc: Global) -> Result<Machine, AllocError>
+    ensures { IfOk result IsSoundMachine }
+{
     let first = plain_module(alloc)?;
     let second = plain_module(alloc)?;
     let modules = vec![in alloc; first, second]?;
@@ -111,4 +114,5 @@ fn laws_hold() {
     laws::stubs_leave_with_their_line();
     laws::runs_keep_stubs();
     laws::stubs_are_followed();
+    laws::runs_are_strict();
 }

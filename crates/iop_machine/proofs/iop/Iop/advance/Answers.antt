@@ -1,34 +1,55 @@
-use Rattle.std.proofs.Common.{refl, ap, sym, Some, subst, ◌≡◌}
-use Rattle.iop_base.proofs.Giving.{gives_none}
-use Rattle.iop_base.specs.declared.stop.Stop.TheVariants.{Quiet}
-use Rattle.iop_base.specs.declared.line.Line.TheVariants.{Run}
-use Rattle.iop_machine.specs.declared.loader.Loader.TheVariants.{Dormant, Ready, Running}
-use Rattle.iop_machine.specs.Iop.{Iop}
-use Rattle.iop_machine.specs.World.{booted}
-use Rattle.iop_machine.proofs.Reaching.{one_step}
-use Rattle.iop_machine.proofs.Stepping.{runs_of, stop_budget, next_ready, next_quiet}
-use Rattle.iop_machine.proofs.Taking.{takes_with, takes_to, tells_takes, silent_takes}
+use Rattle.std.proofs.Common.{sym, ◌∙◌, arith}
+use Rattle.iop_machine.proofs.Dispatching.{settled_of, failed_of, now, stands, same_clock, settled_runs, settled_stops, settled_quiet, settled_advances}
 use Rattle.iop_machine.proofs.iop.Iop.advance.Goals as goal
 
-pub returns-in-Running : goal.returns-in-Running
-returns-in-Running g c =
-    let runs = runs_of c.self.view_is c.requires.goes_on c.in-Running.is in (
-      stop_budget c.args.self.now c.args.budget c.in-Running.field-0 runs c.if-budget-eq0.true,
-      refl,
-      gives_none _,
+pub returns-then-not-dispatch-clause-progresses : goal.returns-then-not-dispatch-clause-progresses
+returns-then-not-dispatch-clause-progresses g c =
+    failed_of c.args.budget c.dispatch.result _ c.dispatch.ensures.answer c.requires.goes_on
+    c.dispatch.ensures.settles c.if-not-dispatch.true
+
+pub returns-then-not-active-clause-progresses : goal.returns-then-not-active-clause-progresses
+returns-then-not-active-clause-progresses g c = λ s h.
+    let settled = settled_of c.args.budget c.dispatch.result _ c.dispatch.ensures.answer
+    c.requires.goes_on c.dispatch.ensures.settles c.if-not-dispatch.false s h in (
+      _,
+      settled_quiet settled.1 (sym (c.active.ensures _ (stands settled.1).kernel)
+          ∙ c.if-not-active.true),
     )
 
-pub returns-in-Ready : goal.returns-in-Ready
-returns-in-Ready g c =
-    let m = c.in-Ready.begun in
-    let ready = subst (λ (s : Iop). s.loader ≡ Ready m) c.self.view_is c.in-Ready.is in
-    let runs = ap (λ (s : Iop). record s { loader = Running m }) c.self.view_is in
-    one_step c.requires.well (next_ready c.args.self.now c.args.budget m c.requires.goes_on ready)
-    (takes_with (takes_to (sym runs) (tells_takes (Run 1) runs c.line.ensures)) booted)
+pub returns-then-budget-eq0-clause-progresses : goal.returns-then-budget-eq0-clause-progresses
+returns-then-budget-eq0-clause-progresses g c = λ s h.
+    let settled = settled_of c.args.budget c.dispatch.result _ c.dispatch.ensures.answer
+    c.requires.goes_on c.dispatch.ensures.settles c.if-not-dispatch.false s h in (
+      _,
+      settled_stops settled.1 (λ t k. sym (c.active.ensures t.kernel k.kernel)
+          ∙ c.if-not-active.false) c.if-budget-eq0.true,
+    )
 
-pub returns-in-Dormant : goal.returns-in-Dormant
-returns-in-Dormant g c =
-    let dormant = subst (λ (s : Iop). s.loader ≡ Dormant) c.self.view_is c.in-Dormant.is in
-    let quiet = ap (λ (s : Iop). record s { over = Some Quiet }) c.self.view_is in
-    one_step c.requires.well (next_quiet c.args.self.now c.args.budget c.requires.goes_on dormant)
-    (takes_with (silent_takes _ quiet) booted)
+pub burst-requires-clause-runs : goal.burst-requires-clause-runs
+burst-requires-clause-runs g c =
+    let settled = settled_of c.args.budget c.dispatch.result _ c.dispatch.ensures.answer
+    c.requires.goes_on c.dispatch.ensures.settles c.if-not-dispatch.false c.requires.sound.0
+    c.requires.sound.1 in (
+      _,
+      stands settled.1,
+      settled_runs settled.1 (λ t k. sym (c.active.ensures t.kernel k.kernel)
+          ∙ c.if-not-active.false),
+    )
+
+pub burst-requires-clause-time : goal.burst-requires-clause-time
+burst-requires-clause-time g c =
+    let settled = settled_of c.args.budget c.dispatch.result _ c.dispatch.ensures.answer
+    c.requires.goes_on c.dispatch.ensures.settles c.if-not-dispatch.false c.requires.sound.0
+    c.requires.sound.1 in
+    let same = same_clock settled.1 in
+    omega (arith, c.requires.time, same, c.requires.sound.1.kernel.clock)
+
+pub returns-clause-progresses : goal.returns-clause-progresses
+returns-clause-progresses g c = λ s h.
+    let settled = settled_of c.args.budget c.dispatch.result _ c.dispatch.ensures.answer
+    c.requires.goes_on c.dispatch.ensures.settles c.if-not-dispatch.false s h in (
+      _,
+      settled_advances settled.1 (c.burst.ensures.advances (now settled.1) (stands settled.1)
+          (settled_runs settled.1 (λ t k. sym (c.active.ensures t.kernel k.kernel)
+          ∙ c.if-not-active.false))).1,
+    )

@@ -1,61 +1,98 @@
-use Rattle.std.proofs.Common.{suc, length, refl, ap, sym, ◌∙◌, arith, rules}
-use Rattle.iop_machine.specs.Iop.{Iop}
-use Rattle.iop_machine.proofs.Bursting.{length-performed, begun, turn_of, keeps_running, plain_advances, fault_advances, call_advances}
-use Rattle.iop_machine.proofs.Reaching.{reached_more}
+use Rattle.std.proofs.Common.{◌+◌, sym, ◌∙◌, arith}
+use Rattle.iop_exec.specs.Row.{row}
+use Rattle.iop_machine.proofs.Bursting.{stands_after, size_kept, length-performed, bursts_first, burst_runs, turn_of, plain_advances, plain_goes_on, fault_advances, call_advances}
 use Rattle.iop_machine.proofs.iop.Iop.burst.Goals as goal
 
 pub instructions-init : goal.instructions-init
-instructions-init g c = record {
-  time = omega (arith, c.requires.time, ap (λ (s : Iop). s.clock) c.self.view_is);
-  some = c.requires.some;
-  same_size = c.requires.same_size;
-  runs = record { over = c.requires.runs.over; loader = c.requires.runs.loader };
-  reached = (0, begun _ c.args.self.now c.args.budget _ c.self.view_is c.requires.well);
-}
+instructions-init g c =
+    let h = c.requires.runs.1.kernel in
+    let now = c.now-clock.ensures.moment c.requires.runs.0.kernel h ∙ h.clock in
+    record {
+      time = omega (arith, c.requires.time, now);
+      later = omega (arith, now);
+      some = c.requires.some;
+      few = omega arith;
+      same_size = c.requires.same_size;
+      bursts = bursts_first c.args.self.now c.now-clock.result c.args.budget _ now c.requires.well;
+    }
 
 pub instructions-preserved : goal.instructions-preserved
 instructions-preserved g c =
     let i = c.instructions.invariant in
-    let turn = turn_of {m = c.args.begun} {left = c.instructions.left}
-    c.self-in-instructions.view_is i.runs i.some c.perform.ensures in
     record {
       time = omega arith;
+      later = omega arith;
       some = omega arith;
-      same_size = ap (λ (s : Iop). s.blocks.size) c.self-in-instructions.view_is ∙ i.same_size
-          ∙ ap (λ (s : Iop). length s.memory.ram) (sym c.self-in-instructions.view_is)
-          ∙ sym (length-performed _ _ _ _ _ _ _ _ _ c.perform.ensures);
-      runs = keeps_running turn c.in-Plain.is;
-      reached = (
-        suc i.reached.0,
-        reached_more
-            (plain_advances turn i.reached.1 c.in-Plain.is _ refl) (search rules),
-      );
+      few = omega arith;
+      same_size = i.same_size ∙ sym (length-performed _ _ _ _ _ _ _ _ _ c.perform.ensures);
+      bursts = λ s h r. plain_goes_on (turn_of (i.bursts s h r) i.some c.perform.ensures)
+          c.in-Plain.is (sym c.failed.ensures ∙ c.if-failed.false)
+          (λ t k. stands_after c.perform.new.cpu c.perform.new.guest (c.instructions.clock + 1) k);
     }
 
-pub returns-then-left-eq0 : goal.returns-then-left-eq0
-returns-then-left-eq0 g c =
-    let i = c.instructions.invariant in
-    let turn = turn_of {m = c.args.begun} {left = c.instructions.left}
-    c.self-in-instructions.view_is i.runs i.some c.perform.ensures in
-    (i.reached.0, plain_advances turn i.reached.1 c.in-Plain.is _ c.settle.ensures)
+pub settle-requires-clause-sound : goal.settle-requires-clause-sound
+settle-requires-clause-sound g c =
+    let r = burst_runs c.instructions.self c.perform.new.guest c.requires.runs
+    c.instructions.invariant.bursts in (r.0, r.1)
 
-pub returns-in-Fault : goal.returns-in-Fault
-returns-in-Fault g c =
+pub returns-then-left-eq0-clause-advances : goal.returns-then-left-eq0-clause-advances
+returns-then-left-eq0-clause-advances g c = λ s h r.
     let i = c.instructions.invariant in
-    let turn = turn_of {m = c.args.begun} {left = c.instructions.left}
-    c.self-in-instructions.view_is i.runs i.some c.perform.ensures in (
-      i.reached.0,
-      fault_advances turn i.reached.1 c.settle-in-Fault.new.self
-          c.settle-in-Fault.ensures c.in-Fault.kind c.in-Fault.is _ c.fault.ensures,
+    let turn = turn_of (i.bursts s h r) i.some c.perform.ensures in (
+      _,
+      plain_advances turn c.in-Plain.is (λ t k. c.settle.ensures _
+          (stands_after c.instructions.self.cpu c.perform.new.guest c.instructions.self.kernel.clock k)),
     )
 
-pub returns-in-Service : goal.returns-in-Service
-returns-in-Service g c =
+pub settle-requires-in-Fault-clause-sound : goal.settle-requires-in-Fault-clause-sound
+settle-requires-in-Fault-clause-sound g c =
+    let r = burst_runs c.instructions.self c.perform.new.guest c.requires.runs
+    c.instructions.invariant.bursts in (r.0, r.1)
+
+pub returns-in-Fault-clause-advances : goal.returns-in-Fault-clause-advances
+returns-in-Fault-clause-advances g c = λ s h r.
     let i = c.instructions.invariant in
-    let turn = turn_of {m = c.args.begun} {left = c.instructions.left}
-    c.self-in-instructions.view_is i.runs i.some c.perform.ensures in (
-      i.reached.0,
-      call_advances turn i.reached.1 c.settle-in-Service.new.self
-          c.settle-in-Service.ensures c.in-Service.code c.of-pc.result c.in-Service.is
-          c.of-pc.ensures c.call.ensures,
+    let turn = turn_of (i.bursts s h r) i.some c.perform.ensures in (
+      _,
+      fault_advances turn {now = c.settle-in-Fault.new.self} (λ t k. c.settle-in-Fault.ensures _
+          (stands_after c.instructions.self.cpu c.perform.new.guest c.instructions.self.kernel.clock k))
+          c.in-Fault.kind c.in-Fault.is c.fault.ensures,
+    )
+
+pub settle-requires-in-Service-clause-sound : goal.settle-requires-in-Service-clause-sound
+settle-requires-in-Service-clause-sound g c =
+    let r = burst_runs c.instructions.self c.perform.new.guest c.requires.runs
+    c.instructions.invariant.bursts in (r.0, r.1)
+
+pub call-requires-clause-runs : goal.call-requires-clause-runs
+call-requires-clause-runs g c =
+    let r = burst_runs c.instructions.self c.perform.new.guest c.requires.runs
+    c.instructions.invariant.bursts in
+    (_, c.settle-in-Service.ensures r.0 r.1, r.2.running)
+
+pub call-requires-clause-time : goal.call-requires-clause-time
+call-requires-clause-time g c =
+    let r = burst_runs c.instructions.self c.perform.new.guest c.requires.runs
+    c.instructions.invariant.bursts in
+    let clock = (c.settle-in-Service.ensures r.0 r.1).kernel.clock in
+    let i = c.instructions.invariant in omega (arith, clock, i.time, i.some)
+
+pub call-requires-clause-same_size : goal.call-requires-clause-same_size
+call-requires-clause-same_size g c =
+    let r = burst_runs c.instructions.self c.perform.new.guest c.requires.runs
+    c.instructions.invariant.bursts in
+    size_kept c.perform.new.cpu c.instructions.clock r.1
+    (c.settle-in-Service.ensures r.0 r.1)
+    (c.instructions.invariant.same_size
+    ∙ sym (length-performed (row c.instructions.self.guest.ram c.instructions.cpu) _ _ _ _ _ _ _ _
+    c.perform.ensures))
+
+pub returns-in-Service-clause-advances : goal.returns-in-Service-clause-advances
+returns-in-Service-clause-advances g c = λ s h r.
+    let i = c.instructions.invariant in
+    let turn = turn_of (i.bursts s h r) i.some c.perform.ensures in (
+      _,
+      call_advances turn {now = c.settle-in-Service.new.self} (λ t k. c.settle-in-Service.ensures _
+          (stands_after c.instructions.self.cpu c.perform.new.guest c.instructions.self.kernel.clock k))
+          c.in-Service.code c.of-pc.result c.in-Service.is c.of-pc.ensures c.call.ensures,
     )

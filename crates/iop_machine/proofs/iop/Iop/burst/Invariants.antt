@@ -1,18 +1,21 @@
-use Rattle.std.proofs.Common.{◌≡◌, ℕ, ◌+◌, ◌<◌, ◌^◌, length}
+use Rattle.std.proofs.Common.{◌≡◌, ◌+◌, ◌<◌, ◌≤◌, ◌^◌, length}
 use Rattle.iop_trace.specs.Outs.{output_of}
+use Rattle.iop_machine.specs.Iop.{Iop as State}
 use Rattle.iop_machine.specs.Running.{Runs}
+use Rattle.iop_machine.specs.Standing.{Stands}
 use Rattle.iop_machine.specs.World.{booted}
-use Rattle.iop_machine.proofs.Reaching.{Reached}
+use Rattle.iop_machine.proofs.Bursting.{Bursts, held}
 use Rattle.iop_machine.proofs.iop.Iop.burst.Given as goal
 
 abbrev pub invariant-instructions : goal.invariant-instructions
 invariant-instructions g l = record {
   time : l.clock + l.left < 2 ^ 64;
+  later : l.self.kernel.clock ≤ l.clock;
   some : 0 < l.left;
-  same_size : l.self.blocks.size ≡ length l.self.memory.ram;
-  runs : Runs (record l.self { cpu = l.cpu; clock = l.clock }) l.fn.begun;
-  reached : (k : ℕ) × Reached (booted l.fn.self) l.fn.budget k l.left
-      (booted (record l.self { cpu = l.cpu; clock = l.clock }))
+  few : l.left ≤ l.fn.budget;
+  same_size : l.self.blocks.size ≡ length l.self.guest.ram;
+  bursts : (s : State) → Stands l.fn.self s → Runs s
+      → Bursts (booted s) l.fn.budget l.left (held l.self l.cpu l.self.guest l.clock)
       (output_of g.C.Sink.told g.T.Sink.told l.initial.out)
       (output_of g.C.Sink.told g.T.Sink.told l.out);
 }

@@ -1,17 +1,18 @@
-use Rattle.std.proofs.Common.{ap, sym}
 use Rattle.iop_base.specs.declared.line.Line.TheVariants.{Load}
-use Rattle.iop_machine.specs.declared.loader.Loader.TheVariants.{Ready}
-use Rattle.iop_machine.specs.Iop.{Iop}
-use Rattle.iop_machine.proofs.LoadingLemmas.{enters_takes}
-use Rattle.iop_machine.proofs.Taking.{takes_to, tells_takes}
+use Rattle.iop_machine.specs.Loading.{begins, passes}
+use Rattle.iop_machine.specs.Iop.{with_state}
+use Rattle.iop_machine.specs.Standing.{Stands}
+use Rattle.iop_machine.proofs.LoadingLemmas.{stands_begun}
+use Rattle.iop_machine.proofs.StandingLemmas.{tells_takes}
+use Rattle.iop_machine.proofs.Taking.{takes_then, takes_with}
 use Rattle.iop_machine.proofs.iop.Iop.enter.Goals as goal
 
 pub returns : goal.returns
-returns g c =
+returns g c s h =
     let begun = c.args.begun in
-    let cpu = c.module_start-self-inside.result in
-    let told = tells_takes (Load begun.number begun.loaded.base begun.loaded.len) c.self.view_is
-    c.line.ensures in
-    takes_to (ap (λ (s : Iop). record s { loader = Ready begun; cpu = cpu }) (sym c.self-2.view_is))
-    (enters_takes begun c.args.words cpu c.args.block.now told c.pass_arguments.ensures
-    c.module_start-self-inside.ensures)
+    let words = c.args.words in
+    let told = tells_takes c.args.self.now c.now.result c.now.ensures.moment
+    (Load begun.number begun.loaded.base begun.loaded.len) c.line.ensures s h in
+    takes_then told (λ v. with_state (λ u. begins u begun words) (passes v c.args.block.now))
+    (takes_with (c.pass_arguments.ensures s h) Stands (λ u. begins u begun words) _
+    (stands_begun _ begun words _ c.module_start-self.ensures _))

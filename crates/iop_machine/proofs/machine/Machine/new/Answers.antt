@@ -1,10 +1,18 @@
-use Rattle.std.proofs.Common.{true, sym, subst}
-use Rattle.iop_machine.specs.Iop.{Iop}
-use Rattle.iop_machine.specs.Laws.{IsMachine}
+use Rattle.std.proofs.Common.{refl, ap, ◌∙◌, subst}
+use Rattle.iop_machine.specs.Modules.{modules_from}
+use Rattle.iop_machine.specs.Standing.{Stands}
+use Rattle.iop_machine.specs.World.{reset}
 use Rattle.iop_machine.proofs.Landing.{begins_as_machine}
 use Rattle.iop_machine.proofs.machine.Machine.new.Goals as goal
 
-pub invariant_of-result : goal.invariant_of-result
-invariant_of-result c =
-    subst (λ (s : Iop). IsMachine (record { is_new = true; iop = s })) (sym c.in_ok-new.ensures)
-    (begins_as_machine c.args.size _ c.requires.sized)
+pub returns-clause-stands : goal.returns-clause-stands
+returns-clause-stands c = record {
+  is_new = refl;
+  iop = subst (λ modules. Stands c.in_ok-new.field-0 (reset c.args.size modules))
+      (c.new-waiting.ensures ∙ ap (λ script. modules_from script.args 1 c.args.modules.items) c.script.view_is)
+      c.in_ok-new.ensures;
+}
+
+pub returns-clause-sound : goal.returns-clause-sound
+returns-clause-sound c =
+    (_, returns-clause-stands c, begins_as_machine c.args.size _ c.requires.sized)

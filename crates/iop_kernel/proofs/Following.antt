@@ -1,0 +1,223 @@
+-- What becomes of the thread that calls a service: it runs on exactly where that is answered.
+use Rattle.std.proofs.Common.{◌≡◌, ℕ, ◌==◌, Bool, true, false, cond, Option, Some, None, Result, Ok, Err, List, [], refl, ap, ◌∙◌}
+use Rattle.iop_base.specs.Piece.{Piece}
+use Rattle.iop_base.specs.declared.code.Code.{Code}
+use Rattle.iop_base.specs.declared.code.TheConstants.Code.{ILLEGAL_CONTEXT}
+use Rattle.iop_base.specs.declared.guest_fault.GuestFault.{GuestFault}
+use Rattle.iop_exec.specs.Row.{reg}
+use Rattle.iop_libs.specs.Calls.{Sight, After as Called, serves as library_serves, answers as library_answers, calls_row, row_pieces, service_pieces, table_place, registers_header, registers_at, code_value, argument as library_argument}
+use Rattle.iop_services.specs.Table.{row_of, allows}
+use Rattle.iop_services.specs.declared.row.Row.{Row}
+use Rattle.iop_services.specs.declared.service.Service.{Service}
+use Rattle.iop_services.specs.declared.service.Service.TheVariants as service
+use Rattle.irx_tables.specs.Exports.{header_of}
+use Rattle.iop_sysmem.specs.Allocating.{allocating}
+use Rattle.iop_sysmem.specs.BlockMap.{BlockMap}
+use Rattle.iop_thread.specs.Operations as threads
+use Rattle.iop_thread.specs.Placing.{IsPlaced}
+use Rattle.iop_thread.specs.ThreadTable.{ThreadTable, thread_of, has_room}
+use Rattle.iop_thread.specs.declared.param.Param.{Param}
+use Rattle.iop_thread.specs.declared.thread.Thread.{Thread}
+use Rattle.iop_kernel.specs.Laws.{Follows}
+use Rattle.iop_kernel.specs.Making.{owner_of, on_owner, Owner, creates_on, creates_at, creates_with, creates_from, refers_it, refers_to, refers_at}
+use Rattle.iop_kernel.specs.Serving.{call_of, serves, answers_by, calls_library, calls, services}
+use Rattle.iop_kernel.specs.System.{Core, Left, System, Served, argument, caller, opened, with_threads, silent, after_pieces, on_core, words_place}
+use Rattle.iop_kernel.specs.Threads.{named}
+use Rattle.iop_kernel.specs.declared.after.After.{After}
+use Rattle.iop_kernel.specs.declared.after.After.TheVariants.{Resume, Switch, ModuleReturned, Fault}
+use Rattle.iop_kernel.specs.declared.call.Call.{Call}
+use Rattle.iop_kernel.specs.declared.call.Call.TheVariants.{Library, ThreadReturn, ModuleReturn}
+use Rattle.iop_kernel.proofs.Faulting.{services_alone}
+use Rattle.iop_kernel.proofs.FollowingThreads.{Becomes, CoreBecomes, OwnerBecomes, exits_become, returns_become, result_becomes, serves_core_becomes, delete_becomes, exits_deleted_by_become}
+use Rattle.iop_kernel.proofs.RunningThread.{running_creates}
+
+-- what a call leaves where a module returned: interrupts on and dispatch enabled, and nothing given
+abbrev returned : System → System × List Piece
+returned s = (record s { core = opened s.core }, [])
+
+-- what has become of the thread of an id, by what was served
+abbrev ServedBecomes : System → ℕ → Served → Type 0
+ServedBecomes s id d =
+    Becomes d.left.after id d.left.state.core.kernel.threads (returned s) (d.left.state, d.pieces)
+
+-- it is the same of what is made of what a call leaves
+becomes_of : {S T : Type 0} (f : S → T) (after : After) (id : ℕ) (left : ThreadTable) (x y : S)
+    → Becomes after id left x y → Becomes after id left (f x) (f y)
+becomes_of f Resume id left x y h = h
+becomes_of f Switch id left x y h = h
+becomes_of f (ModuleReturned word) id left x y h = (h.0, ap f h.1)
+becomes_of f (Fault kind) id left x y h = tt
+
+-- with what a fault leaves it is what the law says
+follows_by : (s : System) (id : ℕ) (after : After) (left : System) (pieces : List Piece)
+    → ((kind : GuestFault) → after ≡ Fault kind → (left ≡ s) × (pieces ≡ []))
+    → Becomes after id left.core.kernel.threads (returned s) (left, pieces)
+    → Follows after s id left pieces
+follows_by s id Resume left pieces alone h = h
+follows_by s id Switch left pieces alone h = h
+follows_by s id (ModuleReturned word) left pieces alone h =
+    (h.0, ap (λ (p : System × List Piece). p.0) h.1, ap (λ (p : System × List Piece). p.1) h.1)
+follows_by s id (Fault kind) left pieces alone h = alone kind refl
+
+module _ (s : System) (id : ℕ) (runs : caller s.core ≡ Some id)
+    (placed : IsPlaced s.core.kernel.threads) where
+  -- of two ways, both are so
+  either : (b : Bool) (x y : Served) → ServedBecomes s id x → ServedBecomes s id y
+      → ServedBecomes s id (cond b x y)
+  either true x y first second = first
+  either false x y first second = second
+
+  -- a call that looks at threads alone
+  on_core_becomes : (left : Left Core) → CoreBecomes s.core id left
+      → ServedBecomes s id (silent (on_core s left))
+  on_core_becomes left h =
+      let made : Core → System × List Piece = λ c. (record s { core = c }, []) in
+      becomes_of made left.after id left.state.kernel.threads (opened s.core) left.state h
+
+  -- a call that looks at blocks too
+  on_owner_becomes : (left : Left Owner) → OwnerBecomes (owner_of s) id left
+      → ServedBecomes s id (silent (on_owner s left))
+  on_owner_becomes left h =
+      let made : Owner → System × List Piece =
+      λ o. (record s { core = o.core; blocks = o.blocks }, []) in
+      becomes_of made left.after id left.state.core.kernel.threads
+      (record (owner_of s) { core = opened s.core }) left.state h
+
+  -- a thread is made on a stack
+  creates_on_become : (param : Param) (stack : ℕ) (blocks : BlockMap)
+      → ServedBecomes s id (creates_on s param stack blocks)
+  creates_on_become param stack blocks =
+      let gp = reg s.core.cpu 28 in
+      let made = threads.creates s.core.kernel.threads param stack gp in
+      result_becomes id (with_threads s.core made.1) made.0 _ _
+      (running_creates s.core.kernel.threads param stack gp ∙ runs)
+
+  -- by what the allocation gave
+  creates_at_become : (param : Param) (r : ℕ × BlockMap) → ServedBecomes s id (creates_at s param r)
+  creates_at_become param (stack, blocks) =
+      either (stack == 0) _ _ runs (creates_on_become _ stack blocks)
+
+  -- by what the words ask for
+  creates_with_become : (r : Result Param Code) → ServedBecomes s id (creates_with s r)
+  creates_with_become (Err code) = runs
+  creates_with_become (Ok param) =
+      either (has_room s.core.kernel.threads) _ _
+      (creates_at_become param (allocating s.blocks 1 param.stack_size 0)) runs
+
+  -- by the place of the words, if they have one
+  creates_become : (o : Option ℕ) → ServedBecomes s id (creates_from s o)
+  creates_become None = tt
+  creates_become (Some place) = creates_with_become _
+
+  -- the status of a thread is written, if it is found
+  refers_it_become : (place : ℕ) (o : Option Thread) → ServedBecomes s id (refers_it s place o)
+  refers_it_become place None = runs
+  refers_it_become place (Some t) = runs
+
+  -- by the thread that is named
+  refers_to_become : (place : ℕ) (o : Option ℕ) → ServedBecomes s id (refers_to s place o)
+  refers_to_become place None = runs
+  refers_to_become place (Some at) = refers_it_become place (thread_of s.core.kernel.threads.live at)
+
+  -- by the place of the words, if they have one
+  refers_become : (at : ℕ) (o : Option ℕ) → ServedBecomes s id (refers_at s at o)
+  refers_become at None = tt
+  refers_become at (Some place) = refers_to_become place (named (caller s.core) at)
+
+  -- a service that the libraries do not have
+  serves_becomes : (x : Service) → ServedBecomes s id (serves s x)
+  unfolding serves
+  serves_becomes service.CreateThread = creates_become (words_place s.memory (argument s.core 0) 5)
+  serves_becomes service.ReferThreadStatus =
+      refers_become (argument s.core 0) (words_place s.memory (argument s.core 1) 12)
+  serves_becomes service.DeleteThread =
+      on_owner_becomes _ (delete_becomes (owner_of s) id runs placed (argument s.core 0))
+  serves_becomes service.ExitDeleteThread =
+      on_owner_becomes _
+      (exits_deleted_by_become (owner_of s) id runs placed (caller s.core) refl)
+  serves_becomes other = on_core_becomes _ (serves_core_becomes s.core id runs placed other)
+
+  -- what the libraries look at
+  abbrev sight : Sight
+  sight = record { memory = s.memory; cpu = s.core.cpu }
+
+  module _ (library number : ℕ) where
+    -- what the libraries come to, after these pieces
+    abbrev given : List Piece → Called → Served
+    given pieces called =
+        after_pieces pieces (answers_by library number
+        (record s { blocks = called.blocks; libraries = called.libraries }) called.answer)
+
+    -- what has become of the thread that calls then
+    abbrev GivenBecomes : List Piece → Called → Type 0
+    GivenBecomes pieces called = ServedBecomes s id (given pieces called)
+
+    -- a library is registered, by its header
+    registers_become : (o : Option (List ℕ × ℕ)) (place : ℕ)
+        → let done = registers_header s.libraries place o in
+        GivenBecomes [] (record { answer = done.0; blocks = s.blocks; libraries = done.1 })
+    registers_become None place = runs
+    registers_become (Some header) place = runs
+
+    -- by the place of its table, if it has one
+    registers_at_become : (o : Option ℕ)
+        → let done = registers_at s.memory.ram s.libraries o in
+        GivenBecomes [] (record { answer = done.0; blocks = s.blocks; libraries = done.1 })
+    registers_at_become None = tt
+    registers_at_become (Some place) = registers_become (header_of s.memory.ram place) place
+
+    -- a service of the libraries
+    service_becomes : (x : Service)
+        → GivenBecomes (service_pieces sight x) (library_serves sight s.blocks s.libraries x)
+    service_becomes service.FlushIcache = runs
+    service_becomes service.FlushDcache = runs
+    service_becomes service.RegisterLibraryEntries =
+        registers_at_become (table_place s.memory.ram (library_argument sight 0))
+    service_becomes service.ReleaseLibraryEntries = runs
+    service_becomes service.AllocSysMemory = runs
+    service_becomes service.FreeSysMemory = runs
+    service_becomes service.QueryMemSize = runs
+    service_becomes service.QueryMaxFreeMemSize = runs
+    service_becomes service.QueryTotalFreeMemSize = runs
+    service_becomes service.QueryBlockTopAddress = runs
+    service_becomes service.QueryBlockSize = runs
+    service_becomes service.Kprintf = runs
+    service_becomes service.Printf = runs
+    service_becomes other = serves_becomes other
+
+    -- by whether it may be called
+    allowed_becomes : (row : Row) (allowed : Bool)
+        → GivenBecomes (cond allowed (service_pieces sight row.service) [])
+        (cond allowed (library_serves sight s.blocks s.libraries row.service)
+        (library_answers sight s.blocks s.libraries (code_value ILLEGAL_CONTEXT)))
+    allowed_becomes row true = service_becomes row.service
+    allowed_becomes row false = runs
+
+    -- a call of a row
+    row_becomes : (o : Option Row)
+        → GivenBecomes (row_pieces sight false o) (calls_row sight s.blocks s.libraries false o)
+    row_becomes None = runs
+    row_becomes (Some row) = allowed_becomes row (allows row.context false)
+
+    -- a service of a library
+    library_becomes : ServedBecomes s id (calls_library library number s)
+    unfolding calls_library
+    library_becomes = row_becomes (row_of library number)
+
+  -- whatever is called
+  calls_become : (o : Option Call) → ServedBecomes s id (calls s o)
+  calls_become None = tt
+  calls_become (Some ThreadReturn) =
+      on_core_becomes _ (exits_become s.core id runs placed (caller s.core) refl)
+  calls_become (Some ModuleReturn) =
+      on_core_becomes _ (returns_become s.core id runs placed (caller s.core) refl)
+  calls_become (Some (Library library number)) = library_becomes library number
+
+-- what follows a `syscall` of any code
+pub services_follow : (s : System) (code id : ℕ) → IsPlaced s.core.kernel.threads
+    → caller s.core ≡ Some id → let d = services s code in
+    Follows d.left.after s id d.left.state d.pieces
+services_follow s code id placed runs =
+    let d = services s code in
+    follows_by s id d.left.after d.left.state d.pieces (services_alone s code)
+    (calls_become s id runs placed (call_of code))

@@ -1,0 +1,283 @@
+-- What becomes of the thread that calls a service which looks at threads: it runs on, or none runs.
+use Rattle.std.proofs.Common.{◌≡◌, ℕ, ◌==◌, ◌||◌, ◌&&◌, not, Bool, true, false, if◌then◌else◌, Option, Some, None, Result, Ok, Err, refl, ◌∙◌, arith}
+use Rattle.std.specs.Prelude.{⊤}
+use Rattle.std.proofs.lemmas.Bool.{cond_both}
+use Rattle.std.proofs.lemmas.Bool.Decides.{nat_tests}
+use Rattle.iop_base.specs.declared.code.Code.{Code}
+use Rattle.iop_base.specs.declared.code.TheConstants.Code.{WAIT_RELEASED}
+use Rattle.iop_exec.specs.declared.cpu.Cpu.{Cpu}
+use Rattle.iop_ready.specs.Priorities.{priority_of as priority_of_word}
+use Rattle.iop_services.specs.declared.service.Service.{Service}
+use Rattle.iop_services.specs.declared.service.Service.TheVariants as service
+use Rattle.iop_thread.specs.Operations as threads
+use Rattle.iop_thread.specs.Placing.{IsPlaced}
+use Rattle.iop_thread.specs.States.{wait_in}
+use Rattle.iop_thread.specs.ThreadTable.{ThreadTable, thread_of, priority_of, is_it, running_thread}
+use Rattle.iop_thread.specs.declared.thread.Thread.{Thread}
+use Rattle.iop_thread.specs.declared.thread.TheConstants.{LOADER}
+use Rattle.iop_thread.specs.declared.wait.Wait.{Wait}
+use Rattle.iop_thread.specs.declared.wait.Wait.TheVariants.{Sleep}
+use Rattle.iop_thread.proofs.FindingThreads.{none_runs}
+use Rattle.iop_kernel.specs.Making.{Owner, deletes_by, delete_thread, exits_deleted, exits_deleted_by}
+use Rattle.iop_kernel.specs.Serving.{serves_core}
+use Rattle.iop_kernel.specs.System.{Core, Left, may_switch, caller, opened, answered, answers_result, argument, code_word}
+use Rattle.iop_kernel.specs.Threads.{ended, exits_by, returns_by, is_nobody_else, start_thread, terminates_by, terminate_thread, set_dispatch, changes_by, changes_to, changes_if, named, has_priority, after_leaving, rotates_to, rotates_own, rotates_by, releases_from, releases_it, release_wait, sleeps_by, sleep_thread, wakeup_thread, cancels_of, suspend_thread, resume_thread}
+use Rattle.iop_kernel.specs.declared.after.After.{After}
+use Rattle.iop_kernel.specs.declared.after.After.TheVariants.{Resume, Switch, ModuleReturned, Fault}
+use Rattle.iop_kernel.proofs.RunningThread.{RunsOn, running_starts, running_deletes, running_terminates, running_changes, running_rotates, running_wakes, running_resumes, running_wakes_up, running_cancels, running_takes_wakeup, running_suspends}
+
+-- what has become of the thread of an id, by the threads that are left, and by what is left where a
+-- module returned; of a fault nothing is said here
+abbrev pub Becomes : {S : Type 0} → After → (id : ℕ) → ThreadTable → (returned left : S) → Type 0
+Becomes Resume id left returned state = left.running ≡ Some id
+Becomes Switch id left returned state = left.running ≡ None
+Becomes (ModuleReturned word) id left returned state = (id ≡ LOADER) × (state ≡ returned)
+Becomes (Fault kind) id left returned state = ⊤
+
+-- by what a call that looks at threads alone leaves
+abbrev pub CoreBecomes : Core → ℕ → Left Core → Type 0
+CoreBecomes c id left = Becomes left.after id left.state.kernel.threads (opened c) left.state
+
+-- and by what one leaves that looks at blocks too
+abbrev pub OwnerBecomes : Owner → ℕ → Left Owner → Type 0
+OwnerBecomes o id left =
+    Becomes left.after id left.state.core.kernel.threads (record o { core = opened o.core })
+    left.state
+
+module _ (s : ThreadTable) (id : ℕ) (runs : s.running ≡ Some id) (placed : IsPlaced s) where
+  -- where one runs, it waits, and none runs then
+  none_blocks_it : (wait : Wait) (registers : Cpu) (o : Option Thread) → running_thread s ≡ o
+      → (threads.blocks_it s wait registers o).running ≡ None
+  none_blocks_it wait registers None is = absurd (cc (runs, none_runs s placed is))
+  none_blocks_it wait registers (Some t) is = refl
+
+  -- so after a wait none runs
+  none_blocks : (wait : Wait) (registers : Cpu) → (threads.blocks s wait registers).running ≡ None
+  none_blocks wait registers = none_blocks_it wait registers (running_thread s) refl
+
+  -- or it ends
+  none_ends_it : (o : Option Thread) → running_thread s ≡ o
+      → (threads.ends_it s o).running ≡ None
+  none_ends_it None is = absurd (cc (runs, none_runs s placed is))
+  none_ends_it (Some t) is = refl
+
+  -- nor after an end
+  none_ends : (threads.ends_running s).running ≡ None
+  none_ends = none_ends_it (running_thread s) refl
+
+-- or it is put behind the others
+none_rotates_it : (c : Core) (s : ThreadTable) (priority : ℕ) (registers : Cpu) (o : Option Thread)
+    → has_priority c priority o ≡ true
+    → (threads.rotates_it s priority registers o).running ≡ None
+none_rotates_it c s priority registers None own = absurd (cc own)
+none_rotates_it c s priority registers (Some t) own = rw own refl
+
+-- the same one runs, and is answered a word or a code
+pub result_becomes : {S : Type 0} (id : ℕ) (c : Core) (r : Result ℕ Code) (returned left : S)
+    → caller c ≡ Some id → let done = answers_result c r in
+    Becomes done.after id done.state.kernel.threads returned left
+result_becomes id c (Ok word) returned left on = on
+result_becomes id c (Err code) returned left on = on
+
+module _ (c : Core) (id : ℕ) (runs : caller c ≡ Some id) (placed : IsPlaced c.kernel.threads) where
+  abbrev table : ThreadTable
+  table = c.kernel.threads
+
+  -- of two ways, both are so
+  either : (b : Bool) (x y : Left Core) → (b ≡ true → CoreBecomes c id x)
+      → (b ≡ false → CoreBecomes c id y) → CoreBecomes c id (if b then x else y)
+  either b x y = cond_both b x y (CoreBecomes c id)
+
+  -- the thread that calls is the loader's, if the test says so
+  is_loader : (at : ℕ) → caller c ≡ Some at → (at == LOADER) ≡ true → id ≡ LOADER
+  is_loader at is loader =
+      let same : at ≡ id = cc (is, runs) in grind (arith, nat_tests, same, loader)
+
+  -- the thread that calls ends
+  pub exits_become : (o : Option ℕ) → caller c ≡ o → CoreBecomes c id (exits_by c o)
+  exits_become None is = tt
+  exits_become (Some at) is =
+      either (at == LOADER) _ _ (λ loader. (is_loader at is loader, refl))
+      (λ other. none_ends table id runs placed)
+
+  -- its module returns
+  pub returns_become : (o : Option ℕ) → caller c ≡ o → CoreBecomes c id (returns_by c o)
+  returns_become None is = tt
+  returns_become (Some at) is =
+      either (at == LOADER) _ _ (λ loader. (is_loader at is loader, refl)) (λ other. tt)
+
+  -- a thread is started
+  start_becomes : (at argument : ℕ) → CoreBecomes c id (start_thread c at argument)
+  start_becomes at argument =
+      either (at == 0 || at == LOADER) _ _ (λ refused. runs)
+      (λ other. running_starts table at argument ∙ runs)
+
+  -- another thread is ended, by what that answers
+  terminates_become : (at : ℕ) (r : Result (Option Wait) Code × ThreadTable) → RunsOn table r.1
+      → CoreBecomes c id (terminates_by c at r)
+  terminates_become at (Err code, t) on = runs
+  terminates_become at (Ok wait, t) on = on ∙ runs
+
+  -- a thread is ended, unless it is the one that calls
+  terminate_becomes : (at : ℕ) → CoreBecomes c id (terminate_thread c at)
+  terminate_becomes at =
+      either (is_nobody_else c at || at == LOADER) _ _ (λ refused. runs) (λ other.
+      let it : is_it (caller c) at ≡ false = grind (arith, nat_tests, other) in
+      terminates_become at (threads.terminates table at) (running_terminates table placed at it))
+
+  -- dispatch is enabled or disabled
+  set_becomes : (enabled : Bool) → CoreBecomes c id (set_dispatch c enabled)
+  set_becomes enabled = either c.kernel.interrupts _ _ (λ on. runs) (λ off. runs)
+
+  -- a priority changes, by what the change answers
+  changes_by_become : (r : Result (Option Wait) Code × ThreadTable) → RunsOn table r.1
+      → CoreBecomes c id (changes_by c r)
+  changes_by_become (Err code, t) on = runs
+  changes_by_become (Ok wait, t) on = on ∙ runs
+
+  -- by the thread that is named
+  changes_to_become : (priority : ℕ) (o : Option ℕ) → CoreBecomes c id (changes_to c priority o)
+  changes_to_become priority None = runs
+  changes_to_become priority (Some at) =
+      changes_by_become (threads.changes table at priority) (running_changes table at priority)
+
+  -- by whether the word is a priority
+  changes_if_become : (at : ℕ) (o : Option ℕ) → CoreBecomes c id (changes_if c at o)
+  changes_if_become at None = runs
+  changes_if_become at (Some priority) = changes_to_become priority (named (caller c) at)
+
+  -- a thread that calls does not go on where none runs
+  left_becomes : (d : Core) (o : Option ℕ) → caller c ≡ o → caller d ≡ None
+      → CoreBecomes c id (record { state = d; after = after_leaving c o })
+  left_becomes d None is none = absurd (cc (is, runs))
+  left_becomes d (Some at) is none = none
+
+  -- the threads of a priority are rotated
+  rotates_become : (priority : ℕ) → CoreBecomes c id (rotates_to c priority)
+  rotates_become priority =
+      let registers = (answered c 0).cpu in
+      either (not (has_priority c priority (running_thread table))) _ _
+      (λ other.
+      running_rotates table c priority registers (grind (arith, nat_tests, other)) ∙ runs)
+      (λ own. either (may_switch c.kernel) _ _
+      (λ may. left_becomes _ (caller c) refl
+      (none_rotates_it c table priority registers (running_thread table)
+      (grind (arith, nat_tests, own))))
+      (λ may_not. runs))
+
+  -- those of the priority of the thread that calls
+  rotates_own_become : (o : Option ℕ) → CoreBecomes c id (rotates_own c o)
+  rotates_own_become None = runs
+  rotates_own_become (Some at) = rotates_become (priority_of table.live at)
+
+  -- by whether the word is a priority
+  rotates_by_become : (word : ℕ) (o : Option ℕ) → CoreBecomes c id (rotates_by c word o)
+  rotates_by_become word (Some priority) = rotates_become priority
+  rotates_by_become word None =
+      either (word == 0) _ _ (λ own. rotates_own_become (caller c)) (λ other. runs)
+
+  -- a wait ends, if there is one
+  releases_from_become : (at : ℕ) (o : Option Wait) → CoreBecomes c id (releases_from c at o)
+  releases_from_become at None = runs
+  releases_from_become at (Some wait) = running_wakes table at (code_word WAIT_RELEASED) ∙ runs
+
+  -- by the thread that is found
+  releases_it_become : (o : Option Thread) → CoreBecomes c id (releases_it c o)
+  releases_it_become None = runs
+  releases_it_become (Some t) = releases_from_become t.id (wait_in t.state)
+
+  -- the wait of a thread ends
+  release_becomes : (at : ℕ) → CoreBecomes c id (release_wait c at)
+  release_becomes at =
+      either (is_nobody_else c at) _ _ (λ refused. runs)
+      (λ other. releases_it_become (thread_of table.live at))
+
+  -- the thread that calls waits, unless there is a wakeup
+  sleeps_become : (r : Bool × ThreadTable) → RunsOn table r.1 → CoreBecomes c id (sleeps_by c r)
+  sleeps_become (true, t) on = on ∙ runs
+  sleeps_become (false, t) on = none_blocks table id runs placed Sleep c.cpu
+
+  -- it sleeps, where another may run
+  sleep_becomes : CoreBecomes c id (sleep_thread c)
+  sleep_becomes =
+      either (may_switch c.kernel) _ _
+      (λ may. sleeps_become (threads.takes_wakeup table) (running_takes_wakeup table))
+      (λ may_not. runs)
+
+  -- a thread is woken
+  wakeup_becomes : (at : ℕ) → CoreBecomes c id (wakeup_thread c at)
+  wakeup_becomes at =
+      either (is_nobody_else c at) _ _ (λ refused. runs)
+      (λ other. running_wakes_up table at ∙ runs)
+
+  -- wakeups are forgotten
+  cancels_become : (o : Option ℕ) → CoreBecomes c id (cancels_of c o)
+  cancels_become None = runs
+  cancels_become (Some at) =
+      result_becomes id _ (threads.cancels table at).0 _ _ (running_cancels table at ∙ runs)
+
+  -- a thread is suspended, unless it is the one that calls
+  suspend_becomes : (at : ℕ) → CoreBecomes c id (suspend_thread c at)
+  suspend_becomes at =
+      either (is_nobody_else c at) _ _ (λ refused. runs) (λ other.
+      let it : is_it (caller c) at ≡ false = grind (arith, nat_tests, other) in
+      either (is_it (caller c) at && not c.kernel.dispatching) _ _ (λ cannot. runs)
+      (λ can. running_suspends table placed at it c.cpu ∙ runs))
+
+  -- a thread is resumed
+  resume_becomes : (at : ℕ) → CoreBecomes c id (resume_thread c at)
+  resume_becomes at =
+      either (is_nobody_else c at) _ _ (λ refused. runs)
+      (λ other. running_resumes table at ∙ runs)
+
+  -- each service that looks at threads alone
+  pub serves_core_becomes : (x : Service) → CoreBecomes c id (serves_core c x)
+  unfolding serves_core
+  serves_core_becomes service.StartThread = start_becomes (argument c 0) (argument c 1)
+  serves_core_becomes service.ExitThread = exits_become (caller c) refl
+  serves_core_becomes service.TerminateThread = terminate_becomes (argument c 0)
+  serves_core_becomes service.DisableDispatchThread = set_becomes false
+  serves_core_becomes service.EnableDispatchThread = set_becomes true
+  serves_core_becomes service.ChangeThreadPriority =
+      changes_if_become (argument c 0) (priority_of_word (argument c 1))
+  serves_core_becomes service.RotateThreadReadyQueue =
+      rotates_by_become (argument c 0) (priority_of_word (argument c 0))
+  serves_core_becomes service.ReleaseWaitThread = release_becomes (argument c 0)
+  serves_core_becomes service.GetThreadId = runs
+  serves_core_becomes service.SleepThread = sleep_becomes
+  serves_core_becomes service.WakeupThread = wakeup_becomes (argument c 0)
+  serves_core_becomes service.CancelWakeupThread = cancels_become (named (caller c) (argument c 0))
+  serves_core_becomes service.SuspendThread = suspend_becomes (argument c 0)
+  serves_core_becomes service.ResumeThread = resume_becomes (argument c 0)
+  serves_core_becomes other = tt
+
+module _ (o : Owner) (id : ℕ) (runs : caller o.core ≡ Some id)
+    (placed : IsPlaced o.core.kernel.threads) where
+  -- a dormant thread is deleted, by what that answers
+  deletes_become : (r : Result ℕ Code × ThreadTable) → RunsOn o.core.kernel.threads r.1
+      → OwnerBecomes o id (deletes_by o r)
+  deletes_become (Ok stack, t) on = on ∙ runs
+  deletes_become (Err code, t) on = runs
+
+  -- the thread of an id is deleted
+  pub delete_becomes : (at : ℕ) → OwnerBecomes o id (delete_thread o at)
+  delete_becomes at =
+      cond_both (at == 0 || at == LOADER) _ _ (OwnerBecomes o id) (λ refused. runs)
+      (λ other. deletes_become (threads.deletes o.core.kernel.threads at)
+      (running_deletes o.core.kernel.threads at))
+
+  -- the thread that calls has ended, and is deleted
+  exits_deleted_become : (r : Result ℕ Code × ThreadTable)
+      → RunsOn (ended o.core).kernel.threads r.1 → OwnerBecomes o id (exits_deleted o r)
+  exits_deleted_become (Ok stack, t) on = on ∙ none_ends o.core.kernel.threads id runs placed
+  exits_deleted_become (Err code, t) on = none_ends o.core.kernel.threads id runs placed
+
+  -- by the thread that calls
+  pub exits_deleted_by_become : (who : Option ℕ) → caller o.core ≡ who
+      → OwnerBecomes o id (exits_deleted_by o who)
+  exits_deleted_by_become None is = tt
+  exits_deleted_by_become (Some at) is =
+      let left = (ended o.core).kernel.threads in
+      cond_both (at == LOADER) _ _ (OwnerBecomes o id)
+      (λ loader. (is_loader o.core id runs placed at is loader, refl))
+      (λ other. exits_deleted_become (threads.deletes left at) (running_deletes left at))

@@ -1,0 +1,91 @@
+-- What the services store in memory.
+use Rattle.std.proofs.Common.{◌≡◌, ℕ, ◌+◌, ◌*◌, ◌%◌, ◌==◌, ◌≤◌, nat_le, Bool, true, false, if◌then◌else◌, Option, Some, None, List, [], ◌∷◌, length, refl, sym, ◌∙◌, arith}
+use Rattle.std.proofs.lemmas.Bool.Decides.{nat_tests}
+use Rattle.std.proofs.lemmas.List.{length-append}
+use Rattle.iop_base.proofs.Lists.{length-bytes_of}
+use Rattle.iop_base.specs.Numbers.{bytes_of}
+use Rattle.iop_base.specs.Piece.{Piece}
+use Rattle.iop_base.specs.Places.{phys, range_at}
+use Rattle.iop_stubs.specs.Stubs.{Memory, after_store, range_place}
+use Rattle.iop_thread.specs.States.{wait_in}
+use Rattle.iop_thread.specs.declared.thread.Thread.{Thread}
+use Rattle.iop_thread.specs.declared.wait.Wait.{Wait}
+use Rattle.iop_kernel.specs.Laws.{Writes}
+use Rattle.iop_kernel.specs.Making.{bytes_of_words, status_bytes, status_words, wait_words}
+use Rattle.iop_kernel.specs.System.{System, storing_lines, words_place}
+
+-- nothing is stored
+pub nothing_stored : (s : System) (pieces : List Piece) → Writes s s.memory pieces
+nothing_stored s pieces = record {
+  place = None;
+  bytes = [];
+  inside = λ p e. absurd (cc e);
+  left = refl;
+  told = λ piece x. absurd (omega (arith, x.1));
+}
+
+-- bytes are stored at a place, if there is one
+pub bytes_stored : (s : System) (place : Option ℕ) (bytes : List ℕ)
+    → ((p : ℕ) → place ≡ Some p → p + length bytes ≤ length s.memory.ram)
+    → Writes s (after_store s.memory place bytes) (storing_lines s place bytes)
+bytes_stored s place bytes inside = record {
+  place = place;
+  bytes = bytes;
+  inside = inside;
+  left = refl;
+  told = λ piece x. x;
+}
+
+-- a place that passes the test
+in_range : (b : Bool) (p size len q : ℕ) → nat_le (p + len) size ≡ b
+    → (if b then Some p else None) ≡ Some q → q + len ≤ size
+in_range true p size len q fits e =
+    let is : p ≡ q = cc e in grind (arith, nat_tests, fits, is)
+in_range false p size len q fits e = absurd (cc e)
+
+-- by the place of its first byte
+range_by : (o : Option ℕ) (size at len q : ℕ) → phys size at ≡ o → range_at size at len ≡ Some q
+    → q + len ≤ size
+range_by None size at len q is e =
+    let none : range_at size at len ≡ None = rw is refl in absurd (cc (none, e))
+range_by (Some p) size at len q is e =
+    let there : range_at size at len ≡ (if nat_le (p + len) size then Some p else None) =
+    rw is refl in
+    in_range (nat_le (p + len) size) p size len q refl (sym there ∙ e)
+
+-- a range that has a place lies in memory
+pub range_inside : (memory : Memory) (at len q : ℕ) → range_place memory at len ≡ Some q
+    → q + len ≤ length memory.ram
+range_inside memory at len q e =
+    let size = length memory.ram in range_by (phys size at) size at len q refl e
+
+-- by whether the address is a multiple of 4
+words_by : (b : Bool) (memory : Memory) (at count q : ℕ)
+    → (if b then range_place memory at (4 * count) else None) ≡ Some q
+    → q + 4 * count ≤ length memory.ram
+words_by true memory at count q e = range_inside memory at (4 * count) q e
+words_by false memory at count q e = absurd (cc e)
+
+-- words that have a place lie in memory
+pub words_inside : (memory : Memory) (at count q : ℕ) → words_place memory at count ≡ Some q
+    → q + 4 * count ≤ length memory.ram
+words_inside memory at count q e = words_by (at % 4 == 0) memory at count q e
+
+-- a word is of four bytes
+length-bytes_of_words : (words : List ℕ) → length (bytes_of_words words) ≡ 4 * length words
+length-bytes_of_words [] = refl
+length-bytes_of_words (word ∷ words) =
+    length-append (bytes_of 4 word) (bytes_of_words words)
+    ∙ omega (arith, length-bytes_of 4 word, length-bytes_of_words words)
+
+-- a wait is told in two words
+length-wait_words : (o : Option Wait) → length (wait_words o) ≡ 2
+length-wait_words None = refl
+length-wait_words (Some wait) = refl
+
+-- the status of a thread is of twelve words
+pub length-status_bytes : (t : Thread) → length (status_bytes t) ≡ 48
+length-status_bytes t =
+    let words = length-append (wait_words (wait_in t.state)) (t.wakeups ∷ []) in
+    length-bytes_of_words (status_words t)
+    ∙ omega (arith, words, length-wait_words (wait_in t.state))

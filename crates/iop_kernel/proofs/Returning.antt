@@ -1,0 +1,73 @@
+-- Where a service returns the module of the loader's thread, another thread may run.
+use Rattle.std.proofs.Common.{◌≡◌, ℕ, true, false, Option, Some, None, arith}
+use Rattle.iop_libs.specs.Calls.{Sight, calls_row}
+use Rattle.iop_libs.specs.declared.answer.Answer.{Answer}
+use Rattle.iop_libs.specs.declared.answer.Answer.TheVariants.{Value, Unlisted, Fault as Faulted, Other}
+use Rattle.iop_services.specs.Table.{row_of}
+use Rattle.iop_services.specs.declared.service.Service.{Service}
+use Rattle.iop_services.specs.declared.service.Service.TheVariants as service
+use Rattle.iop_kernel.specs.Serving.{call_of, serves_core, serves, answers_by, calls_library, calls, services}
+use Rattle.iop_kernel.specs.System.{Core, System, may_switch}
+use Rattle.iop_kernel.specs.declared.after.After.TheVariants.{ModuleReturned}
+use Rattle.iop_kernel.specs.declared.call.Call.{Call}
+use Rattle.iop_kernel.specs.declared.call.Call.TheVariants.{Library, ThreadReturn, ModuleReturn}
+
+-- a service that looks at threads alone
+core_opens : (c : Core) (x : Service) (value : ℕ) → (serves_core c x).after ≡ ModuleReturned value
+    → may_switch (serves_core c x).state.kernel ≡ true
+unfolding serves_core
+core_opens c service.StartThread value e = grind (arith, e)
+core_opens c service.ExitThread value e = grind (arith, e)
+core_opens c service.TerminateThread value e = grind (arith, e)
+core_opens c service.DisableDispatchThread value e = grind (arith, e)
+core_opens c service.EnableDispatchThread value e = grind (arith, e)
+core_opens c service.ChangeThreadPriority value e = grind (arith, e)
+core_opens c service.RotateThreadReadyQueue value e = grind (arith, e)
+core_opens c service.ReleaseWaitThread value e = grind (arith, e)
+core_opens c service.GetThreadId value e = grind (arith, e)
+core_opens c service.SleepThread value e = grind (arith, e)
+core_opens c service.WakeupThread value e = grind (arith, e)
+core_opens c service.CancelWakeupThread value e = grind (arith, e)
+core_opens c service.SuspendThread value e = grind (arith, e)
+core_opens c service.ResumeThread value e = grind (arith, e)
+core_opens c other value e = absurd (cc e)
+
+-- a service that the libraries do not have
+serves_opens : (s : System) (x : Service) (value : ℕ)
+    → (serves s x).left.after ≡ ModuleReturned value
+    → may_switch (serves s x).left.state.core.kernel ≡ true
+unfolding serves
+serves_opens s service.CreateThread value e = grind (arith, e)
+serves_opens s service.ReferThreadStatus value e = grind (arith, e)
+serves_opens s service.DeleteThread value e = grind (arith, e)
+serves_opens s service.ExitDeleteThread value e = grind (arith, e)
+serves_opens s other value e = core_opens s.core other value e
+
+-- by the answer of the libraries
+answers_open : (library number : ℕ) (s : System) (answer : Answer) (value : ℕ)
+    → (answers_by library number s answer).left.after ≡ ModuleReturned value
+    → may_switch (answers_by library number s answer).left.state.core.kernel ≡ true
+answers_open library number s (Value word) value e = absurd (cc e)
+answers_open library number s Unlisted value e = absurd (cc e)
+answers_open library number s Faulted value e = absurd (cc e)
+answers_open library number s (Other x) value e = serves_opens s x value e
+
+-- whatever is called
+calls_open : (s : System) (o : Option Call) (value : ℕ)
+    → (calls s o).left.after ≡ ModuleReturned value
+    → may_switch (calls s o).left.state.core.kernel ≡ true
+unfolding calls_library
+calls_open s None value e = absurd (cc e)
+calls_open s (Some ThreadReturn) value e = grind (arith, e)
+calls_open s (Some ModuleReturn) value e = grind (arith, e)
+calls_open s (Some (Library library number)) value e =
+    let sight : Sight = record { memory = s.memory; cpu = s.core.cpu } in
+    let called = calls_row sight s.blocks s.libraries false (row_of library number) in
+    answers_open library number (record s { blocks = called.blocks; libraries = called.libraries })
+    called.answer value e
+
+-- where a service returns a module, another thread may run
+pub returning_opens : (s : System) (code value : ℕ)
+    → (services s code).left.after ≡ ModuleReturned value
+    → may_switch (services s code).left.state.core.kernel ≡ true
+returning_opens s code value e = calls_open s (call_of code) value e

@@ -1,0 +1,28 @@
+-- The status of a thread that is named, and its bytes.
+use Rattle.std.proofs.Common.{◌≡◌, ℕ, Some, List, refl, ap, ◌∙◌}
+use Rattle.iop_base.specs.declared.code.TheConstants.Code.{OK}
+use Rattle.iop_thread.specs.ThreadTable.{thread_of}
+use Rattle.iop_thread.specs.declared.thread.Thread.{Thread}
+use Rattle.iop_kernel.specs.System.{System, Served, caller, answers, on_core, words_place, stores, storing_lines}
+use Rattle.iop_kernel.specs.Threads.{named}
+use Rattle.iop_kernel.specs.Making.{status_words, bytes_of_words, refers_it, refers_to, refers_at, refer_thread_status}
+
+-- bytes are written at a place, and the call is answered
+abbrev pub writes_bytes : System → (place : ℕ) → (bytes : List ℕ) → Served
+writes_bytes s place bytes = record {
+  left = on_core (stores s (Some place) bytes) (answers s.core OK);
+  pieces = storing_lines s (Some place) bytes;
+}
+
+module _ (s : System) (place : ℕ) (t : Thread) where
+  -- the status is written as these bytes
+  pub refers_by_bytes : (words bytes : List ℕ) → words ≡ status_words t
+      → bytes ≡ bytes_of_words words → refers_it s place (Some t) ≡ writes_bytes s place bytes
+  refers_by_bytes words bytes told is = rw (is, told) refl
+
+  -- it is that of the thread which the id names
+  pub refers_named : (id at one : ℕ) → Some place ≡ words_place s.memory at 12
+      → Some one ≡ named (caller s.core) id → Some t ≡ thread_of s.core.kernel.threads.live one
+      → refers_it s place (Some t) ≡ refer_thread_status s id at
+  refers_named id at one stands names lives =
+      ap (refers_it s place) lives ∙ ap (refers_to s place) names ∙ ap (refers_at s id) stands

@@ -1,0 +1,31 @@
+-- Dispatch (ps2sdk: thbase). That the running thread gives way to one of a strictly smaller priority
+-- number alone, and is then the first of the ready ones, is this project's own profile.
+use Rattle.std.specs.Prelude.{if◌then◌else◌, Option, Some, None, option_map, List, [], ◌∷◌}
+use Rattle.iop_base.specs.Piece.{Piece, Traced}
+use Rattle.iop_base.specs.Text.{line_bytes}
+use Rattle.iop_base.specs.declared.line.Line.TheVariants.{Run}
+use Rattle.iop_thread.specs.Operations as threads
+use Rattle.iop_kernel.specs.System.{Kernel, Core, may_switch}
+
+-- what a dispatch leaves, and its line
+pub record Dispatched : Type 0 where
+  pub core : Core
+  pub line : Piece
+
+abbrev pub dispatched : Kernel → threads.Dispatch → Dispatched
+dispatched k d = record {
+  core = record { kernel = record k { threads = d.threads }; cpu = d.registers };
+  line = Traced (line_bytes k.clock (Run d.id));
+}
+
+-- the line of a dispatch, if it was made
+abbrev pub dispatch_pieces : Option Dispatched → List Piece
+dispatch_pieces None = []
+dispatch_pieces (Some d) = d.line ∷ []
+
+-- the best ready thread runs, where interrupts are on and dispatch is enabled, and no thread runs or a
+-- worse one
+unfoldable pub dispatches : Core → Option Dispatched
+dispatches c =
+    if may_switch c.kernel
+    then option_map (dispatched c.kernel) (threads.dispatches c.kernel.threads c.cpu) else None

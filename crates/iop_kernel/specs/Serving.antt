@@ -1,0 +1,86 @@
+-- What a `syscall` asks of the kernel. The codes are this project's own profile.
+use Rattle.std.specs.Prelude.{ℕ, ◌/◌, ◌%◌, ◌==◌, nat_lt, ◌&&◌, true, false, if◌then◌else◌, Option, Some, None, [], ◌∷◌, length}
+use Rattle.iop_base.specs.Piece.{Traced}
+use Rattle.iop_base.specs.Text.{line_bytes}
+use Rattle.iop_base.specs.declared.libraries.TheConstants.{KERNEL_LIBRARIES}
+use Rattle.iop_base.specs.declared.guest_fault.GuestFault.TheVariants as faults_of
+use Rattle.iop_base.specs.declared.line.Line.TheVariants as lines
+use Rattle.iop_libs.specs.Calls.{Sight, calls_row, row_pieces}
+use Rattle.iop_libs.specs.declared.answer.Answer.{Answer}
+use Rattle.iop_libs.specs.declared.answer.Answer.TheVariants.{Value, Unlisted, Fault, Other}
+use Rattle.iop_services.specs.declared.service.Service.{Service}
+use Rattle.iop_services.specs.declared.service.Service.TheVariants as service
+use Rattle.iop_services.specs.Table.{row_of}
+use Rattle.iop_kernel.specs.declared.call.Call.{Call}
+use Rattle.iop_kernel.specs.declared.call.Call.TheVariants.{Library, ThreadReturn, ModuleReturn}
+use Rattle.iop_kernel.specs.declared.call.TheConstants.{THREAD_RETURN_CALL, MODULE_RETURN_CALL, SERVICES}
+use Rattle.iop_kernel.specs.System.{Core, Left, System, Served, argument, resumes, faults, silent, after_pieces, on_core}
+use Rattle.iop_kernel.specs.Threads.{start_thread, exit_thread, return_module, terminate_thread, set_dispatch, change_priority, rotate_ready_queue, release_wait, get_thread_id, sleep_thread, wakeup_thread, cancel_wakeups, suspend_thread, resume_thread}
+use Rattle.iop_kernel.specs.Making.{create_thread, refer_thread_status, delete_thread, exit_delete_thread, owner_of, on_owner}
+
+-- what a code calls, if it has a meaning: service n of library L has the code L * 256 + n
+abbrev pub call_of : ℕ → Option Call
+call_of code =
+    if code == THREAD_RETURN_CALL then Some ThreadReturn
+    else if code == MODULE_RETURN_CALL then Some ModuleReturn
+    else if nat_lt (code / 256) (length KERNEL_LIBRARIES) && nat_lt (code % 256) SERVICES
+    then Some (Library (code / 256) (code % 256))
+    else None
+
+-- a service that looks at threads alone; one that is not built faults
+unfoldable pub serves_core : Core → Service → Left Core
+serves_core c service.StartThread = start_thread c (argument c 0) (argument c 1)
+serves_core c service.ExitThread = exit_thread c
+serves_core c service.TerminateThread = terminate_thread c (argument c 0)
+serves_core c service.DisableDispatchThread = set_dispatch c false
+serves_core c service.EnableDispatchThread = set_dispatch c true
+serves_core c service.ChangeThreadPriority = change_priority c (argument c 0) (argument c 1)
+serves_core c service.RotateThreadReadyQueue = rotate_ready_queue c (argument c 0)
+serves_core c service.ReleaseWaitThread = release_wait c (argument c 0)
+serves_core c service.GetThreadId = get_thread_id c
+serves_core c service.SleepThread = sleep_thread c
+serves_core c service.WakeupThread = wakeup_thread c (argument c 0)
+serves_core c service.CancelWakeupThread = cancel_wakeups c (argument c 0)
+serves_core c service.SuspendThread = suspend_thread c (argument c 0)
+serves_core c service.ResumeThread = resume_thread c (argument c 0)
+serves_core c other = faults c faults_of.Service
+
+-- a service of a library that iop_libs does not have
+unfoldable pub serves : System → Service → Served
+serves s service.CreateThread = create_thread s (argument s.core 0)
+serves s service.ReferThreadStatus =
+    refer_thread_status s (argument s.core 0) (argument s.core 1)
+serves s service.DeleteThread =
+    silent (on_owner s (delete_thread (owner_of s) (argument s.core 0)))
+serves s service.ExitDeleteThread = silent (on_owner s (exit_delete_thread (owner_of s)))
+serves s other = silent (on_core s (serves_core s.core other))
+
+-- by the answer of the libraries; a number that is not listed answers -1 and is told
+module _ (library number : ℕ) where
+  abbrev pub answers_by : System → Answer → Served
+  answers_by s (Value word) = silent (on_core s (resumes s.core word))
+  answers_by s Unlisted =
+      after_pieces (Traced (line_bytes s.core.kernel.clock (lines.Unlisted library number)) ∷ [])
+      (silent (on_core s (resumes s.core 0xFFFFFFFF)))
+  answers_by s Fault = silent (faults s faults_of.Address)
+  answers_by s (Other service) = serves s service
+
+  -- a call of service `number` of a library
+  unfoldable pub calls_library : System → Served
+  calls_library s =
+      let sight : Sight = record { memory = s.memory; cpu = s.core.cpu } in
+      let called = calls_row sight s.blocks s.libraries false (row_of library number) in
+      after_pieces (row_pieces sight false (row_of library number))
+      (answers_by (record s { blocks = called.blocks; libraries = called.libraries })
+      called.answer)
+
+-- by what is called; the thread's return is its end
+abbrev pub calls : System → Option Call → Served
+calls s None = silent (faults s faults_of.Service)
+calls s (Some ThreadReturn) = silent (on_core s (exit_thread s.core))
+calls s (Some ModuleReturn) = silent (on_core s (return_module s.core))
+calls s (Some (Library library number)) = calls_library library number s
+
+-- what a `syscall` of a code leaves and gives, with the processor behind it
+abbrev pub services : System → (code : ℕ) → Served
+services s code = calls s (call_of code)

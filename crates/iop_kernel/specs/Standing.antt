@@ -1,0 +1,60 @@
+-- How the program's kernel stands for the kernel.
+use Rattle.std.specs.Prelude.{◌≡◌, Bool, true, false, Option, Some, None, List}
+use Rattle.iop_exec.specs.declared.cpu.Cpu.{Cpu}
+use Rattle.iop_ready.specs.declared.entry.Entry.{Entry}
+use Rattle.iop_registry.specs.declared.registry.Entry.{Entry as Library}
+use Rattle.iop_stubs.specs.Stubs.{Memory}
+use Rattle.iop_sysmem.specs.BlockMap.{BlockMap}
+use Rattle.iop_thread.specs.Standing as threads
+use Rattle.iop_kernel.specs.Dispatching.{Dispatched}
+use Rattle.iop_kernel.specs.Making.{Owner}
+use Rattle.iop_kernel.specs.System.{Kernel, Core, System, Left}
+use Rattle.iop_kernel.specs.declared.after.After.{After}
+use Rattle.iop_kernel.specs.declared.kernel.Kernel.{Kernel as Program}
+
+module _ {R : Type 0} (stands_for : R → List Entry → Type 0) where
+  pub record Stands (k : Program R) (s : Kernel) : Type 0 where
+    pub clock : s.clock ≡ k.clock
+    pub interrupts : s.interrupts ≡ k.interrupts
+    pub dispatching : s.dispatching ≡ k.dispatching
+    pub threads : threads.Stands stands_for k.threads s.threads
+
+  -- it stands for some kernel
+  abbrev pub IsSound : Program R → Type 0
+  IsSound k = (s : Kernel) × Stands k s
+
+  -- the kernel and its processor after a call which answered what becomes of its caller
+  pub record TakesCore (left : Left Core) (after : After) (k : Program R) (cpu : Cpu) : Type 0 where
+    pub answer : after ≡ left.after
+    pub kernel : Stands k left.state.kernel
+    pub processor : cpu ≡ left.state.cpu
+
+  -- the same, and the blocks
+  pub record TakesOwner (left : Left Owner) (after : After) (k : Program R) (cpu : Cpu)
+      (blocks : BlockMap) : Type 0 where
+    pub core : TakesCore (record { state = left.state.core; after = left.after }) after k cpu
+    pub map : blocks ≡ left.state.blocks
+
+  -- the same, and all the rest
+  pub record Takes (left : Left System) (after : After) (k : Program R) (cpu : Cpu)
+      (memory : Memory) (blocks : BlockMap) (libraries : List Library) : Type 0 where
+    pub core : TakesCore (record { state = left.state.core; after = left.after }) after k cpu
+    pub ram : memory ≡ left.state.memory
+    pub map : blocks ≡ left.state.blocks
+    pub registry : libraries ≡ left.state.libraries
+
+  -- whether a dispatch was made, and what it left
+  abbrev pub Dispatches : Core → Option Dispatched → Bool → Program R → Cpu → Type 0
+  Dispatches c None result k cpu = (result ≡ false) × Stands k c.kernel × (cpu ≡ c.cpu)
+  Dispatches c (Some d) result k cpu =
+      (result ≡ true) × Stands k d.core.kernel × (cpu ≡ d.core.cpu)
+
+abbrev pub core : Kernel → Cpu → Core
+core kernel cpu = record { kernel = kernel; cpu = cpu }
+
+abbrev pub owner : Kernel → Cpu → BlockMap → Owner
+owner kernel cpu blocks = record { core = core kernel cpu; blocks = blocks }
+
+abbrev pub system : Kernel → Cpu → Memory → BlockMap → List Library → System
+system kernel cpu memory blocks libraries =
+    record { core = core kernel cpu; memory = memory; blocks = blocks; libraries = libraries }

@@ -1,0 +1,129 @@
+-- The state of the kernel, and what its services look at and change. What the kernel has is this
+-- project's own profile.
+use Rattle.std.specs.Prelude.{ℕ, ◌+◌, ◌*◌, ◌%◌, ◌==◌, Bool, true, ◌&&◌, if◌then◌else◌, Option, None, Result, Ok, Err, List, [], ◌++◌, length}
+use Rattle.std.specs.Int.{cast_unsigned, w32}
+use Rattle.iop_base.specs.Piece.{Piece}
+use Rattle.iop_base.specs.declared.code.Code.{Code}
+use Rattle.iop_base.specs.declared.guest_fault.GuestFault.{GuestFault}
+use Rattle.iop_exec.specs.declared.cpu.Cpu.{Cpu}
+use Rattle.iop_exec.specs.Row.{reg, with_reg}
+use Rattle.iop_registry.specs.declared.registry.Entry.{Entry}
+use Rattle.iop_stubs.specs.Stubs.{Memory, after_store, range_place, store_lines}
+use Rattle.iop_sysmem.specs.BlockMap.{BlockMap}
+use Rattle.iop_thread.specs.Operations.{opening}
+use Rattle.iop_thread.specs.ThreadTable.{ThreadTable}
+use Rattle.iop_kernel.specs.declared.after.After.{After}
+use Rattle.iop_kernel.specs.declared.after.After.TheVariants.{Resume, Switch, Fault}
+
+pub record Kernel : Type 0 where
+  -- the moment, in ticks
+  pub clock : ℕ
+  -- whether interrupts are on
+  pub interrupts : Bool
+  -- whether dispatch is enabled
+  pub dispatching : Bool
+  pub threads : ThreadTable
+
+-- the kernel at first: the loader's thread alone, dormant
+abbrev pub beginning : Kernel
+beginning = record { clock = 0; interrupts = true; dispatching = true; threads = opening }
+
+-- whether another thread may run, so that the one that runs may wait
+abbrev pub may_switch : Kernel → Bool
+may_switch k = k.interrupts && k.dispatching
+
+-- the kernel with its processor
+pub record Core : Type 0 where
+  pub kernel : Kernel
+  pub cpu : Cpu
+
+abbrev pub with_threads : Core → ThreadTable → Core
+with_threads c threads = record c { kernel = record c.kernel { threads = threads } }
+
+-- interrupts are on and dispatch is enabled
+abbrev pub opened : Core → Core
+opened c = record c { kernel = record c.kernel { interrupts = true; dispatching = true } }
+
+-- a word stands in `$v0`
+abbrev pub answered : Core → ℕ → Core
+answered c word = record c { cpu = with_reg c.cpu 2 word }
+
+-- the thread that calls
+abbrev pub caller : Core → Option ℕ
+caller c = c.kernel.threads.running
+
+-- the registers of the thread that runs
+abbrev pub running_registers : Core → Cpu
+running_registers c = c.cpu
+
+-- all that a service looks at and changes
+pub record System : Type 0 where
+  pub core : Core
+  pub memory : Memory
+  -- the blocks of memory
+  pub blocks : BlockMap
+  -- the registered libraries
+  pub libraries : List Entry
+
+-- the first arguments of a call, from 0 on
+abbrev pub argument : Core → ℕ → ℕ
+argument c k = reg c.cpu (4 + k)
+
+abbrev pub code_word : Code → ℕ
+code_word code = cast_unsigned w32 code.0
+
+-- what a call leaves, and what becomes of its caller
+pub record Left (S : Type 0) : Type 0 where
+  pub state : S
+  pub after : After
+
+-- the caller goes on, with a word answered
+abbrev pub resumes : Core → ℕ → Left Core
+resumes c word = record { state = answered c word; after = Resume }
+
+-- the same, with a code answered
+abbrev pub answers : Core → Code → Left Core
+answers c code = resumes c (code_word code)
+
+-- the same, with a word or a code answered
+abbrev pub answers_result : Core → Result ℕ Code → Left Core
+answers_result c (Ok word) = resumes c word
+answers_result c (Err code) = answers c code
+
+-- the caller does not go on
+abbrev pub switches : Core → Left Core
+switches c = record { state = c; after = Switch }
+
+-- the `syscall` faults
+abbrev pub faults : {S : Type 0} → S → GuestFault → Left S
+faults s kind = record { state = s; after = Fault kind }
+
+-- what a call leaves and gives, and what becomes of its caller
+pub record Served : Type 0 where
+  pub left : Left System
+  pub pieces : List Piece
+
+-- nothing is given
+abbrev pub silent : Left System → Served
+silent left = record { left = left; pieces = [] }
+
+-- these pieces are given first
+abbrev pub after_pieces : List Piece → Served → Served
+after_pieces pieces d = record d { pieces = pieces ++ d.pieces }
+
+-- a call that leaves all but the kernel and its processor as it was
+abbrev pub on_core : System → Left Core → Left System
+on_core s left = record { state = record s { core = left.state }; after = left.after }
+
+-- the physical place of so many words: a multiple of 4, wholly in RAM
+abbrev pub words_place : Memory → (at count : ℕ) → Option ℕ
+words_place memory at count =
+    if at % 4 == 0 then range_place memory at (4 * count) else None
+
+-- bytes are stored at a physical place
+abbrev pub stores : System → Option ℕ → List ℕ → System
+stores s place bytes = record s { memory = after_store s.memory place bytes }
+
+-- and its lines: a live stub of which a byte is stored into is told
+abbrev pub storing_lines : System → Option ℕ → List ℕ → List Piece
+storing_lines s place bytes = store_lines s.core.kernel.clock s.memory place (length bytes)

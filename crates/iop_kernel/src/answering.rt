@@ -1,0 +1,26 @@
+//! What a call answers in `$v0`, after which its caller goes on.
+
+ghost use Rattle.std.specs.Prelude.{◌≡◌};
+ghost use Rattle.iop_exec.specs.Row.{with_reg};
+ghost use Rattle.iop_kernel.specs.System.{code_word};
+
+use crate::after::After;
+use iop_base::Code;
+use iop_exec::Cpu;
+
+/// Answers a word.
+pub(crate) fn answer_word(cpu: &mut Cpu, word: u32) -> After
+    ensures after { result ≡ After.Resume }
+    ensures processor { cpu.new ≡ with_reg cpu.old 2 word }
+{
+    cpu.regs[2] = word;
+    After::Resume
+}
+
+/// Answers a code, as two's complement.
+pub(crate) fn answer(cpu: &mut Cpu, code: Code) -> After
+    ensures after { result ≡ After.Resume }
+    ensures processor { cpu.new ≡ with_reg cpu.old 2 (code_word code) }
+{
+    answer_word(cpu, code.0.cast_unsigned())
+}

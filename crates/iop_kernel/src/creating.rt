@@ -1,0 +1,211 @@
+//! The making of a thread.
+
+ghost use Rattle.std.specs.Prelude.{◌≡◌, ℕ, ◌+◌, ◌*◌, ◌%◌, ◌≤◌, Ok, List, length};
+ghost use Rattle.iop_base.specs.Numbers.{number_at};
+ghost use Rattle.iop_base.specs.Output.{Gives};
+ghost use Rattle.iop_base.specs.Places.{IsRamSize};
+ghost use Rattle.iop_registry.specs.declared.registry.Entry.{Entry};
+ghost use Rattle.iop_sysmem.specs.Allocating.{allocating};
+ghost use Rattle.iop_sysmem.specs.BlockMap.{BlockMap};
+ghost use Rattle.iop_kernel.specs.System.{Kernel as State};
+ghost use Rattle.iop_kernel.specs.Making.{param_of, create_thread};
+ghost use Rattle.iop_kernel.specs.Making.{creates_on, creates_at, creates_with};
+ghost use Rattle.iop_kernel.specs.Standing.{Stands, IsSound, Takes, system};
+ghost use Rattle.iop_kernel.specs.declared.creating.TheConstants.{PARAM_WORDS};
+
+use crate::after::After;
+use crate::answering::{answer, answer_word};
+use crate::kernel::Kernel;
+use crate::places::words_place;
+use iop_base::{Code, GuestFault, Lines, block_len};
+use iop_exec::Cpu;
+use iop_ready::{Priority, Ready};
+use iop_stubs::Guest;
+use iop_sysmem::Blocks;
+use iop_thread::Param;
+use irx_tables::word;
+
+/// The attributes that a thread may have (ps2sdk: thbase.h, `TH_ASM` and `TH_C`).
+pub(crate) const ATTRIBUTES: u32 = 0x0300_0000;
+
+/// The fewest bytes that the stack of a thread may have.
+pub(crate) const LEAST_STACK: u32 = 256;
+
+/// How many words ask for a thread.
+const PARAM_WORDS: u32 = 5;
+
+/// The mode that takes the greatest free place for a block.
+const FROM_ABOVE: u32 = 1;
+
+/// Says what the words of CreateThread ask for, or why no thread is made.
+fn param(attr: u32, option: u32, entry: u32, size: u32, priority: u32) -> Result<Param, Code>
+    ensures { result ≡ param_of attr option entry size priority }
+{
+    if attr & ATTRIBUTES != attr {
+        return Err(Code::ILLEGAL_ATTRIBUTE);
+    }
+    if entry % 4 != 0 {
+        return Err(Code::ILLEGAL_ENTRY);
+    }
+    let Some(priority) = Priority::of(priority) else {
+        return Err(Code::ILLEGAL_PRIORITY);
+    };
+    if size < LEAST_STACK {
+        return Err(Code::ILLEGAL_STACK_SIZE);
+    }
+    Ok(Param {
+        attr,
+        option,
+        entry,
+        stack_size: size,
+        priority,
+    })
+}
+
+/// Reads the five words at a place, and says what they ask for.
+#[tactic(auto, unfolding(iop_base::specs::Numbers::word_at))]
+fn param_at(guest: &Guest, place: u32) -> Result<Param, Code>
+    requires aligned { place % 4 ≡ 0 }
+    requires inside { place + 4 * PARAM_WORDS ≤ length guest.now.ram }
+    ensures { let word : ℕ → ℕ = λ k. number_at guest.now.ram (place + 4 * k) 4 in
+        result ≡ param_of (word 0) (word 1) (word 2) (word 3) (word 4) }
+{
+    let ram = guest.ram();
+    param(
+        word(ram, place),
+        word(ram, place + 4),
+        word(ram, place + 8),
+        word(ram, place + 12),
+        word(ram, place + 16),
+    )
+}
+
+impl<R: Ready> Kernel<R> {
+    /// Fills the block of a stack with bytes 0xFF, makes a thread that has it, and answers its id.
+    fn create_on<L: Lines>(
+        &mut self,
+        param: Param,
+        stack: u32,
+        cpu: &mut Cpu,
+        guest: &mut Guest,
+        lines: &mut L,
+    ) -> After
+        requires sound { IsSound R.stands self.old }
+        ensures state { (k : State) (blocks : BlockMap) (libraries : List Entry)
+            → Stands R.stands self.old k
+            → let s = system k cpu.old guest.old blocks libraries in
+            Takes R.stands (creates_on s param stack blocks).left result self.new cpu.new guest.new
+            blocks libraries }
+        ensures lines { (k : State) (blocks : BlockMap) (libraries : List Entry)
+            → Stands R.stands self.old k
+            → let s = system k cpu.old guest.old blocks libraries in
+            Gives (L.output lines.old) (L.output lines.new)
+            (creates_on s param stack blocks).pieces }
+    {
+        // The block lies in RAM.
+        let _ = guest.fill(stack, param.stack_size, 0xFF, self.clock, lines);
+        match self.threads.create(param, stack, cpu.regs[28]) {
+            Ok(id) => answer_word(cpu, id),
+            Err(code) => answer(cpu, code),
+        }
+    }
+
+    /// Takes a block for the stack of a thread, the last one of its size that is free, and makes
+    /// the thread, for which there is room. `NO_MEMORY` where there is no such block.
+    #[tactic(auto, using(iop_base::proofs::Giving::gives_none))]
+    fn create_at<L: Lines>(
+        &mut self,
+        param: Param,
+        cpu: &mut Cpu,
+        guest: &mut Guest,
+        blocks: &mut Blocks,
+        lines: &mut L,
+    ) -> After
+        requires sound { IsSound R.stands self.old }
+        requires same_size { blocks.old.size ≡ length guest.old.ram }
+        requires sized { IsRamSize (length guest.old.ram) }
+        ensures state { (k : State) (libraries : List Entry) → Stands R.stands self.old k
+            → let s = system k cpu.old guest.old blocks.old libraries in
+            let taken = allocating blocks.old 1 param.stack_size 0 in
+            Takes R.stands (creates_at s param taken).left result self.new cpu.new guest.new
+            blocks.new libraries }
+        ensures lines { (k : State) (libraries : List Entry) → Stands R.stands self.old k
+            → let s = system k cpu.old guest.old blocks.old libraries in
+            let taken = allocating blocks.old 1 param.stack_size 0 in
+            Gives (L.output lines.old) (L.output lines.new) (creates_at s param taken).pieces }
+    {
+        let stack = blocks.alloc(FROM_ABOVE, param.stack_size, 0);
+        if stack == 0 {
+            return answer(cpu, Code::NO_MEMORY);
+        }
+        let stack_size = block_len(param.stack_size);
+        self.create_on(
+            Param {
+                stack_size,
+                ..param
+            },
+            stack,
+            cpu,
+            guest,
+            lines,
+        )
+    }
+
+    /// Makes a thread as its words ask for it. `NO_MEMORY` where there is no room for it, or no
+    /// block for its stack.
+    #[tactic(auto, using(iop_base::proofs::Giving::gives_none))]
+    fn create_with<L: Lines>(
+        &mut self,
+        param: Param,
+        cpu: &mut Cpu,
+        guest: &mut Guest,
+        blocks: &mut Blocks,
+        lines: &mut L,
+    ) -> After
+        requires sound { IsSound R.stands self.old }
+        requires same_size { blocks.old.size ≡ length guest.old.ram }
+        requires sized { IsRamSize (length guest.old.ram) }
+        ensures state { (k : State) (libraries : List Entry) → Stands R.stands self.old k
+            → let s = system k cpu.old guest.old blocks.old libraries in
+            Takes R.stands (creates_with s (Ok param)).left result self.new cpu.new guest.new
+            blocks.new libraries }
+        ensures lines { (k : State) (libraries : List Entry) → Stands R.stands self.old k
+            → let s = system k cpu.old guest.old blocks.old libraries in
+            Gives (L.output lines.old) (L.output lines.new) (creates_with s (Ok param)).pieces }
+    {
+        if !self.threads.has_room() {
+            return answer(cpu, Code::NO_MEMORY);
+        }
+        self.create_at(param, cpu, guest, blocks, lines)
+    }
+
+    /// Makes a thread of the five words at `at`: attributes, option, entry, stack size, priority.
+    /// It answers its id, or why none is made; the words are looked at first.
+    #[tactic(auto, using(iop_base::proofs::Giving::gives_none))]
+    pub(crate) fn create_thread<L: Lines>(
+        &mut self,
+        at: u32,
+        cpu: &mut Cpu,
+        guest: &mut Guest,
+        blocks: &mut Blocks,
+        lines: &mut L,
+    ) -> After
+        requires sound { IsSound R.stands self.old }
+        requires same_size { blocks.old.size ≡ length guest.old.ram }
+        ensures state { (k : State) (libraries : List Entry) → Stands R.stands self.old k
+            → let s = system k cpu.old guest.old blocks.old libraries in
+            Takes R.stands (create_thread s at).left result self.new cpu.new guest.new blocks.new
+            libraries }
+        ensures lines { (k : State) (libraries : List Entry) → Stands R.stands self.old k
+            → let s = system k cpu.old guest.old blocks.old libraries in
+            Gives (L.output lines.old) (L.output lines.new) (create_thread s at).pieces }
+    {
+        let Some(place) = words_place(guest, at, PARAM_WORDS) else {
+            return After::Fault(GuestFault::Address);
+        };
+        match param_at(guest, place) {
+            Ok(param) => self.create_with(param, cpu, guest, blocks, lines),
+            Err(code) => answer(cpu, code),
+        }
+    }
+}

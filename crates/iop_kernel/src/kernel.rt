@@ -1,0 +1,116 @@
+ghost use Rattle.std.specs.Prelude.{◌≡◌, ◌≤◌, [], IfOk, is_some};
+ghost use Rattle.iop_base.specs.Output.{Gives};
+ghost use Rattle.iop_thread.specs.Operations.{begins, ends_running};
+ghost use Rattle.iop_thread.specs.Standing.{Lends};
+ghost use Rattle.iop_kernel.specs.System.{Kernel as State, beginning};
+ghost use Rattle.iop_kernel.specs.Dispatching.{dispatches, dispatch_pieces};
+ghost use Rattle.iop_kernel.specs.Standing.{Stands, IsSound, Dispatches, core};
+
+use iop_base::{Line, Lines};
+use iop_exec::Cpu;
+use iop_ready::Ready;
+use iop_thread::Threads;
+use std::alloc::{AllocError, Global};
+
+/// The kernel: the moment, whether interrupts are on, whether dispatch is enabled, and the threads.
+#[derive(Drop)]
+pub struct Kernel<R> {
+    pub(crate) clock: u64,
+    pub(crate) interrupts: bool,
+    pub(crate) dispatching: bool,
+    pub(crate) threads: Threads<R>,
+}
+
+impl<R: Ready> Kernel<R> {
+    /// Makes a kernel at moment 0 with the loader's thread alone, which is dormant, beside a list
+    /// of ready threads in which none is. Interrupts are on, dispatch is enabled. It takes all the
+    /// memory that it will need; `AllocError` where the host has less.
+    pub fn new(alloc: Global, ready: R) -> Result<Self, AllocError>
+    where
+        R: Drop,
+        requires none { R.stands ready [] }
+        ensures { IfOk result (λ kernel. Stands R.stands kernel beginning) }
+    {
+        Ok(Kernel {
+            clock: 0,
+            interrupts: true,
+            dispatching: true,
+            threads: Threads::new(alloc, ready)?,
+        })
+    }
+
+    /// Tells the moment, in ticks.
+    pub fn now(&self) -> u64
+        ensures clock { result ≡ self.now.clock }
+        ensures moment { (k : State) → Stands R.stands self.now k → result ≡ k.clock }
+    {
+        self.clock
+    }
+
+    /// Goes on to a moment, not before that of now.
+    pub fn advance(&mut self, moment: u64)
+        requires later { self.old.clock ≤ moment }
+        ensures { (k : State) → Stands R.stands self.old k
+            → Stands R.stands self.new (record k { clock = moment }) }
+    {
+        self.clock = moment;
+    }
+
+    /// Lends the list of the ready threads, each by its slot and with its priority.
+    pub fn ready(&self) -> &R
+        ensures { (k : State) → Stands R.stands self.now k
+            → Lends R.stands result.now k.threads }
+    {
+        self.threads.ready()
+    }
+
+    /// Says whether a thread runs.
+    pub fn active(&self) -> bool
+        ensures { (k : State) → Stands R.stands self.now k → result ≡ is_some k.threads.running }
+    {
+        self.threads.running().is_some()
+    }
+
+    /// Makes the loader's thread, if it is dormant, ready with these registers.
+    pub fn begin(&mut self, registers: &Cpu)
+        requires sound { IsSound R.stands self.old }
+        ensures { (k : State) → Stands R.stands self.old k
+            → Stands R.stands self.new (record k { threads = begins k.threads registers.now }) }
+    {
+        self.threads.begin(registers);
+    }
+
+    /// Ends the thread that runs: it is dormant, and none runs.
+    pub fn end_running(&mut self)
+        requires sound { IsSound R.stands self.old }
+        ensures { (k : State) → Stands R.stands self.old k
+            → Stands R.stands self.new (record k { threads = ends_running k.threads }) }
+    {
+        self.threads.end_running();
+    }
+
+    /// Lets the best ready thread run, with its registers in `cpu`, where interrupts are on and
+    /// dispatch is enabled, and no thread runs or one of a worse priority, which is then the first
+    /// of the ready ones. Answers whether it did.
+    #[tactic(auto, using(iop_base::proofs::Giving::gives_none), unfolding(crate::specs::Dispatching::dispatches))]
+    pub fn dispatch<L: Lines>(&mut self, cpu: &mut Cpu, lines: &mut L) -> bool
+        requires sound { IsSound R.stands self.old }
+        ensures state { (k : State) → Stands R.stands self.old k
+            → let c = core k cpu.old in
+            Dispatches R.stands c (dispatches c) result self.new cpu.new }
+        ensures lines { (k : State) → Stands R.stands self.old k
+            → Gives (L.output lines.old) (L.output lines.new)
+            (dispatch_pieces (dispatches (core k cpu.old))) }
+    {
+        if !(self.interrupts && self.dispatching) {
+            return false;
+        }
+        match self.threads.dispatch(cpu) {
+            Some(id) => {
+                lines.line(self.clock, Line::Run(id));
+                true
+            }
+            None => false,
+        }
+    }
+}

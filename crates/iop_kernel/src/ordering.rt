@@ -1,0 +1,117 @@
+//! The priorities of threads, and the order of those that have the same one.
+
+ghost use Rattle.std.specs.Prelude.{◌≡◌, option_map};
+ghost use Rattle.iop_thread.specs.ThreadTable.{running_thread};
+ghost use Rattle.iop_thread.specs.Operations.{changes};
+ghost use Rattle.iop_kernel.specs.System.{Kernel as State, may_switch};
+ghost use Rattle.iop_kernel.specs.Standing.{Stands, IsSound, TakesCore, core};
+ghost use Rattle.iop_kernel.specs.Threads.{changes_by, changes_to, change_priority, rotates_to, rotates_own, rotate_ready_queue};
+
+use crate::after::After;
+use crate::answering::{answer, answer_word};
+use crate::kernel::Kernel;
+use iop_base::Code;
+use iop_exec::Cpu;
+use iop_ready::{Priority, Ready};
+
+impl<R: Ready> Kernel<R> {
+    /// Gives a thread a priority, and answers a code.
+    fn change(&mut self, id: u32, priority: Priority, cpu: &mut Cpu) -> After
+        requires sound { IsSound R.stands self.old }
+        ensures { (k : State) → Stands R.stands self.old k → let c = core k cpu.old in
+            TakesCore R.stands (changes_by c (changes k.threads id priority)) result
+            self.new cpu.new }
+    {
+        match self.threads.change(id, priority) {
+            Ok(_) => answer(cpu, Code::OK),
+            Err(code) => answer(cpu, code),
+        }
+    }
+
+    /// Gives the thread that an id names a priority, and answers a code.
+    fn change_to(&mut self, named: Option<u32>, priority: Priority, cpu: &mut Cpu) -> After
+        requires sound { IsSound R.stands self.old }
+        ensures { (k : State) → Stands R.stands self.old k
+            → TakesCore R.stands (changes_to (core k cpu.old) priority named) result
+            self.new cpu.new }
+    {
+        match named {
+            Some(id) => self.change(id, priority, cpu),
+            None => answer(cpu, Code::ILLEGAL_THREAD),
+        }
+    }
+
+    /// Changes the priority of a thread, 0 for the one that calls, and answers a code:
+    /// `ILLEGAL_PRIORITY` for a word that is none, then those of `Threads::change`.
+    pub(crate) fn change_priority(&mut self, id: u32, priority: u32, cpu: &mut Cpu) -> After
+        requires sound { IsSound R.stands self.old }
+        ensures { (k : State) → Stands R.stands self.old k
+            → TakesCore R.stands (change_priority (core k cpu.old) id priority) result
+            self.new cpu.new }
+    {
+        match Priority::of(priority) {
+            Some(priority) => self.change_to(self.named(id), priority, cpu),
+            None => answer(cpu, Code::ILLEGAL_PRIORITY),
+        }
+    }
+
+    /// Tells the priority of the thread that runs.
+    fn running_priority(&self) -> Option<Priority>
+        ensures { (k : State) → Stands R.stands self.now k
+            → result ≡ option_map (λ t. t.priority) (running_thread k.threads) }
+    {
+        let thread = self.threads.get(self.threads.running()?)?;
+        Some(thread.priority)
+    }
+
+    /// Says whether another thread may run, so that the one that runs may wait.
+    pub(crate) fn may_switch(&self) -> bool
+        ensures { (k : State) → Stands R.stands self.now k → result ≡ may_switch k }
+    {
+        self.interrupts && self.dispatching
+    }
+
+    /// Moves the first ready thread of a priority behind all others, and answers 0. Where the
+    /// thread that calls has the priority, it goes there instead, if another may run now.
+    fn rotate_to(&mut self, priority: Priority, cpu: &mut Cpu) -> After
+        requires sound { IsSound R.stands self.old }
+        ensures { (k : State) → Stands R.stands self.old k
+            → TakesCore R.stands (rotates_to (core k cpu.old) priority) result self.new cpu.new }
+    {
+        let own = self.running_priority() == Some(priority);
+        let after = answer_word(cpu, 0);
+        if own && !self.may_switch() {
+            return after;
+        }
+        self.threads.rotate(priority, cpu);
+        if own { After::Switch } else { after }
+    }
+
+    /// Moves the threads of the priority of the one that calls.
+    fn rotate_own(&mut self, cpu: &mut Cpu) -> After
+        requires sound { IsSound R.stands self.old }
+        ensures { (k : State) → Stands R.stands self.old k
+            → TakesCore R.stands (rotates_own (core k cpu.old) k.threads.running) result
+            self.new cpu.new }
+    {
+        match self.running_priority() {
+            Some(priority) => self.rotate_to(priority, cpu),
+            None => answer(cpu, Code::ILLEGAL_PRIORITY),
+        }
+    }
+
+    /// Moves the first ready thread of a priority behind all others, 0 for the priority of the
+    /// thread that calls. It answers 0, or `ILLEGAL_PRIORITY` for a word that is none.
+    pub(crate) fn rotate_ready_queue(&mut self, word: u32, cpu: &mut Cpu) -> After
+        requires sound { IsSound R.stands self.old }
+        ensures { (k : State) → Stands R.stands self.old k
+            → TakesCore R.stands (rotate_ready_queue (core k cpu.old) word) result
+            self.new cpu.new }
+    {
+        match Priority::of(word) {
+            Some(priority) => self.rotate_to(priority, cpu),
+            None if word == 0 => self.rotate_own(cpu),
+            None => answer(cpu, Code::ILLEGAL_PRIORITY),
+        }
+    }
+}

@@ -1,0 +1,134 @@
+//! The status of a thread.
+
+ghost use Rattle.std.specs.Prelude.{◌≡◌, ◌+◌, ◌≤◌, Some, List, length};
+ghost use Rattle.iop_base.specs.Numbers.{bytes_of, with_bytes};
+ghost use Rattle.iop_base.specs.Output.{Gives};
+ghost use Rattle.iop_base.specs.Places.{IsRamSize};
+ghost use Rattle.iop_registry.specs.declared.registry.Entry.{Entry};
+ghost use Rattle.iop_sysmem.specs.BlockMap.{BlockMap};
+ghost use Rattle.iop_kernel.specs.System.{Kernel as State};
+ghost use Rattle.iop_kernel.specs.Making.{status_words, bytes_of_words};
+ghost use Rattle.iop_kernel.specs.Making.{refers_it, refer_thread_status};
+ghost use Rattle.iop_kernel.specs.Standing.{Stands, IsSound, Takes, system};
+ghost use Rattle.iop_kernel.specs.declared.status.TheConstants.{STATUS_BYTES};
+
+use crate::after::After;
+use crate::answering::answer;
+use crate::kernel::Kernel;
+use crate::places::words_place;
+use iop_base::{Code, GuestFault, Lines};
+use iop_exec::Cpu;
+use iop_ready::Ready;
+use iop_stubs::Guest;
+use iop_thread::{Thread, Wait};
+
+/// How many words the status of a thread has.
+const STATUS_WORDS: usize = 12;
+
+/// How many bytes it has.
+const STATUS_BYTES: usize = 4 * STATUS_WORDS;
+
+/// Tells the words of a thread's status.
+fn status_words(thread: &Thread) -> [u32; STATUS_WORDS]
+    ensures { result ≡ status_words thread.now }
+{
+    let wait = thread.state.wait();
+    [
+        thread.param.attr,
+        thread.param.option,
+        thread.state.number(),
+        thread.param.entry,
+        thread.stack,
+        thread.param.stack_size,
+        thread.gp,
+        u32::from(thread.param.priority.number()),
+        u32::from(thread.priority.number()),
+        wait.map_or(0, Wait::kind),
+        wait.map_or(0, Wait::object),
+        thread.wakeups,
+    ]
+}
+
+/// Puts a word at a place of bytes, the lowest byte first.
+fn put_word(bytes: &mut [u8], place: usize, word: u32)
+    requires { place + 4 ≤ length bytes.old }
+    ensures { bytes.new ≡ with_bytes bytes.old place (bytes_of 4 word) }
+{
+    bytes[place..place + 4].copy_from_slice(&word.to_le_bytes());
+}
+
+/// Makes the bytes of words, the lowest of each first.
+fn bytes_of_words(words: &[u32; STATUS_WORDS]) -> [u8; STATUS_BYTES]
+    ensures { result ≡ bytes_of_words words.now }
+{
+    let mut bytes = [0; STATUS_BYTES];
+    for (index, &word) in words.iter().enumerate() {
+        put_word(&mut bytes, 4 * index, word);
+    }
+    bytes
+}
+
+impl<R: Ready> Kernel<R> {
+    /// Writes the status of a thread at a physical place, where it has room.
+    fn write_status<L: Lines>(
+        &self,
+        thread: &Thread,
+        place: u32,
+        cpu: &mut Cpu,
+        guest: &mut Guest,
+        lines: &mut L,
+    ) -> After
+        requires inside { place + STATUS_BYTES ≤ length guest.old.ram }
+        requires sized { IsRamSize (length guest.old.ram) }
+        ensures state { (k : State) (blocks : BlockMap) (libraries : List Entry)
+            → Stands R.stands self.now k
+            → let s = system k cpu.old guest.old blocks libraries in
+            Takes R.stands (refers_it s place (Some thread.now)).left result self.now cpu.new
+            guest.new blocks libraries }
+        ensures lines { (k : State) (blocks : BlockMap) (libraries : List Entry)
+            → Stands R.stands self.now k
+            → let s = system k cpu.old guest.old blocks libraries in
+            Gives (L.output lines.old) (L.output lines.new)
+            (refers_it s place (Some thread.now)).pieces }
+    {
+        let bytes = bytes_of_words(&status_words(thread));
+        // The bytes lie in RAM.
+        let _ = guest.store_bytes(place, &bytes, self.clock, lines);
+        answer(cpu, Code::OK)
+    }
+
+    /// Writes the twelve words of a thread's status at `at`: attributes, option, state, entry,
+    /// stack, stack size, `$gp`, first priority, priority, kind of its wait, id of the object that
+    /// it waits for, wakeups. The place is looked at first.
+    #[tactic(auto, using(iop_base::proofs::Giving::gives_none))]
+    pub(crate) fn refer_thread_status<L: Lines>(
+        &mut self,
+        id: u32,
+        at: u32,
+        cpu: &mut Cpu,
+        guest: &mut Guest,
+        lines: &mut L,
+    ) -> After
+        requires sound { IsSound R.stands self.old }
+        ensures state { (k : State) (blocks : BlockMap) (libraries : List Entry)
+            → Stands R.stands self.old k
+            → let s = system k cpu.old guest.old blocks libraries in
+            Takes R.stands (refer_thread_status s id at).left result self.new cpu.new guest.new
+            blocks libraries }
+        ensures lines { (k : State) (blocks : BlockMap) (libraries : List Entry)
+            → Stands R.stands self.old k
+            → let s = system k cpu.old guest.old blocks libraries in
+            Gives (L.output lines.old) (L.output lines.new) (refer_thread_status s id at).pieces }
+    {
+        let Some(place) = words_place(guest, at, STATUS_WORDS as u32) else {
+            return After::Fault(GuestFault::Address);
+        };
+        let Some(id) = self.named(id) else {
+            return answer(cpu, Code::ILLEGAL_THREAD);
+        };
+        let Some(thread) = self.threads.get(id) else {
+            return answer(cpu, Code::UNKNOWN_THREAD);
+        };
+        self.write_status(thread, place, cpu, guest, lines)
+    }
+}

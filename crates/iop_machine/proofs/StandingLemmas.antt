@@ -1,0 +1,71 @@
+-- How what is said of each state that the program's machine stands for is proved of one.
+use Rattle.std.proofs.Common.{◌≡◌, ℕ, Option, List, [], ◌∷◌, refl, sym, ◌∙◌, subst}
+use Rattle.iop_base.specs.Output.{Output, Gives}
+use Rattle.iop_base.specs.Piece.{Traced}
+use Rattle.iop_base.specs.Text.{line_bytes}
+use Rattle.iop_base.specs.declared.line.Line.{Line}
+use Rattle.iop_base.specs.declared.stop.Stop.{Stop}
+use Rattle.iop_exec.specs.declared.cpu.Cpu.{Cpu}
+use Rattle.iop_ready.specs.ReadyList.{StandsFor}
+use Rattle.iop_ready.specs.declared.entry.Entry.{Entry}
+use Rattle.iop_kernel.specs.Standing as kernel
+use Rattle.iop_kernel.specs.System.{Kernel}
+use Rattle.iop_kernel.specs.declared.kernel.Kernel.{Kernel as Kernels}
+use Rattle.iop_machine.specs.Iop.{Iop, Takes, tells}
+use Rattle.iop_machine.specs.Standing.{iop_of, Stands, IsSound}
+use Rattle.iop_machine.specs.declared.iop.Iop.{Iop as Program}
+
+-- what holds of the state that it is, for each kernel that its kernel stands for, holds of each that it
+-- stands for
+pub carried : (m : Program) (P : Iop → Type 0)
+    → ((k : Kernel) → kernel.Stands StandsFor m.kernel k → P (iop_of m k))
+    → (s : Iop) → Stands m s → P s
+carried m P g s h = subst P (sym h.rest) (g s.kernel h.kernel)
+
+-- it stands for the state that it is, with a kernel that its kernel stands for
+pub stands_for : (m : Program) (k : Kernel) → kernel.Stands StandsFor m.kernel k
+    → Stands m (iop_of m k)
+stands_for m k h = record { kernel = h; rest = refl }
+
+-- this is the moment of its kernel, as `now` answers
+abbrev pub IsMoment : Program → ℕ → Type 0
+IsMoment m t = (k : Kernel) → kernel.Stands StandsFor m.kernel k → t ≡ k.clock
+
+-- which is the number that it has
+pub moment_is : (m : Program) (t : ℕ) → IsMoment m t → IsSound m → t ≡ m.kernel.clock
+moment_is m t moment sound =
+    moment sound.0.kernel sound.1.kernel ∙ sound.1.kernel.clock
+
+-- it is stopped
+pub stands_stopped : (m : Program) (over : Option Stop) (s : Iop) → Stands m s
+    → Stands (record m { over = over }) (record s { over = over })
+stands_stopped m over =
+    carried m (λ s. Stands (record m { over = over }) (record s { over = over }))
+    (λ k h. record { kernel = h; rest = refl })
+
+-- its processor and its kernel change
+pub stands_with_core : (m : Program) (cpu : Cpu) (new : Kernels (List Entry)) (f : Kernel → Kernel)
+    → ((k : Kernel) → kernel.Stands StandsFor m.kernel k → kernel.Stands StandsFor new (f k))
+    → (s : Iop) → Stands m s
+    → Stands (record m { cpu = cpu; kernel = new }) (record s { cpu = cpu; kernel = f s.kernel })
+stands_with_core m cpu new f g = carried m
+    (λ s. Stands (record m { cpu = cpu; kernel = new }) (record s { cpu = cpu; kernel = f s.kernel }))
+    (λ k h. record { kernel = g k h; rest = refl })
+
+-- its kernel changes
+pub stands_with_kernel : (m : Program) (new : Kernels (List Entry)) (f : Kernel → Kernel)
+    → ((k : Kernel) → kernel.Stands StandsFor m.kernel k → kernel.Stands StandsFor new (f k))
+    → (s : Iop) → Stands m s
+    → Stands (record m { kernel = new }) (record s { kernel = f s.kernel })
+stands_with_kernel m new f g =
+    carried m (λ s. Stands (record m { kernel = new }) (record s { kernel = f s.kernel }))
+    (λ k h. record { kernel = g k h; rest = refl })
+
+-- a line of this moment was given
+pub tells_takes : (m : Program) (t : ℕ) → IsMoment m t → {a b : Output} (line : Line)
+    → Gives a b (Traced (line_bytes t line) ∷ []) → (s : Iop) → Stands m s
+    → Takes Stands (tells s line) m a b
+tells_takes m t moment {a} {b} line g s h = record {
+  state = h;
+  gives = subst (λ u. Gives a b (Traced (line_bytes u line) ∷ [])) (moment s.kernel h.kernel) g;
+}

@@ -1,0 +1,5 @@
+use Rattle.iop_thread.proofs.Straight.{operations_keep_straight}
+use Rattle.iop_thread.proofs.laws.operations_keep_straight.Goals as goal
+
+pub returns : goal.returns
+returns c = operations_keep_straight

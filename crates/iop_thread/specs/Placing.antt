@@ -1,0 +1,27 @@
+-- Where threads stand, at all times (ps2sdk: thread.h): a law of the operations.
+use Rattle.std.specs.Prelude.{◌≡◌, ◌≢◌, ℕ, ◌<◌, ◌==◌, Bool, true, false, option_map, unwrap_or, List, length, filter, All, AllPairs}
+use Rattle.iop_thread.specs.declared.state.State.{State}
+use Rattle.iop_thread.specs.declared.thread.Thread.{Thread}
+use Rattle.iop_thread.specs.States.{is_ready, is_running}
+use Rattle.iop_thread.specs.ThreadTable.{ThreadTable, thread_of, is_it}
+
+-- how often an id is in a list
+abbrev pub times : ℕ → List ℕ → ℕ
+times id ids = length (filter (λ other. other == id) ids)
+
+abbrev pub one_if : Bool → ℕ
+one_if true = 1
+one_if false = 0
+
+-- whether a thread of this id is live, in such a state
+abbrev pub is_in_state : (State → Bool) → List Thread → ℕ → Bool
+is_in_state p live id = unwrap_or (option_map (λ t. p t.state) (thread_of live id)) false
+
+pub record IsPlaced (s : ThreadTable) : Type 0 where
+  -- a thread is in the ready list, once, exactly where it is ready; no other id is in it
+  pub ready : (id : ℕ) → times id s.ready ≡ one_if (is_in_state is_ready s.live id)
+  -- the running thread is the one that is in the state of running
+  pub running : (id : ℕ) → is_it s.running id ≡ is_in_state is_running s.live id
+  -- no two live threads have one id, and none has one that is still to be given
+  pub ids : AllPairs (λ t u. t.id ≢ u.id) s.live
+  pub given : All (λ t. t.id < s.next) s.live

@@ -1,0 +1,22 @@
+//! Facts about the definitions that no call computes. Each is the contract of a function that does
+//! nothing.
+
+ghost use Rattle.iop_thread.specs.Laws.{OperationsKeepPlaces, OperationsKeepStraight, DispatchIsStrict};
+
+/// Each thread that is ready is once in the ready list, which has no other, the one that runs is in
+/// the state of running, and no two threads have one id: at first, and after each operation.
+pub fn operations_keep_places()
+    ensures { OperationsKeepPlaces }
+{}
+
+/// Outside a delay slot the next instruction of each thread is the one behind: at first, and after each
+/// operation.
+pub fn operations_keep_straight()
+    ensures { OperationsKeepStraight }
+{}
+
+/// The thread that is dispatched is the first of the best priority, and better than the one that ran.
+/// Where none is dispatched, no ready thread is better than the one that runs.
+pub fn dispatch_is_strict()
+    ensures { DispatchIsStrict }
+{}

@@ -1,0 +1,24 @@
+//! Threads: their records, which of them are ready, and which one runs.
+#![tactic(auto)]
+
+mod found;
+pub mod laws;
+mod moves;
+mod param;
+mod places;
+mod scheduling;
+mod state;
+#[cfg(test)]
+mod tests;
+mod thread;
+mod threads;
+mod wait;
+
+pub use param::Param;
+pub use state::State;
+pub use thread::{
+    LAST_ID, LOADER, LOADER_ATTRIBUTE, LOADER_PRIORITY, LOADER_STACK, LOADER_STACK_SIZE,
+    MOST_WAKEUPS, THREAD_RETURN, Thread, registers_at,
+};
+pub use threads::Threads;
+pub use wait::Wait;

@@ -1,0 +1,42 @@
+/// What a thread waits for.
+#[derive(Clone, Copy, Debug, PartialEq, Eq)]
+pub enum Wait {
+    /// To be woken.
+    Sleep,
+    /// For a time.
+    Delay,
+    /// For the semaphore of this id.
+    Semaphore(u32),
+    /// For the event flag of this id.
+    EventFlag(u32),
+    /// For a message in the mailbox of this id.
+    Mailbox(u32),
+}
+
+impl Wait {
+    ghost use Rattle.std.specs.Prelude.{◌≡◌};
+    ghost use Rattle.iop_thread.specs.States.{kind_number, object_of};
+
+    /// Tells the number of its kind: 1 to 5 (ps2sdk: thread.h).
+    pub fn kind(self) -> u32
+        ensures { result ≡ kind_number self }
+    {
+        match self {
+            Wait::Sleep => 1,
+            Wait::Delay => 2,
+            Wait::Semaphore(_) => 3,
+            Wait::EventFlag(_) => 4,
+            Wait::Mailbox(_) => 5,
+        }
+    }
+
+    /// Tells the id of the object that it is for: 0 where it is for none.
+    pub fn object(self) -> u32
+        ensures { result ≡ object_of self }
+    {
+        match self {
+            Wait::Sleep | Wait::Delay => 0,
+            Wait::Semaphore(id) | Wait::EventFlag(id) | Wait::Mailbox(id) => id,
+        }
+    }
+}

@@ -1,0 +1,3 @@
+; A service that is not built yet faults
+    .name delay
+    syscall 801

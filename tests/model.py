@@ -1,0 +1,575 @@
+#!/usr/bin/env python3
+"""An independent model of the machine: what `iop` writes for some modules, computed in Python.
+
+    tests/model.py MODULE...        runs the modules as `iop` does; console on stdout, trace on stderr
+
+It is written from docs/PROFILE.md and docs/FORMATS.md, shares no line with the program, and does no more than the
+tests need: it takes well-formed files, and knows most services that are built and the more common instructions.
+It ends with 70 where it does not know what would happen. `tests/models` compares it with what the cases want.
+"""
+import struct
+import sys
+
+SIZE = 0x200000
+LIBRARIES = ["loadcore", "sysmem", "intrman", "thbase", "thsemap", "thevent", "thmsgbx", "stdio"]
+BUDGET = 10_000_000
+
+
+class Fault(Exception):
+    """A guest fault, by its word in the trace."""
+
+
+UNKNOWN = 70
+
+
+def signed(word):
+    return word - 2**32 if word >= 2**31 else word
+
+
+class Memory:
+    """RAM, with the live stubs."""
+
+    def __init__(self, machine):
+        self.machine = machine
+        self.ram = bytearray(SIZE)
+        self.live = {}  # place -> (name, major)
+
+    def place(self, at, length, width=1):
+        if at % width or at >> 29 not in (0, 4, 5) or at % 0x20000000 >= SIZE:
+            return None
+        place = at % 0x20000000
+        return place if place + length <= SIZE else None
+
+    def load(self, at, width):
+        place = self.place(at, width, width)
+        if place is None:
+            raise Fault("address")
+        return int.from_bytes(self.ram[place:place + width], "little")
+
+    def write(self, place, data):
+        for stub in sorted(self.live):
+            if data and stub < place + len(data) and place < stub + 8:
+                self.machine.trace(f"stub {stub:08x}")
+                del self.live[stub]
+        self.ram[place:place + len(data)] = data
+
+    def store(self, at, width, value):
+        place = self.place(at, width, width)
+        if place is None:
+            raise Fault("address")
+        self.write(place, (value % 256**width).to_bytes(width, "little"))
+
+    def word(self, place):
+        return int.from_bytes(self.ram[place:place + 4], "little")
+
+
+class Blocks:
+    def __init__(self):
+        self.used = {0: 0x10000}
+
+    def alloc(self, mode, size, at):
+        size = (size + 255) // 256 * 256
+        if mode > 2 or not 0 < size <= SIZE:
+            return 0
+        starts = range(0, SIZE - size + 1, 256)
+        if mode == 2:
+            ok = at >> 29 in (0, 4, 5) and at % 0x20000000 < SIZE and at % 256 == 0
+            starts = [at % 0x20000000] if ok and at % 0x20000000 + size <= SIZE else []
+        for start in reversed(starts) if mode == 1 else starts:
+            if all(start + size <= s or s + n <= start for s, n in self.used.items()):
+                self.used[start] = size
+                return start
+        return 0
+
+    def most_free(self):
+        edges = sorted(self.used.items()) + [(SIZE, 0)]
+        return max(b[0] - (a[0] + a[1]) for a, b in zip(edges, edges[1:]))
+
+    def free(self, at):
+        place = at % 0x20000000
+        if at >> 29 not in (0, 4, 5) or place == 0 or place not in self.used:
+            return -1
+        del self.used[place]
+        return 0
+
+
+class Registers:
+    def __init__(self, pc, **named):
+        self.r = [0] * 32
+        self.hi = self.lo = 0
+        self.pc, self.next, self.slot = pc % 2**32, (pc + 4) % 2**32, False
+        for name, value in named.items():
+            self.r[{"a0": 4, "a1": 5, "gp": 28, "sp": 29, "ra": 31}[name]] = value % 2**32
+
+
+class Thread:
+    """`state` is one of run, ready, wait, suspend, both, dormant."""
+
+    def __init__(self, ident, attr, option, entry, size, priority, stack, gp):
+        self.id, self.attr, self.option, self.entry = ident, attr, option, entry
+        self.size, self.first, self.stack, self.gp = size, priority, stack, gp
+        self.priority, self.wakeups, self.state, self.cpu = priority, 0, "dormant", None
+
+
+NUMBERS = {"run": 1, "ready": 2, "wait": 4, "suspend": 8, "both": 12, "dormant": 16}
+
+
+class Machine:
+    def __init__(self, files):
+        self.clock = 0
+        self.lines, self.console = [], b""
+        self.memory, self.blocks = Memory(self), Blocks()
+        self.registry = []
+        self.files = files
+        self.module = None
+        self.cpu = Registers(0)
+        self.threads = {1: Thread(1, 0x02000000, 0, 0, 0x4000, 8, 0xC000, 0)}
+        self.next_id = 2
+        self.ready, self.running = [], None
+        self.dispatching = True
+        self.kernel_area()
+
+    def trace(self, text):
+        self.lines.append(f"{self.clock} {text}")
+
+    def kernel_area(self):
+        put = lambda at, word: self.memory.ram.__setitem__(slice(at, at + 4), struct.pack("<I", word))
+        for n, name in enumerate(LIBRARIES):
+            table = 0x1000 + n * 0x200
+            put(table, 0x41C00000)
+            put(table + 8, 0x0101)
+            self.memory.ram[table + 12:table + 20] = name.encode().ljust(8, b"\0")
+            for k in range(64):
+                at = 0x4000 + n * 0x400 + k * 16
+                put(table + 20 + 4 * k, at)
+                put(at, (n * 256 + k) << 6 | 0xC)
+                put(at + 4, 0x03E00008)
+            self.registry.append((name.encode().ljust(8, b"\0"), 1, table))
+        for at, code in ((0x3000, 0xF00), (0x3010, 0xF01), (0x3020, 0xF02)):
+            put(at, code << 6 | 0xC)
+
+    # Loading
+
+    def load(self, file):
+        """Answers (base, length, entry, gp, text), or a code."""
+        offset, count = struct.unpack_from("<I", file, 28)[0], struct.unpack_from("<H", file, 44)[0]
+        headers = [struct.unpack_from("<8I", file, offset + 32 * n) for n in range(count)]
+        info = next(h for h in headers if h[0] == 0x70000080)
+        part = next(h for h in headers if h[0] == 1)
+        _, entry, gp, text, init, bss = struct.unpack_from("<6I", file, info[1])
+        length = max(part[5], text + init + bss)
+        if part[1] + part[4] > len(file):
+            raise NotImplementedError("a bad file")
+        image = bytearray(file[part[1]:part[1] + part[4]].ljust(length, b"\0"))
+        base = self.blocks.alloc(0, length, 0)
+        if not base:
+            return -400
+        self.memory.write(base, bytes(image))
+        self.relocate(file, base)
+        code = self.link(base, text)
+        if code:
+            self.blocks.free(base)
+            return code
+        return base, length, base + entry, base + gp
+
+    def relocate(self, file, base):
+        offset, count = struct.unpack_from("<I", file, 32)[0], struct.unpack_from("<H", file, 48)[0]
+        if offset + 40 * count > len(file):
+            raise NotImplementedError("a bad file")
+        ram = self.memory.ram
+        for n in range(count):
+            section = struct.unpack_from("<10I", file, offset + 40 * n)
+            if section[1] != 9:
+                continue
+            entries = [struct.unpack_from("<II", file, section[4] + k) for k in range(0, section[5], 8)]
+            for k, (site, info) in enumerate(entries):
+                at = base + site
+                word = struct.unpack_from("<I", ram, at)[0]
+                kind = info % 256
+                if kind == 2:
+                    word += base
+                elif kind == 4:
+                    word = word & 0xFC000000 | (word + base // 4) & 0x03FFFFFF
+                elif kind == 5:
+                    low_site = next(s for s, i in entries[k + 1:] if i % 256 == 6)
+                    low = struct.unpack_from("<h", ram, base + low_site)[0]
+                    whole = (word % 65536) * 65536 + low + base
+                    word = word & 0xFFFF0000 | (whole + 0x8000) // 65536 % 65536
+                elif kind == 6:
+                    word = word & 0xFFFF0000 | (word + base) & 0xFFFF
+                struct.pack_into("<I", ram, at, word % 2**32)
+
+    def link(self, base, text):
+        memory, bound, at = self.memory, [], base
+        before = bytes(memory.ram)
+        word = lambda place: struct.unpack_from("<I", before, place)[0]
+        while at + 8 <= base + text:
+            if (word(at), word(at + 4)) != (0x41E00000, 0):
+                at += 4
+                continue
+            version, name = before[at + 9], before[at + 12:at + 20]
+            table = next((t for n, major, t in self.registry if n == name and major == version), None)
+            if table is None:
+                return -200
+            functions = []
+            while table + 24 + 4 * len(functions) <= SIZE and word(table + 20 + 4 * len(functions)):
+                functions.append(word(table + 20 + 4 * len(functions)))
+            at += 20
+            while word(at):
+                index = word(at + 4) % 65536
+                if index < len(functions):
+                    bound.append((at, functions[index], (name, version)))
+                at += 8
+            at += 8
+        for at, function, library in bound:
+            struct.pack_into("<I", memory.ram, at, 0x08000000 | function >> 2 & 0x03FFFFFF)
+            memory.live[at] = library
+        return 0
+
+    def load_next(self):
+        """Loads the first module that loads, and answers the registers with which it begins."""
+        while self.files:
+            number, name, file = self.files.pop(0)
+            result = self.load(file)
+            if isinstance(result, int):
+                self.trace(f"load {number} {result}")
+                continue
+            base, length, entry, gp = result
+            self.trace(f"load {number} ok {base:08x} {length:08x}")
+            self.memory.write(0x2000, bytes(0x1000))
+            self.memory.write(0x2000, struct.pack("<II", 0x2008, 0) + name.encode() + b"\0")
+            self.module = number, base, length
+            return Registers(entry, a0=1, a1=0x2000, gp=gp, sp=0xFFF0, ra=0x3020)
+        self.module = None
+        return None
+
+    def end_module(self, value):
+        number, base, length = self.module
+        kept = ["resident", "removed", "removable", "removed"][value % 4]
+        self.trace(f"result {number} {signed(value)} {kept}")
+        size = (length + 255) // 256 * 256
+        if value % 2 and self.blocks.used.get(base) == size:
+            self.memory.write(base, bytes(size))
+            del self.blocks.used[base]
+            self.registry = [e for e in self.registry if not base <= e[2] < base + size]
+        self.dispatching = True
+        begins = self.load_next()
+        if begins:
+            self.cpu = begins
+        else:
+            self.end_running()
+
+    # Threads
+
+    def end_running(self):
+        self.threads[self.running].state = "dormant"
+        self.running = None
+
+    def make_ready(self, thread, first=False):
+        thread.state = "ready"
+        self.ready.insert(0 if first else len(self.ready), thread.id)
+
+    def wake(self, thread, answer):
+        thread.cpu.r[2] = answer % 2**32
+        if thread.state == "both":
+            thread.state = "suspend"
+        else:
+            self.make_ready(thread)
+
+    def best(self):
+        return min(self.ready, key=lambda i: self.threads[i].priority, default=None)
+
+    def dispatch(self):
+        best = self.best()
+        if not self.dispatching or best is None:
+            return False
+        if self.running is not None:
+            running = self.threads[self.running]
+            if self.threads[best].priority >= running.priority:
+                return False
+            running.cpu = self.cpu
+            self.make_ready(running, first=True)
+        self.ready.remove(best)
+        self.running = best
+        self.threads[best].state = "run"
+        self.cpu = self.threads[best].cpu
+        self.trace(f"run {best}")
+        return True
+
+    def service(self, number):
+        """A service of thbase: its answer, or None where the caller does not go on."""
+        a, b = self.cpu.r[4], self.cpu.r[5]
+        threads, me = self.threads, self.running
+        if number in (11, 15, 17, 19, 23, 26, 28, 30, 32, 36, 38):
+            return -100
+        if number == 4:
+            at = self.memory.place(a, 20, 4)
+            if at is None:
+                raise Fault("address")
+            attr, option, entry, size, priority = struct.unpack_from("<5I", self.memory.ram, at)
+            if attr & ~0x03000000:
+                return -401
+            if entry % 4:
+                return -402
+            if not 1 <= priority <= 126:
+                return -403
+            if size < 256:
+                return -404
+            if len(threads) >= 255:
+                return -400
+            stack = self.blocks.alloc(1, size, 0)
+            if not stack:
+                return -400
+            size = (size + 255) // 256 * 256
+            self.memory.write(stack, b"\xff" * size)
+            ident, self.next_id = self.next_id, self.next_id + 1
+            threads[ident] = Thread(ident, attr, option, entry, size, priority, stack, self.cpu.r[28])
+            return ident
+        if number in (12, 13):
+            self.dispatching = number == 13
+            return 0
+        if number == 14 and not 1 <= b <= 126:
+            return -403
+        if number == 16:
+            if a > 126:
+                return -403
+            return self.rotate(a or threads[me].priority)
+        if number == 20:
+            return me
+        if number == 22 and self.memory.place(b, 48, 4) is None:
+            raise Fault("address")
+        if number == 24:
+            return self.sleep()
+        if number in (8, 9):
+            return self.exit(number == 9)
+        ident = me if a == 0 and number in (14, 22, 27) else a
+        if ident == 0 or ident == 1 and number in (5, 6, 10) or a == me and number in (10, 18, 25, 29, 31):
+            return -406
+        if ident not in threads:
+            return -407
+        return self.thread_service(number, threads[ident], b)
+
+    def thread_service(self, number, thread, word):
+        if number in (5, 6) and thread.state != "dormant":
+            return -414
+        if number in (10, 14, 25, 27, 29) and thread.state == "dormant":
+            return -413
+        if number == 5:
+            del self.threads[thread.id]
+            self.blocks.free(thread.stack)
+        elif number == 6:
+            thread.priority, thread.wakeups = thread.first, 0
+            thread.cpu = Registers(thread.entry, a0=word, gp=thread.gp, sp=thread.stack + thread.size - 16, ra=0x3000)
+            self.make_ready(thread)
+        elif number == 10:
+            if thread.id in self.ready:
+                self.ready.remove(thread.id)
+            thread.state = "dormant"
+        elif number == 14:
+            thread.priority = word
+            if thread.state == "ready":
+                self.ready.remove(thread.id)
+                self.ready.append(thread.id)
+        elif number == 18:
+            if thread.state not in ("wait", "both"):
+                return -416
+            self.wake(thread, -418)
+        elif number == 22:
+            waits = thread.state in ("wait", "both")
+            words = [thread.attr, thread.option, NUMBERS[thread.state], thread.entry, thread.stack, thread.size,
+                     thread.gp, thread.first, thread.priority, int(waits), 0, thread.wakeups]
+            self.memory.write(self.memory.place(word, 48, 4), struct.pack("<12I", *words))
+        elif number == 25:
+            if thread.state in ("wait", "both"):
+                self.wake(thread, 0)
+            else:
+                thread.wakeups = min(thread.wakeups + 1, 0x7FFFFFFF)
+        elif number == 27:
+            old, thread.wakeups = thread.wakeups, 0
+            return old
+        elif number == 29:
+            if thread.state == "ready":
+                self.ready.remove(thread.id)
+            thread.state = {"ready": "suspend", "wait": "both"}.get(thread.state, thread.state)
+        elif number == 31:
+            if thread.state == "suspend":
+                self.make_ready(thread)
+            elif thread.state == "both":
+                thread.state = "wait"
+            else:
+                return -415
+        else:
+            raise Fault("service")
+        return 0
+
+    def rotate(self, priority):
+        if self.threads[self.running].priority == priority:
+            if self.dispatching:
+                thread = self.threads[self.running]
+                self.cpu.r[2] = 0
+                thread.cpu, self.running = self.cpu, None
+                self.make_ready(thread)
+                return None
+            return 0
+        for ident in self.ready:
+            if self.threads[ident].priority == priority:
+                self.ready.remove(ident)
+                self.ready.append(ident)
+                break
+        return 0
+
+    def sleep(self):
+        if not self.dispatching:
+            return -417
+        thread = self.threads[self.running]
+        if thread.wakeups:
+            thread.wakeups -= 1
+            return 0
+        thread.state, thread.cpu, self.running = "wait", self.cpu, None
+        return None
+
+    def exit(self, delete):
+        if self.running == 1:
+            self.end_module(0)
+            return None
+        ident = self.running
+        self.dispatching = True
+        self.end_running()
+        if delete:
+            self.blocks.free(self.threads.pop(ident).stack)
+        return None
+
+    def syscall(self, code):
+        library, number = code // 256, code % 256
+        if code == 0xF00:
+            return self.exit(False)
+        if code == 0xF02 and self.running == 1:
+            self.end_module(self.cpu.r[2])
+            return None
+        if library >= 8 or number >= 64:
+            raise Fault("service")
+        a, b, c = self.cpu.r[4:7]
+        if (library, number) in ((1, 14), (7, 4)):
+            place = self.memory.place(a, 0)
+            text = b"" if place is None else bytes(self.memory.ram[place:place + 4096]).split(b"\0")[0]
+            self.console += text
+            return len(text)
+        if (library, number) == (1, 4):
+            return self.blocks.alloc(a, b, c)
+        if (library, number) == (1, 5):
+            return self.blocks.free(a)
+        if (library, number) == (1, 7):
+            return self.blocks.most_free()
+        if library == 3 and number <= 40 and number not in (7, 21):
+            if number >= 33 and number not in (36, 38):
+                raise Fault("service")
+            return self.service(number)
+        if library == 0 and number in (4, 5):
+            return 0
+        raise NotImplementedError(code)
+
+    # The processor
+
+    def step(self):
+        cpu, memory = self.cpu, self.memory
+        word = memory.load(cpu.pc, 4)
+        op, rs, rt, rd = word >> 26, word >> 21 & 31, word >> 16 & 31, word >> 11 & 31
+        imm, r = word & 0xFFFF, cpu.r
+        simm = imm - 65536 if imm >= 32768 else imm
+        target, write = None, None
+        if op == 0 and word & 63 == 0x0C:
+            before = cpu.pc, cpu.next, cpu.slot
+            cpu.pc, cpu.next, cpu.slot = cpu.next, (cpu.next + 4) % 2**32, False
+            try:
+                answer = self.syscall(word >> 6 & 0xFFFFF)
+            except Fault:
+                cpu.pc, cpu.next, cpu.slot = before
+                raise
+            if answer is not None:
+                cpu.r[2] = answer % 2**32
+            return
+        if op == 0:
+            function = word & 63
+            if function == 0x00:
+                write = rd, r[rt] << (word >> 6 & 31)
+            elif function == 0x08:
+                target = r[rs]
+            elif function == 0x09:
+                target, write = r[rs], (rd, cpu.pc + 8)
+            elif function == 0x21:
+                write = rd, r[rs] + r[rt]
+            elif function == 0x23:
+                write = rd, r[rs] - r[rt]
+            elif function == 0x25:
+                write = rd, r[rs] | r[rt]
+            elif function == 0x2B:
+                write = rd, int(r[rs] < r[rt])
+            else:
+                raise NotImplementedError(hex(word))
+        elif op in (2, 3):
+            target = (cpu.pc + 4) & 0xF0000000 | (word & 0x03FFFFFF) << 2
+            write = (31, cpu.pc + 8) if op == 3 else None
+        elif op in (4, 5):
+            taken = (r[rs] == r[rt]) == (op == 4)
+            target = cpu.pc + 4 + 4 * simm if taken else cpu.next + 4
+        elif op == 9:
+            write = rt, r[rs] + simm
+        elif op == 13:
+            write = rt, r[rs] | imm
+        elif op == 15:
+            write = rt, imm << 16
+        elif op == 0x23:
+            write = rt, memory.load((r[rs] + simm) % 2**32, 4)
+        elif op == 0x2B:
+            memory.store((r[rs] + simm) % 2**32, 4, r[rt])
+        else:
+            raise NotImplementedError(hex(word))
+        if target is not None and cpu.slot:
+            raise NotImplementedError("a jump in a delay slot")
+        if write and write[0]:
+            r[write[0]] = write[1] % 2**32
+        jump = target is not None
+        cpu.pc, cpu.next, cpu.slot = cpu.next, (target if jump else cpu.next + 4) % 2**32, jump
+
+    def run(self):
+        begins = self.load_next()
+        if begins:
+            self.threads[1].cpu = begins
+            self.make_ready(self.threads[1])
+        executed = 0
+        while True:
+            while self.dispatch():
+                pass
+            if self.running is None:
+                return self.end("quiet", 0)
+            if executed == BUDGET:
+                return self.end("budget", 10)
+            try:
+                self.step()
+            except Fault as fault:
+                return self.end(f"fault {fault} {self.cpu.pc:08x}", 11)
+            self.clock += 1
+            executed += 1
+
+    def end(self, text, status):
+        self.trace(f"end {text}")
+        return status
+
+
+def main():
+    try:
+        if len(sys.argv) == 1:
+            raise NotImplementedError("no words")
+        files = [(n, name, open(name, "rb").read()) for n, name in enumerate(sys.argv[1:], 1)]
+        machine = Machine(files)
+        status = machine.run()
+    except (NotImplementedError, OSError, StopIteration, struct.error) as unknown:
+        print(f"model: {type(unknown).__name__} {unknown}", file=sys.stderr)
+        return UNKNOWN
+    sys.stdout.buffer.write(machine.console)
+    sys.stderr.write("".join(line + "\n" for line in machine.lines))
+    return status
+
+
+if __name__ == "__main__":
+    sys.exit(main())
