@@ -78,6 +78,7 @@ impl Iop {
     }
 
     /// Dispatches a thread, if one is to be. Answers whether no write failed.
+    #[inline(never)]
     fn dispatch<C: Sink, T: Sink>(&mut self, out: &mut Out<'_, C, T>) -> bool
         requires sound { IsSound self.old }
         requires well { has_failed out.old ≡ false }
