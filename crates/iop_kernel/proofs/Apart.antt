@@ -20,10 +20,14 @@ use Rattle.iop_thread.specs.declared.param.Param.{Param}
 use Rattle.iop_thread.specs.declared.thread.Thread.{Thread}
 use Rattle.irx_tables.specs.Exports.{header_of}
 use Rattle.iop_kernel.specs.Laws.{ServicesStayApart, LibrariesStayApart}
-use Rattle.iop_kernel.specs.Making.{creates_at, creates_with, creates_from, refers_it, refers_to, refers_at}
+use Rattle.iop_kernel.specs.Creating.{creates_at, creates_with, creates_from}
+use Rattle.iop_kernel.specs.Naming.{named}
+use Rattle.iop_kernel.specs.Status.{refers_it, refers_to, refers_at}
 use Rattle.iop_kernel.specs.Serving.{serves_core, serves, answers_by, calls_library}
 use Rattle.iop_kernel.specs.System.{System, Served, argument as core_argument, caller, words_place}
-use Rattle.iop_kernel.specs.Threads.{named}
+use Rattle.iop_kernel.specs.declared.status.TheConstants.{STATUS_WORDS}
+use Rattle.iop_kernel.specs.declared.creating.TheConstants.{PARAM_WORDS, FROM_ABOVE}
+use Rattle.iop_kernel.specs.declared.call.TheConstants.{THBASE}
 
 -- if the services of all rows pass a test, so does that of a row that is found
 row_passes : (test : Service → Bool) (number : ℕ) (rows : List Numbered) (row : Row)
@@ -61,14 +65,14 @@ leaves_libraries service.ReleaseLibraryEntries = false
 leaves_libraries other = true
 
 -- all services of another library than thbase leave the kernel
-rows_leave_kernel : (library : ℕ) → library ≢ 3
+rows_leave_kernel : (library : ℕ) → library ≢ THBASE
     → list_all (λ r. leaves_kernel r.service) (rows_of library) ≡ true
 unfolding leaves_kernel
 rows_leave_kernel library other =
     by (library == 0) loadcore _ (λ is. refl) (λ is.
     by (library == 1) sysmem _ (λ is. refl) (λ is.
     by (library == 2) intrman _ (λ is. refl) (λ is.
-    by (library == 3) thbase _ (λ is. absurd (other (grind (arith, nat_tests, is)))) (λ is.
+    by (library == THBASE) thbase _ (λ is. absurd (other (grind (arith, nat_tests, is)))) (λ is.
     by (library == 4) thsemap _ (λ is. refl) (λ is.
     by (library == 5) thevent _ (λ is. refl) (λ is.
     by (library == 6) thmsgbx _ (λ is. refl) (λ is.
@@ -81,7 +85,7 @@ rows_leave_kernel library other =
     by b x y = cond_both b x y (λ rows. list_all (λ r. leaves_kernel r.service) rows ≡ true)
 
 -- all services of thbase leave the libraries
-rows_leave_libraries : (library : ℕ) → library ≡ 3
+rows_leave_libraries : (library : ℕ) → library ≡ THBASE
     → list_all (λ r. leaves_libraries r.service) (rows_of library) ≡ true
 unfolding leaves_libraries
 rows_leave_libraries library is = rw is refl
@@ -174,7 +178,7 @@ module _ (s : System) where
   creates_with_leaves (Err code) = refl
   creates_with_leaves (Ok param) =
       cond_both (has_room s.core.kernel.threads) _ _ Leaves
-      (λ room. creates_at_leaves param (allocating s.blocks 1 param.stack_size 0)) (λ full. refl)
+      (λ room. creates_at_leaves param (allocating s.blocks FROM_ABOVE param.stack_size 0)) (λ full. refl)
 
   -- by the place of the words
   creates_leaves : (o : Option ℕ) → Leaves (creates_from s o)
@@ -201,9 +205,9 @@ module _ (s : System) where
   libraries_served : (x : Service) → Leaves (serves s x)
   unfolding serves
   libraries_served service.CreateThread =
-      creates_leaves (words_place s.memory (core_argument s.core 0) 5)
+      creates_leaves (words_place s.memory (core_argument s.core 0) PARAM_WORDS)
   libraries_served service.ReferThreadStatus =
-      refers_leaves (core_argument s.core 0) (words_place s.memory (core_argument s.core 1) 12)
+      refers_leaves (core_argument s.core 0) (words_place s.memory (core_argument s.core 1) STATUS_WORDS)
   libraries_served service.DeleteThread = refl
   libraries_served service.ExitDeleteThread = refl
   libraries_served other = refl

@@ -11,7 +11,11 @@ use Rattle.iop_thread.specs.ThreadTable.{ThreadTable, thread_of, is_it, running_
 use Rattle.iop_thread.specs.declared.thread.Thread.{Thread}
 use Rattle.iop_thread.specs.declared.thread.TheConstants.{LOADER}
 use Rattle.iop_kernel.specs.System.{Core, caller, faults, running_registers}
-use Rattle.iop_kernel.specs.Threads.{is_nobody_else, leaves_code, returns_by, returns_module, rotates_own, rotates_to, suspend_thread}
+use Rattle.iop_kernel.specs.Answering.{leaves_code}
+use Rattle.iop_kernel.specs.Naming.{is_nobody_else}
+use Rattle.iop_kernel.specs.Ordering.{rotates_own, rotates_to}
+use Rattle.iop_kernel.specs.Running.{returns_by, returns_module}
+use Rattle.iop_kernel.specs.Waiting.{suspend_thread}
 
 -- by the one that there is
 is_one_of : (o : Option ℕ) (id : ℕ) → option_eq eqb o (Some id) ≡ is_it o id

@@ -17,13 +17,17 @@ use Rattle.iop_thread.specs.Operations as threads
 use Rattle.iop_thread.specs.ThreadTable.{thread_of, has_room}
 use Rattle.iop_thread.specs.declared.param.Param.{Param}
 use Rattle.iop_thread.specs.declared.thread.Thread.{Thread}
-use Rattle.iop_kernel.specs.Making.{Owner, owner_of, on_owner, creates_at, creates_with, creates_from, refers_it, refers_to, refers_at}
+use Rattle.iop_kernel.specs.Creating.{creates_at, creates_with, creates_from}
+use Rattle.iop_kernel.specs.Deleting.{Owner, owner_of, on_owner}
+use Rattle.iop_kernel.specs.Naming.{named}
+use Rattle.iop_kernel.specs.Status.{refers_it, refers_to, refers_at}
 use Rattle.iop_kernel.specs.Serving.{call_of, serves, answers_by, calls_library, calls, services}
 use Rattle.iop_kernel.specs.System.{Core, Left, System, Served, argument, caller, answers_result, silent, after_pieces, on_core, words_place}
-use Rattle.iop_kernel.specs.Threads.{named}
 use Rattle.iop_kernel.specs.declared.after.After.TheVariants.{Resume, Fault}
 use Rattle.iop_kernel.specs.declared.call.Call.{Call}
 use Rattle.iop_kernel.specs.declared.call.Call.TheVariants.{Library, ThreadReturn, ModuleReturn}
+use Rattle.iop_kernel.specs.declared.status.TheConstants.{STATUS_WORDS}
+use Rattle.iop_kernel.specs.declared.creating.TheConstants.{PARAM_WORDS, FROM_ABOVE}
 use Rattle.iop_kernel.proofs.FaultingThreads.{FaultsAlone, resumed, both, exits_alone, returns_alone, serves_core_alone, deletes_alone, exits_by_alone}
 
 -- where a service faults, it leaves all as it was, and gives nothing
@@ -69,7 +73,7 @@ module _ (s : System) where
   creates_with_alone (Err code) = resumes_alone _ refl
   creates_with_alone (Ok param) =
       either_alone (has_room s.core.kernel.threads) _ _
-      (creates_at_alone param (allocating s.blocks 1 param.stack_size 0)) (resumes_alone _ refl)
+      (creates_at_alone param (allocating s.blocks FROM_ABOVE param.stack_size 0)) (resumes_alone _ refl)
 
   -- by the place of the words, if they have one
   creates_alone : (o : Option ℕ) → ServedAlone s (creates_from s o)
@@ -94,9 +98,9 @@ module _ (s : System) where
   -- a service that the libraries do not have
   serves_alone : (x : Service) → ServedAlone s (serves s x)
   unfolding serves
-  serves_alone service.CreateThread = creates_alone (words_place s.memory (argument s.core 0) 5)
+  serves_alone service.CreateThread = creates_alone (words_place s.memory (argument s.core 0) PARAM_WORDS)
   serves_alone service.ReferThreadStatus =
-      refers_alone (argument s.core 0) (words_place s.memory (argument s.core 1) 12)
+      refers_alone (argument s.core 0) (words_place s.memory (argument s.core 1) STATUS_WORDS)
   serves_alone service.DeleteThread =
       on_owner_alone _ (both (owner_of s) _ _ _ (resumed (owner_of s) _)
       (deletes_alone (owner_of s) (threads.deletes s.core.kernel.threads (argument s.core 0))))

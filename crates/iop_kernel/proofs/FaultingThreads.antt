@@ -11,10 +11,13 @@ use Rattle.iop_thread.specs.ThreadTable.{ThreadTable, thread_of, priority_of, is
 use Rattle.iop_thread.specs.declared.thread.Thread.{Thread}
 use Rattle.iop_thread.specs.declared.thread.TheConstants.{LOADER}
 use Rattle.iop_thread.specs.declared.wait.Wait.{Wait}
-use Rattle.iop_kernel.specs.Making.{Owner, deletes_by, exits_deleted, exits_deleted_by}
+use Rattle.iop_kernel.specs.Deleting.{Owner, deletes_by, exits_deleted, exits_deleted_by}
+use Rattle.iop_kernel.specs.Naming.{named, is_nobody_else}
+use Rattle.iop_kernel.specs.Ordering.{answers_change, changes_named, changes_if_priority, after_leaving, rotates_to, rotates_own, rotates_by}
+use Rattle.iop_kernel.specs.Running.{exits_by, returns_by, terminates_by}
+use Rattle.iop_kernel.specs.Waiting.{releases_from, releases_it, sleeps_by, cancels_of}
 use Rattle.iop_kernel.specs.Serving.{serves_core}
 use Rattle.iop_kernel.specs.System.{Core, Left, argument, caller, may_switch, answers_result, faults}
-use Rattle.iop_kernel.specs.Threads.{named, exits_by, returns_by, is_nobody_else, terminates_by, changes_by, changes_to, changes_if, after_leaving, rotates_to, rotates_own, rotates_by, releases_from, releases_it, sleeps_by, cancels_of}
 use Rattle.iop_kernel.specs.declared.after.After.TheVariants.{Resume, Switch, ModuleReturned, Fault}
 
 -- where a call faults, it leaves all as it was
@@ -67,20 +70,20 @@ module _ (c : Core) where
   terminates_alone id (Err code, t) = resumed c _
 
   -- a priority changes, by what that answers
-  changes_by_alone : (r : Result (Option Wait) Code × ThreadTable) → FaultsAlone c (changes_by c r)
-  changes_by_alone (Ok wait, t) = resumed c _
-  changes_by_alone (Err code, t) = resumed c _
+  answers_change_alone : (r : Result (Option Wait) Code × ThreadTable) → FaultsAlone c (answers_change c r)
+  answers_change_alone (Ok wait, t) = resumed c _
+  answers_change_alone (Err code, t) = resumed c _
 
   -- by the thread that is named
-  changes_to_alone : (priority : ℕ) (o : Option ℕ) → FaultsAlone c (changes_to c priority o)
-  changes_to_alone priority None = resumed c _
-  changes_to_alone priority (Some id) =
-      changes_by_alone (threads.changes c.kernel.threads id priority)
+  changes_named_alone : (priority : ℕ) (o : Option ℕ) → FaultsAlone c (changes_named c priority o)
+  changes_named_alone priority None = resumed c _
+  changes_named_alone priority (Some id) =
+      answers_change_alone (threads.changes c.kernel.threads id priority)
 
   -- by whether the word is a priority
-  changes_if_alone : (id : ℕ) (o : Option ℕ) → FaultsAlone c (changes_if c id o)
-  changes_if_alone id None = resumed c _
-  changes_if_alone id (Some priority) = changes_to_alone priority (named (caller c) id)
+  changes_if_priority_alone : (id : ℕ) (o : Option ℕ) → FaultsAlone c (changes_if_priority c id o)
+  changes_if_priority_alone id None = resumed c _
+  changes_if_priority_alone id (Some priority) = changes_named_alone priority (named (caller c) id)
 
   -- a thread left the processor, the one that calls, if one does
   left_alone : (d : Core) (o : Option ℕ)
@@ -133,7 +136,7 @@ module _ (c : Core) where
   serves_core_alone service.DisableDispatchThread = both c c.kernel.interrupts _ _ (resumed c _) (resumed c _)
   serves_core_alone service.EnableDispatchThread = both c c.kernel.interrupts _ _ (resumed c _) (resumed c _)
   serves_core_alone service.ChangeThreadPriority =
-      changes_if_alone (argument c 0) (priority_of_word (argument c 1))
+      changes_if_priority_alone (argument c 0) (priority_of_word (argument c 1))
   serves_core_alone service.RotateThreadReadyQueue =
       rotates_by_alone (argument c 0) (priority_of_word (argument c 0))
   serves_core_alone service.ReleaseWaitThread =

@@ -19,17 +19,21 @@ use Rattle.iop_thread.specs.ThreadTable.{ThreadTable, thread_of, has_room}
 use Rattle.iop_thread.specs.declared.param.Param.{Param}
 use Rattle.iop_thread.specs.declared.thread.Thread.{Thread}
 use Rattle.iop_kernel.specs.Laws.{Follows}
-use Rattle.iop_kernel.specs.Making.{owner_of, on_owner, Owner, creates_on, creates_at, creates_with, creates_from, refers_it, refers_to, refers_at}
+use Rattle.iop_kernel.specs.Creating.{creates_on, creates_at, creates_with, creates_from}
+use Rattle.iop_kernel.specs.Deleting.{owner_of, on_owner, Owner}
+use Rattle.iop_kernel.specs.Naming.{named}
+use Rattle.iop_kernel.specs.Status.{refers_it, refers_to, refers_at}
 use Rattle.iop_kernel.specs.Serving.{call_of, serves, answers_by, calls_library, calls, services}
 use Rattle.iop_kernel.specs.System.{Core, Left, System, Served, argument, caller, opened, with_threads, silent, after_pieces, on_core, words_place}
-use Rattle.iop_kernel.specs.Threads.{named}
 use Rattle.iop_kernel.specs.declared.after.After.{After}
 use Rattle.iop_kernel.specs.declared.after.After.TheVariants.{Resume, Switch, ModuleReturned, Fault}
 use Rattle.iop_kernel.specs.declared.call.Call.{Call}
 use Rattle.iop_kernel.specs.declared.call.Call.TheVariants.{Library, ThreadReturn, ModuleReturn}
+use Rattle.iop_kernel.specs.declared.status.TheConstants.{STATUS_WORDS}
+use Rattle.iop_kernel.specs.declared.creating.TheConstants.{PARAM_WORDS, FROM_ABOVE}
 use Rattle.iop_kernel.proofs.Faulting.{services_alone}
 use Rattle.iop_kernel.proofs.FollowingThreads.{Becomes, CoreBecomes, OwnerBecomes, exits_become, returns_become, result_becomes, serves_core_becomes, delete_becomes, exits_deleted_by_become}
-use Rattle.iop_kernel.proofs.RunningThread.{running_creates}
+use Rattle.iop_thread.proofs.Waits.{moves_waits}
 
 -- what a call leaves where a module returned: interrupts on and dispatch enabled, and nothing given
 abbrev returned : System → System × List Piece
@@ -90,7 +94,7 @@ module _ (s : System) (id : ℕ) (runs : caller s.core ≡ Some id)
       let gp = reg s.core.cpu 28 in
       let made = threads.creates s.core.kernel.threads param stack gp in
       result_becomes id (with_threads s.core made.1) made.0 _ _
-      (running_creates s.core.kernel.threads param stack gp ∙ runs)
+      (((moves_waits s.core.kernel.threads placed).creates param stack gp).running ∙ runs)
 
   -- by what the allocation gave
   creates_at_become : (param : Param) (r : ℕ × BlockMap) → ServedBecomes s id (creates_at s param r)
@@ -102,7 +106,7 @@ module _ (s : System) (id : ℕ) (runs : caller s.core ≡ Some id)
   creates_with_become (Err code) = runs
   creates_with_become (Ok param) =
       either (has_room s.core.kernel.threads) _ _
-      (creates_at_become param (allocating s.blocks 1 param.stack_size 0)) runs
+      (creates_at_become param (allocating s.blocks FROM_ABOVE param.stack_size 0)) runs
 
   -- by the place of the words, if they have one
   creates_become : (o : Option ℕ) → ServedBecomes s id (creates_from s o)
@@ -127,9 +131,9 @@ module _ (s : System) (id : ℕ) (runs : caller s.core ≡ Some id)
   -- a service that the libraries do not have
   serves_becomes : (x : Service) → ServedBecomes s id (serves s x)
   unfolding serves
-  serves_becomes service.CreateThread = creates_become (words_place s.memory (argument s.core 0) 5)
+  serves_becomes service.CreateThread = creates_become (words_place s.memory (argument s.core 0) PARAM_WORDS)
   serves_becomes service.ReferThreadStatus =
-      refers_become (argument s.core 0) (words_place s.memory (argument s.core 1) 12)
+      refers_become (argument s.core 0) (words_place s.memory (argument s.core 1) STATUS_WORDS)
   serves_becomes service.DeleteThread =
       on_owner_becomes _ (delete_becomes (owner_of s) id runs placed (argument s.core 0))
   serves_becomes service.ExitDeleteThread =

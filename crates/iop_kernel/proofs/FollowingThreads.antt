@@ -5,26 +5,30 @@ use Rattle.std.proofs.lemmas.Bool.{cond_both}
 use Rattle.std.proofs.lemmas.Bool.Decides.{nat_tests}
 use Rattle.iop_base.specs.declared.code.Code.{Code}
 use Rattle.iop_base.specs.declared.code.TheConstants.Code.{WAIT_RELEASED}
-use Rattle.iop_exec.specs.declared.cpu.Cpu.{Cpu}
 use Rattle.iop_ready.specs.Priorities.{priority_of as priority_of_word}
 use Rattle.iop_services.specs.declared.service.Service.{Service}
 use Rattle.iop_services.specs.declared.service.Service.TheVariants as service
 use Rattle.iop_thread.specs.Operations as threads
 use Rattle.iop_thread.specs.Placing.{IsPlaced}
 use Rattle.iop_thread.specs.States.{wait_in}
-use Rattle.iop_thread.specs.ThreadTable.{ThreadTable, thread_of, priority_of, is_it, running_thread}
+use Rattle.iop_thread.specs.ThreadTable.{ThreadTable, thread_of, priority_of, is_it, has_priority, running_thread}
+use Rattle.iop_thread.specs.Waits.{MovesWaits}
 use Rattle.iop_thread.specs.declared.thread.Thread.{Thread}
 use Rattle.iop_thread.specs.declared.thread.TheConstants.{LOADER}
 use Rattle.iop_thread.specs.declared.wait.Wait.{Wait}
 use Rattle.iop_thread.specs.declared.wait.Wait.TheVariants.{Sleep}
-use Rattle.iop_thread.proofs.FindingThreads.{none_runs}
-use Rattle.iop_kernel.specs.Making.{Owner, deletes_by, delete_thread, exits_deleted, exits_deleted_by}
+use Rattle.iop_thread.proofs.Placed.{keeps_places}
+use Rattle.iop_thread.proofs.Waits.{moves_waits}
+use Rattle.iop_kernel.specs.Deleting.{Owner, deletes_by, delete_thread, exits_deleted, exits_deleted_by}
+use Rattle.iop_kernel.specs.Naming.{is_nobody_else, named}
+use Rattle.iop_kernel.specs.Ordering.{set_dispatch, answers_change, changes_named, changes_if_priority, after_leaving, rotates_to, rotates_own, rotates_by}
+use Rattle.iop_kernel.specs.Running.{ended, exits_by, returns_by, start_thread, terminates_by, terminate_thread}
+use Rattle.iop_kernel.specs.Waiting.{releases_from, releases_it, release_wait, sleeps_by, sleep_thread, wakeup_thread, cancels_of, suspend_thread, resume_thread}
 use Rattle.iop_kernel.specs.Serving.{serves_core}
 use Rattle.iop_kernel.specs.System.{Core, Left, may_switch, caller, opened, answered, answers_result, argument, code_word}
-use Rattle.iop_kernel.specs.Threads.{ended, exits_by, returns_by, is_nobody_else, start_thread, terminates_by, terminate_thread, set_dispatch, changes_by, changes_to, changes_if, named, has_priority, after_leaving, rotates_to, rotates_own, rotates_by, releases_from, releases_it, release_wait, sleeps_by, sleep_thread, wakeup_thread, cancels_of, suspend_thread, resume_thread}
 use Rattle.iop_kernel.specs.declared.after.After.{After}
 use Rattle.iop_kernel.specs.declared.after.After.TheVariants.{Resume, Switch, ModuleReturned, Fault}
-use Rattle.iop_kernel.proofs.RunningThread.{RunsOn, running_starts, running_deletes, running_terminates, running_changes, running_rotates, running_wakes, running_resumes, running_wakes_up, running_cancels, running_takes_wakeup, running_suspends}
+use Rattle.iop_kernel.proofs.RunningThread.{RunsOn, running_terminates, running_rotates, none_rotates, running_suspends}
 
 -- what has become of the thread of an id, by the threads that are left, and by what is left where a
 -- module returned; of a fault nothing is said here
@@ -44,34 +48,6 @@ OwnerBecomes o id left =
     Becomes left.after id left.state.core.kernel.threads (record o { core = opened o.core })
     left.state
 
-module _ (s : ThreadTable) (id : ℕ) (runs : s.running ≡ Some id) (placed : IsPlaced s) where
-  -- where one runs, it waits, and none runs then
-  none_blocks_it : (wait : Wait) (registers : Cpu) (o : Option Thread) → running_thread s ≡ o
-      → (threads.blocks_it s wait registers o).running ≡ None
-  none_blocks_it wait registers None is = absurd (cc (runs, none_runs s placed is))
-  none_blocks_it wait registers (Some t) is = refl
-
-  -- so after a wait none runs
-  none_blocks : (wait : Wait) (registers : Cpu) → (threads.blocks s wait registers).running ≡ None
-  none_blocks wait registers = none_blocks_it wait registers (running_thread s) refl
-
-  -- or it ends
-  none_ends_it : (o : Option Thread) → running_thread s ≡ o
-      → (threads.ends_it s o).running ≡ None
-  none_ends_it None is = absurd (cc (runs, none_runs s placed is))
-  none_ends_it (Some t) is = refl
-
-  -- nor after an end
-  none_ends : (threads.ends_running s).running ≡ None
-  none_ends = none_ends_it (running_thread s) refl
-
--- or it is put behind the others
-none_rotates_it : (c : Core) (s : ThreadTable) (priority : ℕ) (registers : Cpu) (o : Option Thread)
-    → has_priority c priority o ≡ true
-    → (threads.rotates_it s priority registers o).running ≡ None
-none_rotates_it c s priority registers None own = absurd (cc own)
-none_rotates_it c s priority registers (Some t) own = rw own refl
-
 -- the same one runs, and is answered a word or a code
 pub result_becomes : {S : Type 0} (id : ℕ) (c : Core) (r : Result ℕ Code) (returned left : S)
     → caller c ≡ Some id → let done = answers_result c r in
@@ -82,6 +58,9 @@ result_becomes id c (Err code) returned left on = on
 module _ (c : Core) (id : ℕ) (runs : caller c ≡ Some id) (placed : IsPlaced c.kernel.threads) where
   abbrev table : ThreadTable
   table = c.kernel.threads
+
+  abbrev moves : MovesWaits table
+  moves = moves_waits table placed
 
   -- of two ways, both are so
   either : (b : Bool) (x y : Left Core) → (b ≡ true → CoreBecomes c id x)
@@ -98,7 +77,7 @@ module _ (c : Core) (id : ℕ) (runs : caller c ≡ Some id) (placed : IsPlaced 
   exits_become None is = tt
   exits_become (Some at) is =
       either (at == LOADER) _ _ (λ loader. (is_loader at is loader, refl))
-      (λ other. none_ends table id runs placed)
+      (λ other. moves.ends_running.running)
 
   -- its module returns
   pub returns_become : (o : Option ℕ) → caller c ≡ o → CoreBecomes c id (returns_by c o)
@@ -110,7 +89,7 @@ module _ (c : Core) (id : ℕ) (runs : caller c ≡ Some id) (placed : IsPlaced 
   start_becomes : (at argument : ℕ) → CoreBecomes c id (start_thread c at argument)
   start_becomes at argument =
       either (at == 0 || at == LOADER) _ _ (λ refused. runs)
-      (λ other. running_starts table at argument ∙ runs)
+      (λ other. (moves.starts at argument).running ∙ runs)
 
   -- another thread is ended, by what that answers
   terminates_become : (at : ℕ) (r : Result (Option Wait) Code × ThreadTable) → RunsOn table r.1
@@ -130,21 +109,21 @@ module _ (c : Core) (id : ℕ) (runs : caller c ≡ Some id) (placed : IsPlaced 
   set_becomes enabled = either c.kernel.interrupts _ _ (λ on. runs) (λ off. runs)
 
   -- a priority changes, by what the change answers
-  changes_by_become : (r : Result (Option Wait) Code × ThreadTable) → RunsOn table r.1
-      → CoreBecomes c id (changes_by c r)
-  changes_by_become (Err code, t) on = runs
-  changes_by_become (Ok wait, t) on = on ∙ runs
+  answers_change_become : (r : Result (Option Wait) Code × ThreadTable) → RunsOn table r.1
+      → CoreBecomes c id (answers_change c r)
+  answers_change_become (Err code, t) on = runs
+  answers_change_become (Ok wait, t) on = on ∙ runs
 
   -- by the thread that is named
-  changes_to_become : (priority : ℕ) (o : Option ℕ) → CoreBecomes c id (changes_to c priority o)
-  changes_to_become priority None = runs
-  changes_to_become priority (Some at) =
-      changes_by_become (threads.changes table at priority) (running_changes table at priority)
+  changes_named_become : (priority : ℕ) (o : Option ℕ) → CoreBecomes c id (changes_named c priority o)
+  changes_named_become priority None = runs
+  changes_named_become priority (Some at) =
+      answers_change_become (threads.changes table at priority) (moves.changes at priority).running
 
   -- by whether the word is a priority
-  changes_if_become : (at : ℕ) (o : Option ℕ) → CoreBecomes c id (changes_if c at o)
-  changes_if_become at None = runs
-  changes_if_become at (Some priority) = changes_to_become priority (named (caller c) at)
+  changes_if_priority_become : (at : ℕ) (o : Option ℕ) → CoreBecomes c id (changes_if_priority c at o)
+  changes_if_priority_become at None = runs
+  changes_if_priority_become at (Some priority) = changes_named_become priority (named (caller c) at)
 
   -- a thread that calls does not go on where none runs
   left_becomes : (d : Core) (o : Option ℕ) → caller c ≡ o → caller d ≡ None
@@ -156,13 +135,12 @@ module _ (c : Core) (id : ℕ) (runs : caller c ≡ Some id) (placed : IsPlaced 
   rotates_become : (priority : ℕ) → CoreBecomes c id (rotates_to c priority)
   rotates_become priority =
       let registers = (answered c 0).cpu in
-      either (not (has_priority c priority (running_thread table))) _ _
+      either (not (has_priority priority (running_thread table))) _ _
       (λ other.
-      running_rotates table c priority registers (grind (arith, nat_tests, other)) ∙ runs)
+      running_rotates table placed priority registers (grind (arith, nat_tests, other)) ∙ runs)
       (λ own. either (may_switch c.kernel) _ _
       (λ may. left_becomes _ (caller c) refl
-      (none_rotates_it c table priority registers (running_thread table)
-      (grind (arith, nat_tests, own))))
+      (none_rotates table placed priority registers (grind (arith, nat_tests, own))))
       (λ may_not. runs))
 
   -- those of the priority of the thread that calls
@@ -179,7 +157,7 @@ module _ (c : Core) (id : ℕ) (runs : caller c ≡ Some id) (placed : IsPlaced 
   -- a wait ends, if there is one
   releases_from_become : (at : ℕ) (o : Option Wait) → CoreBecomes c id (releases_from c at o)
   releases_from_become at None = runs
-  releases_from_become at (Some wait) = running_wakes table at (code_word WAIT_RELEASED) ∙ runs
+  releases_from_become at (Some wait) = (moves.wakes at (code_word WAIT_RELEASED)).running ∙ runs
 
   -- by the thread that is found
   releases_it_become : (o : Option Thread) → CoreBecomes c id (releases_it c o)
@@ -195,26 +173,26 @@ module _ (c : Core) (id : ℕ) (runs : caller c ≡ Some id) (placed : IsPlaced 
   -- the thread that calls waits, unless there is a wakeup
   sleeps_become : (r : Bool × ThreadTable) → RunsOn table r.1 → CoreBecomes c id (sleeps_by c r)
   sleeps_become (true, t) on = on ∙ runs
-  sleeps_become (false, t) on = none_blocks table id runs placed Sleep c.cpu
+  sleeps_become (false, t) on = (moves.blocks Sleep c.cpu).running
 
   -- it sleeps, where another may run
   sleep_becomes : CoreBecomes c id (sleep_thread c)
   sleep_becomes =
       either (may_switch c.kernel) _ _
-      (λ may. sleeps_become (threads.takes_wakeup table) (running_takes_wakeup table))
+      (λ may. sleeps_become (threads.takes_wakeup table) moves.takes_wakeup.running)
       (λ may_not. runs)
 
   -- a thread is woken
   wakeup_becomes : (at : ℕ) → CoreBecomes c id (wakeup_thread c at)
   wakeup_becomes at =
       either (is_nobody_else c at) _ _ (λ refused. runs)
-      (λ other. running_wakes_up table at ∙ runs)
+      (λ other. (moves.wakes_up at).running ∙ runs)
 
   -- wakeups are forgotten
   cancels_become : (o : Option ℕ) → CoreBecomes c id (cancels_of c o)
   cancels_become None = runs
   cancels_become (Some at) =
-      result_becomes id _ (threads.cancels table at).0 _ _ (running_cancels table at ∙ runs)
+      result_becomes id _ (threads.cancels table at).0 _ _ ((moves.cancels at).running ∙ runs)
 
   -- a thread is suspended, unless it is the one that calls
   suspend_becomes : (at : ℕ) → CoreBecomes c id (suspend_thread c at)
@@ -222,13 +200,13 @@ module _ (c : Core) (id : ℕ) (runs : caller c ≡ Some id) (placed : IsPlaced 
       either (is_nobody_else c at) _ _ (λ refused. runs) (λ other.
       let it : is_it (caller c) at ≡ false = grind (arith, nat_tests, other) in
       either (is_it (caller c) at && not c.kernel.dispatching) _ _ (λ cannot. runs)
-      (λ can. running_suspends table placed at it c.cpu ∙ runs))
+      (λ can. running_suspends table placed at c.cpu it ∙ runs))
 
   -- a thread is resumed
   resume_becomes : (at : ℕ) → CoreBecomes c id (resume_thread c at)
   resume_becomes at =
       either (is_nobody_else c at) _ _ (λ refused. runs)
-      (λ other. running_resumes table at ∙ runs)
+      (λ other. (moves.resumes at).running ∙ runs)
 
   -- each service that looks at threads alone
   pub serves_core_becomes : (x : Service) → CoreBecomes c id (serves_core c x)
@@ -239,7 +217,7 @@ module _ (c : Core) (id : ℕ) (runs : caller c ≡ Some id) (placed : IsPlaced 
   serves_core_becomes service.DisableDispatchThread = set_becomes false
   serves_core_becomes service.EnableDispatchThread = set_becomes true
   serves_core_becomes service.ChangeThreadPriority =
-      changes_if_become (argument c 0) (priority_of_word (argument c 1))
+      changes_if_priority_become (argument c 0) (priority_of_word (argument c 1))
   serves_core_becomes service.RotateThreadReadyQueue =
       rotates_by_become (argument c 0) (priority_of_word (argument c 0))
   serves_core_becomes service.ReleaseWaitThread = release_becomes (argument c 0)
@@ -253,6 +231,13 @@ module _ (c : Core) (id : ℕ) (runs : caller c ≡ Some id) (placed : IsPlaced 
 
 module _ (o : Owner) (id : ℕ) (runs : caller o.core ≡ Some id)
     (placed : IsPlaced o.core.kernel.threads) where
+  abbrev owned : MovesWaits o.core.kernel.threads
+  owned = moves_waits o.core.kernel.threads placed
+
+  -- the threads stay placed when the one that calls ends
+  ended_placed : IsPlaced (ended o.core).kernel.threads
+  ended_placed = (keeps_places o.core.kernel.threads placed).ends_running
+
   -- a dormant thread is deleted, by what that answers
   deletes_become : (r : Result ℕ Code × ThreadTable) → RunsOn o.core.kernel.threads r.1
       → OwnerBecomes o id (deletes_by o r)
@@ -264,13 +249,13 @@ module _ (o : Owner) (id : ℕ) (runs : caller o.core ≡ Some id)
   delete_becomes at =
       cond_both (at == 0 || at == LOADER) _ _ (OwnerBecomes o id) (λ refused. runs)
       (λ other. deletes_become (threads.deletes o.core.kernel.threads at)
-      (running_deletes o.core.kernel.threads at))
+      (owned.deletes at).running)
 
   -- the thread that calls has ended, and is deleted
   exits_deleted_become : (r : Result ℕ Code × ThreadTable)
       → RunsOn (ended o.core).kernel.threads r.1 → OwnerBecomes o id (exits_deleted o r)
-  exits_deleted_become (Ok stack, t) on = on ∙ none_ends o.core.kernel.threads id runs placed
-  exits_deleted_become (Err code, t) on = none_ends o.core.kernel.threads id runs placed
+  exits_deleted_become (Ok stack, t) on = on ∙ owned.ends_running.running
+  exits_deleted_become (Err code, t) on = owned.ends_running.running
 
   -- by the thread that calls
   pub exits_deleted_by_become : (who : Option ℕ) → caller o.core ≡ who
@@ -280,4 +265,5 @@ module _ (o : Owner) (id : ℕ) (runs : caller o.core ≡ Some id)
       let left = (ended o.core).kernel.threads in
       cond_both (at == LOADER) _ _ (OwnerBecomes o id)
       (λ loader. (is_loader o.core id runs placed at is loader, refl))
-      (λ other. exits_deleted_become (threads.deletes left at) (running_deletes left at))
+      (λ other. exits_deleted_become (threads.deletes left at)
+      ((moves_waits left ended_placed).deletes at).running)

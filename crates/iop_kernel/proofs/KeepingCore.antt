@@ -3,14 +3,16 @@ use Rattle.std.proofs.Common.{◌≡◌, ℕ, Bool, true, false, if◌then◌els
 use Rattle.std.proofs.lemmas.Bool.{cond_both}
 use Rattle.iop_base.specs.declared.code.Code.{Code}
 use Rattle.iop_thread.specs.Laws.{AreStraight, KeepsPlaces, KeepsStraight}
+use Rattle.iop_thread.specs.Waits.{MovesWaits}
 use Rattle.iop_thread.specs.Placing.{IsPlaced}
 use Rattle.iop_thread.specs.ThreadTable.{ThreadTable}
 use Rattle.iop_thread.proofs.Placed.{keeps_places}
 use Rattle.iop_kernel.specs.Laws.{IsCore}
 use Rattle.iop_kernel.specs.System.{Core, Left, may_switch, caller, with_threads, opened, answered, answers_result, code_word}
-use Rattle.iop_kernel.specs.Threads.{ended}
+use Rattle.iop_kernel.specs.Running.{ended}
 use Rattle.iop_kernel.proofs.RunningThread.{RunsOn}
 use Rattle.iop_thread.proofs.Straight.{keeps_straight}
+use Rattle.iop_thread.proofs.Waits.{moves_waits}
 
 -- what a service keeps of the kernel and its processor
 pub record CoreKeeps (c d : Core) : Type 0 where
@@ -84,6 +86,10 @@ places c h = keeps_places c.kernel.threads h.placed
 -- and straight
 abbrev pub straights : (c : Core) → IsCore c → KeepsStraight c.kernel.threads
 straights c h = keeps_straight c.kernel.threads h.threads
+
+-- what an operation does to their waits, and which one runs
+abbrev pub moves : (c : Core) → IsCore c → MovesWaits c.kernel.threads
+moves c h = moves_waits c.kernel.threads h.placed
 
 -- the thread that runs ends
 pub ended_keeps : (c : Core) → CoreKeeps c (ended c)

@@ -11,7 +11,7 @@ use Rattle.iop_thread.specs.States.{wait_in}
 use Rattle.iop_thread.specs.declared.thread.Thread.{Thread}
 use Rattle.iop_thread.specs.declared.wait.Wait.{Wait}
 use Rattle.iop_kernel.specs.Laws.{Writes}
-use Rattle.iop_kernel.specs.Making.{bytes_of_words, status_bytes, status_words, wait_words}
+use Rattle.iop_kernel.specs.Status.{bytes_of_words, status_bytes, status_words, wait_words}
 use Rattle.iop_kernel.specs.System.{System, storing_lines, words_place}
 
 -- nothing is stored

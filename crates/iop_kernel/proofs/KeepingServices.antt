@@ -27,15 +27,20 @@ use Rattle.iop_thread.specs.declared.param.Param.{Param}
 use Rattle.iop_thread.specs.declared.thread.Thread.{Thread}
 use Rattle.iop_thread.specs.declared.thread.TheConstants.{LOADER}
 use Rattle.iop_kernel.specs.Laws.{IsCore, AreKept, Writes, ServicesKeep}
-use Rattle.iop_kernel.specs.Making.{Owner, owner_of, on_owner, with_blocks, only_answers, creates_on, creates_at, creates_with, creates_from, refers_it, refers_to, refers_at, status_bytes, deletes_by, delete_thread, exits_deleted, exits_deleted_by}
+use Rattle.iop_kernel.specs.Answering.{only_answers}
+use Rattle.iop_kernel.specs.Creating.{creates_on, creates_at, creates_with, creates_from}
+use Rattle.iop_kernel.specs.Deleting.{Owner, owner_of, on_owner, with_blocks, deletes_by, delete_thread, exits_deleted, exits_deleted_by}
+use Rattle.iop_kernel.specs.Naming.{named}
+use Rattle.iop_kernel.specs.Running.{ended}
+use Rattle.iop_kernel.specs.Status.{refers_it, refers_to, refers_at, status_bytes}
 use Rattle.iop_kernel.specs.Serving.{call_of, serves, answers_by, calls_library, calls}
 use Rattle.iop_kernel.specs.System.{Core, Left, System, Served, argument, caller, code_word, with_threads, faults, silent, after_pieces, on_core, words_place}
-use Rattle.iop_kernel.specs.Threads.{named, ended}
 use Rattle.iop_kernel.specs.declared.call.Call.{Call}
 use Rattle.iop_kernel.specs.declared.call.Call.TheVariants.{Library, ThreadReturn, ModuleReturn}
+use Rattle.iop_kernel.specs.declared.status.TheConstants.{STATUS_WORDS}
+use Rattle.iop_kernel.specs.declared.creating.TheConstants.{PARAM_WORDS, FROM_ABOVE}
 use Rattle.iop_kernel.proofs.Following.{services_follow}
-use Rattle.iop_kernel.proofs.RunningThread.{running_creates, running_deletes}
-use Rattle.iop_kernel.proofs.KeepingCore.{CoreKeeps, Keeps, keeps_then, nothing_changes, only_answered, opened_keeps, CanStand, with_them, places, straights, ended_keeps, answers_keep, GoOn, goes_on, answers_on}
+use Rattle.iop_kernel.proofs.KeepingCore.{CoreKeeps, Keeps, keeps_then, nothing_changes, only_answered, opened_keeps, CanStand, with_them, places, straights, moves, ended_keeps, answers_keep, GoOn, goes_on, answers_on}
 use Rattle.iop_kernel.proofs.KeepingThreads.{exits_keep, returns_keep, serves_core_keeps}
 use Rattle.iop_kernel.proofs.KeepingBlocks.{same_blocks, kept_then, allocating_keeps, freeing_keeps, row_keeps}
 use Rattle.iop_kernel.proofs.KeepingMemory.{nothing_stored, bytes_stored, range_inside, words_inside, length-status_bytes}
@@ -73,7 +78,7 @@ module _ (o : Owner) (id : ℕ) (runs : caller o.core ≡ Some id) where
       (λ other. deletes_by_keeps (threads.deletes o.core.kernel.threads at) (λ h. record {
         placed = (places o.core h).deletes at;
         straight = (straights o.core h).deletes at;
-        on = running_deletes o.core.kernel.threads at;
+        on = ((moves o.core h).deletes at).running;
       }))
 
   -- the thread that calls has ended, and is deleted
@@ -154,7 +159,7 @@ module _ (s : System) (id : ℕ) (runs : caller s.core ≡ Some id) where
       (goes_on s.core id runs made.1 (λ h. record {
         placed = (places s.core h).creates param stack gp;
         straight = (straights s.core h).creates param stack gp;
-        on = running_creates s.core.kernel.threads param stack gp;
+        on = ((moves s.core h).creates param stack gp).running;
       })) in
       record {
         core = core.core;
@@ -177,8 +182,8 @@ module _ (s : System) (id : ℕ) (runs : caller s.core ≡ Some id) where
   creates_with_keeps (Err code) = only_answers_keeps s code
   creates_with_keeps (Ok param) =
       cond_both (has_room s.core.kernel.threads) _ _ (SystemKeeps s)
-      (λ room. creates_at_keeps param (allocating s.blocks 1 param.stack_size 0)
-      (allocating_keeps s.blocks 1 param.stack_size 0))
+      (λ room. creates_at_keeps param (allocating s.blocks FROM_ABOVE param.stack_size 0)
+      (allocating_keeps s.blocks FROM_ABOVE param.stack_size 0))
       (λ full. only_answers_keeps s NO_MEMORY)
 
   -- a thread is made of the words at a place, if they have one
@@ -217,10 +222,10 @@ module _ (s : System) (id : ℕ) (runs : caller s.core ≡ Some id) where
   -- a service that the libraries do not have
   serves_keep : (x : Service) → SystemKeeps s (serves s x)
   unfolding serves
-  serves_keep service.CreateThread = creates_keep (words_place s.memory (argument s.core 0) 5)
+  serves_keep service.CreateThread = creates_keep (words_place s.memory (argument s.core 0) PARAM_WORDS)
   serves_keep service.ReferThreadStatus =
       let at = argument s.core 1 in
-      refers_keep (argument s.core 0) (words_place s.memory at 12) (words_inside s.memory at 12)
+      refers_keep (argument s.core 0) (words_place s.memory at STATUS_WORDS) (words_inside s.memory at STATUS_WORDS)
   serves_keep service.DeleteThread =
       on_owner_keeps s _ (delete_keeps (owner_of s) id runs (argument s.core 0))
   serves_keep service.ExitDeleteThread =

@@ -8,8 +8,9 @@ use Rattle.iop_ready.specs.Priorities.{priority_of as priority_of_word}
 use Rattle.iop_services.specs.declared.service.Service.{Service}
 use Rattle.iop_services.specs.declared.service.Service.TheVariants as service
 use Rattle.iop_thread.specs.Operations as threads
+use Rattle.iop_thread.specs.Placing.{IsPlaced}
 use Rattle.iop_thread.specs.States.{wait_in}
-use Rattle.iop_thread.specs.ThreadTable.{ThreadTable, thread_of, priority_of, is_it, running_thread}
+use Rattle.iop_thread.specs.ThreadTable.{ThreadTable, thread_of, priority_of, is_it, has_priority, running_thread}
 use Rattle.iop_thread.specs.declared.thread.Thread.{Thread}
 use Rattle.iop_thread.specs.declared.thread.TheConstants.{LOADER}
 use Rattle.iop_thread.specs.declared.wait.Wait.{Wait}
@@ -17,9 +18,12 @@ use Rattle.iop_thread.specs.declared.wait.Wait.TheVariants.{Sleep}
 use Rattle.iop_kernel.specs.Laws.{IsCore}
 use Rattle.iop_kernel.specs.Serving.{serves_core}
 use Rattle.iop_kernel.specs.System.{Core, may_switch, caller, with_threads, opened, answered, argument, code_word}
-use Rattle.iop_kernel.specs.Threads.{exits_by, returns_by, is_nobody_else, start_thread, terminates_by, terminate_thread, set_dispatch, changes_by, changes_to, changes_if, change_priority, named, has_priority, rotates_to, rotates_own, rotates_by, releases_from, releases_it, release_wait, sleeps_by, sleep_thread, wakeup_thread, cancels_of, suspend_thread, resume_thread, waits}
-use Rattle.iop_kernel.proofs.RunningThread.{running_starts, running_terminates, running_changes, running_rotates, running_wakes, running_resumes, running_wakes_up, running_cancels, running_takes_wakeup, running_suspends}
-use Rattle.iop_kernel.proofs.KeepingCore.{CoreKeeps, Keeps, keeps_both, nothing_changes, keeps_then, only_answered, opened_keeps, with_them, places, straights, ended_keeps, answers_keep, GoOn, awake_on, goes_on, answers_on}
+use Rattle.iop_kernel.specs.Naming.{is_nobody_else, named}
+use Rattle.iop_kernel.specs.Ordering.{set_dispatch, answers_change, changes_named, changes_if_priority, change_priority, rotates_to, rotates_own, rotates_by}
+use Rattle.iop_kernel.specs.Running.{exits_by, returns_by, start_thread, terminates_by, terminate_thread}
+use Rattle.iop_kernel.specs.Waiting.{releases_from, releases_it, release_wait, sleeps_by, sleep_thread, wakeup_thread, cancels_of, suspend_thread, resume_thread, waits}
+use Rattle.iop_kernel.proofs.RunningThread.{running_terminates, running_rotates, running_suspends}
+use Rattle.iop_kernel.proofs.KeepingCore.{CoreKeeps, Keeps, keeps_both, nothing_changes, keeps_then, only_answered, opened_keeps, with_them, places, straights, moves, ended_keeps, answers_keep, GoOn, awake_on, goes_on, answers_on}
 
 -- the thread that calls ends
 pub exits_keep : (c : Core) (o : Option ℕ) → Keeps c (exits_by c o)
@@ -41,7 +45,7 @@ module _ (c : Core) (id : ℕ) (runs : caller c ≡ Some id) where
       (λ other. answers_on c id runs _ _ (λ h. record {
         placed = (places c h).starts at argument;
         straight = (straights c h).starts at argument;
-        on = running_starts c.kernel.threads at argument;
+        on = ((moves c h).starts at argument).running;
       }))
 
   -- the thread of another id ends
@@ -81,52 +85,53 @@ module _ (c : Core) (id : ℕ) (runs : caller c ≡ Some id) where
       (λ off. only_answered c _)
 
   -- a priority changes, by what the change answers
-  changes_by_keeps : (r : Result (Option Wait) Code × ThreadTable) → (IsCore c → GoOn c r.1)
-      → Keeps c (changes_by c r)
-  changes_by_keeps (Err code, t) go = only_answered c _
-  changes_by_keeps (Ok wait, t) go = answers_on c id runs t _ go
+  answers_change_keeps : (r : Result (Option Wait) Code × ThreadTable) → (IsCore c → GoOn c r.1)
+      → Keeps c (answers_change c r)
+  answers_change_keeps (Err code, t) go = only_answered c _
+  answers_change_keeps (Ok wait, t) go = answers_on c id runs t _ go
 
   -- by the thread that is named
-  changes_to_keeps : (priority : ℕ) (o : Option ℕ) → Keeps c (changes_to c priority o)
-  changes_to_keeps priority None = only_answered c _
-  changes_to_keeps priority (Some at) =
-      changes_by_keeps (threads.changes c.kernel.threads at priority) (λ h. record {
+  changes_named_keeps : (priority : ℕ) (o : Option ℕ) → Keeps c (changes_named c priority o)
+  changes_named_keeps priority None = only_answered c _
+  changes_named_keeps priority (Some at) =
+      answers_change_keeps (threads.changes c.kernel.threads at priority) (λ h. record {
         placed = (places c h).changes at priority;
         straight = (straights c h).changes at priority;
-        on = running_changes c.kernel.threads at priority;
+        on = ((moves c h).changes at priority).running;
       })
 
   -- by whether the word is a priority
-  changes_if_keeps : (at : ℕ) (o : Option ℕ) → Keeps c (changes_if c at o)
-  changes_if_keeps at None = only_answered c _
-  changes_if_keeps at (Some priority) = changes_to_keeps priority (named (caller c) at)
+  changes_if_priority_keeps : (at : ℕ) (o : Option ℕ) → Keeps c (changes_if_priority c at o)
+  changes_if_priority_keeps at None = only_answered c _
+  changes_if_priority_keeps at (Some priority) = changes_named_keeps priority (named (caller c) at)
 
   -- a priority changes
   change_keeps : (at priority : ℕ) → Keeps c (change_priority c at priority)
-  change_keeps at priority = changes_if_keeps at (priority_of_word priority)
+  change_keeps at priority = changes_if_priority_keeps at (priority_of_word priority)
 
   -- the ready threads of a priority are rotated, where the same thread runs or another may
   abbrev rotated : ℕ → ThreadTable
   rotated priority = threads.rotates c.kernel.threads priority (answered c 0).cpu
 
   rotated_keeps : (priority : ℕ)
-      → ((rotated priority).running ≡ None → may_switch c.kernel ≡ true)
+      → (IsPlaced c.kernel.threads → (rotated priority).running ≡ None → may_switch c.kernel ≡ true)
       → CoreKeeps c (with_threads (answered c 0) (rotated priority))
   rotated_keeps priority awake =
       keeps_then (only_answered c 0) (with_them (answered c 0) (rotated priority) (λ h. record {
-        placed = (places (answered c 0) h).rotates priority (answered c 0).cpu;
+        placed = (places (answered c 0) h).rotates priority (answered c 0).cpu tt;
         straight = (straights (answered c 0) h).rotates priority (answered c 0).cpu h.straight;
-        awake = awake;
+        awake = awake h.placed;
       }))
 
   -- the threads of a priority are rotated
   rotates_keep : (priority : ℕ) → Keeps c (rotates_to c priority)
   rotates_keep priority =
-      keeps_both c (not (has_priority c priority (running_thread c.kernel.threads))) _ _
-      (λ other. rotated_keeps priority (awake_on c id runs (rotated priority)
-      (running_rotates c.kernel.threads c priority (answered c 0).cpu
+      keeps_both c (not (has_priority priority (running_thread c.kernel.threads))) _ _
+      (λ other. rotated_keeps priority (λ placed. awake_on c id runs (rotated priority)
+      (running_rotates c.kernel.threads placed priority (answered c 0).cpu
       (grind (arith, nat_tests, other)))))
-      (λ same. keeps_both c (may_switch c.kernel) _ _ (λ may. rotated_keeps priority (λ none. may))
+      (λ same. keeps_both c (may_switch c.kernel) _ _
+      (λ may. rotated_keeps priority (λ placed none. may))
       (λ may_not. only_answered c 0))
 
   -- those of the priority of the thread that calls
@@ -148,7 +153,7 @@ module _ (c : Core) (id : ℕ) (runs : caller c ≡ Some id) where
       answers_on c id runs _ _ (λ h. record {
         placed = (places c h).wakes at (code_word WAIT_RELEASED);
         straight = (straights c h).wakes at (code_word WAIT_RELEASED);
-        on = running_wakes c.kernel.threads at (code_word WAIT_RELEASED);
+        on = ((moves c h).wakes at (code_word WAIT_RELEASED)).running;
       })
 
   -- by the thread that is found
@@ -165,8 +170,8 @@ module _ (c : Core) (id : ℕ) (runs : caller c ≡ Some id) where
   -- the thread that calls waits, where another may run
   waits_keep : (wait : Wait) → may_switch c.kernel ≡ true → Keeps c (waits c wait)
   waits_keep wait may = with_them c (threads.blocks c.kernel.threads wait c.cpu) (λ h. record {
-    placed = (places c h).blocks wait c.cpu;
-    straight = (straights c h).blocks wait c.cpu h.straight;
+    placed = (places c h).blocks wait c.cpu tt tt;
+    straight = (straights c h).blocks wait c.cpu h.straight tt;
     awake = λ none. may;
   })
 
@@ -183,7 +188,7 @@ module _ (c : Core) (id : ℕ) (runs : caller c ≡ Some id) where
       (λ may. sleeps_keep may (threads.takes_wakeup c.kernel.threads) (λ h. record {
         placed = (places c h).takes_wakeup;
         straight = (straights c h).takes_wakeup;
-        on = running_takes_wakeup c.kernel.threads;
+        on = (moves c h).takes_wakeup.running;
       }))
       (λ may_not. only_answered c _)
 
@@ -194,7 +199,7 @@ module _ (c : Core) (id : ℕ) (runs : caller c ≡ Some id) where
       (λ other. answers_on c id runs _ _ (λ h. record {
         placed = (places c h).wakes_up at;
         straight = (straights c h).wakes_up at;
-        on = running_wakes_up c.kernel.threads at;
+        on = ((moves c h).wakes_up at).running;
       }))
 
   -- wakeups are forgotten
@@ -205,7 +210,7 @@ module _ (c : Core) (id : ℕ) (runs : caller c ≡ Some id) where
       answers_keep c (with_threads c done.1) done.0 (goes_on c id runs done.1 (λ h. record {
         placed = (places c h).cancels at;
         straight = (straights c h).cancels at;
-        on = running_cancels c.kernel.threads at;
+        on = ((moves c h).cancels at).running;
       }))
 
   -- a thread is suspended, unless it is the one that calls
@@ -216,9 +221,9 @@ module _ (c : Core) (id : ℕ) (runs : caller c ≡ Some id) where
       keeps_both c (is_it (caller c) at && not c.kernel.dispatching) _ _
       (λ cannot. only_answered c _)
       (λ can. answers_on c id runs _ _ (λ h. record {
-        placed = (places c h).suspends at c.cpu;
+        placed = (places c h).suspends at c.cpu tt;
         straight = (straights c h).suspends at c.cpu h.straight;
-        on = running_suspends c.kernel.threads h.placed at it c.cpu;
+        on = running_suspends c.kernel.threads h.placed at c.cpu it;
       })))
 
   -- a thread is resumed
@@ -228,7 +233,7 @@ module _ (c : Core) (id : ℕ) (runs : caller c ≡ Some id) where
       (λ other. answers_on c id runs _ _ (λ h. record {
         placed = (places c h).resumes at;
         straight = (straights c h).resumes at;
-        on = running_resumes c.kernel.threads at;
+        on = ((moves c h).resumes at).running;
       }))
 
   -- each service that looks at threads alone

@@ -9,7 +9,8 @@ use Rattle.iop_sysmem.proofs.Changing.{taken_is_free}
 use Rattle.iop_sysmem.proofs.Finding.{allocates}
 use Rattle.iop_thread.specs.declared.param.Param.{Param}
 use Rattle.iop_kernel.specs.System.{System}
-use Rattle.iop_kernel.specs.Making.{only_answers, creates_on, creates_at}
+use Rattle.iop_kernel.specs.Answering.{only_answers}
+use Rattle.iop_kernel.specs.Creating.{creates_on, creates_at}
 
 module _ (map : BlockMap) (blocks : AreBlocks map) (mode size at stack : ℕ)
     (answered : stack ≡ (allocating map mode size at).0) where

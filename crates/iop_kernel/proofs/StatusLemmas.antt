@@ -4,8 +4,9 @@ use Rattle.iop_base.specs.declared.code.TheConstants.Code.{OK}
 use Rattle.iop_thread.specs.ThreadTable.{thread_of}
 use Rattle.iop_thread.specs.declared.thread.Thread.{Thread}
 use Rattle.iop_kernel.specs.System.{System, Served, caller, answers, on_core, words_place, stores, storing_lines}
-use Rattle.iop_kernel.specs.Threads.{named}
-use Rattle.iop_kernel.specs.Making.{status_words, bytes_of_words, refers_it, refers_to, refers_at, refer_thread_status}
+use Rattle.iop_kernel.specs.Naming.{named}
+use Rattle.iop_kernel.specs.Status.{status_words, bytes_of_words, refers_it, refers_to, refers_at, refer_thread_status}
+use Rattle.iop_kernel.specs.declared.status.TheConstants.{STATUS_WORDS}
 
 -- bytes are written at a place, and the call is answered
 abbrev pub writes_bytes : System → (place : ℕ) → (bytes : List ℕ) → Served
@@ -21,7 +22,7 @@ module _ (s : System) (place : ℕ) (t : Thread) where
   refers_by_bytes words bytes told is = rw (is, told) refl
 
   -- it is that of the thread which the id names
-  pub refers_named : (id at one : ℕ) → Some place ≡ words_place s.memory at 12
+  pub refers_named : (id at one : ℕ) → Some place ≡ words_place s.memory at STATUS_WORDS
       → Some one ≡ named (caller s.core) id → Some t ≡ thread_of s.core.kernel.threads.live one
       → refers_it s place (Some t) ≡ refer_thread_status s id at
   refers_named id at one stands names lives =

@@ -8,8 +8,9 @@ use Rattle.iop_thread.specs.States.{wait_in, kind_number, object_of}
 use Rattle.iop_thread.specs.declared.thread.Thread.{Thread}
 use Rattle.iop_thread.specs.declared.wait.Wait.{Wait}
 use Rattle.iop_kernel.specs.Laws.{HasStatus, StatusIsRead}
-use Rattle.iop_kernel.specs.Making.{bytes_of_words, wait_words, status_words, status_bytes}
+use Rattle.iop_kernel.specs.Status.{bytes_of_words, wait_words, status_words, status_bytes}
 use Rattle.iop_kernel.specs.System.{Served}
+use Rattle.iop_kernel.specs.declared.status.TheConstants.{STATUS_WORDS}
 use Rattle.iop_kernel.proofs.KeepingMemory.{words_inside, length-status_bytes}
 use Rattle.iop_kernel.proofs.StatusLemmas.{refers_named}
 use Rattle.iop_kernel.proofs.WordBytes.{length-bytes_of_words}
@@ -93,4 +94,4 @@ pub status_is_read : StatusIsRead
 status_is_read s id at place one t stands names lives small =
     subst (λ (d : Served). HasStatus d.left.state.memory.ram place t)
     (refers_named s place t id at one (sym stands) (sym names) (sym lives))
-    (status_stands s.memory.ram place t (words_inside s.memory at 12 place stands) small)
+    (status_stands s.memory.ram place t (words_inside s.memory at STATUS_WORDS place stands) small)

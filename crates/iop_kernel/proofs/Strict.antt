@@ -42,7 +42,7 @@ module _ (c : Core) (core : IsCore c) (d : threads.Dispatch)
       let straight = keeps.dispatches c.cpu d core.straight is in
       record {
         core = record {
-          placed = (keeps_places c.kernel.threads core.placed).dispatches c.cpu d is;
+          placed = ((keeps_places c.kernel.threads core.placed).dispatches c.cpu d tt is).0;
           awake = λ none. absurd (cc (switches_so.runs, none));
           straight = straight.1;
           threads = straight.0;

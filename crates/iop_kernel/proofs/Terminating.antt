@@ -6,7 +6,7 @@ use Rattle.iop_base.specs.declared.code.TheConstants.Code.{OK}
 use Rattle.iop_thread.specs.ThreadTable.{ThreadTable, is_it}
 use Rattle.iop_thread.specs.declared.wait.Wait.{Wait}
 use Rattle.iop_kernel.specs.System.{Core, with_threads, opened, answers}
-use Rattle.iop_kernel.specs.Threads.{terminates_by}
+use Rattle.iop_kernel.specs.Running.{terminates_by}
 
 -- where the thread that is ended ran, interrupts are on and dispatch is enabled
 pub terminates_running : (c : Core) (id : ℕ) (did : Result (Option Wait) Code × ThreadTable)

@@ -1,6 +1,6 @@
--- Dispatch (ps2sdk: thbase). That the running thread gives way to one of a strictly smaller priority
--- number alone, and is then the first of the ready ones, is this project's own profile.
-use Rattle.std.specs.Prelude.{if◌then◌else◌, Option, Some, None, option_map, List, [], ◌∷◌}
+-- Dispatch (ps2sdk: thbase). That the running thread gives way to one of a strictly smaller
+-- priority number alone, and is then the first of the ready ones, is this project's own profile.
+use Rattle.std.specs.Prelude.{if◌then◌else◌, Option, None, option_map}
 use Rattle.iop_base.specs.Piece.{Piece, Traced}
 use Rattle.iop_base.specs.Text.{line_bytes}
 use Rattle.iop_base.specs.declared.line.Line.TheVariants.{Run}
@@ -18,13 +18,8 @@ dispatched k d = record {
   line = Traced (line_bytes k.clock (Run d.id));
 }
 
--- the line of a dispatch, if it was made
-abbrev pub dispatch_pieces : Option Dispatched → List Piece
-dispatch_pieces None = []
-dispatch_pieces (Some d) = d.line ∷ []
-
--- the best ready thread runs, where interrupts are on and dispatch is enabled, and no thread runs or a
--- worse one
+-- the best ready thread runs, where interrupts are on and dispatch is enabled, and no thread runs
+-- or a worse one
 unfoldable pub dispatches : Core → Option Dispatched
 dispatches c =
     if may_switch c.kernel

@@ -1,5 +1,5 @@
--- What the laws of the kernel say: what holds of it at all times, and what its services and dispatch leave
--- as it was.
+-- What the laws of the kernel say: what holds of it at all times, and what its services and
+-- dispatch leave as it was.
 use Rattle.std.specs.Prelude.{◌≡◌, ◌≢◌, ℕ, ◌+◌, ◌^◌, ◌<◌, ◌≤◌, true, Option, Some, None, option_map, unwrap_or, List, [], length, All, Contains}
 use Rattle.iop_base.specs.Numbers.{number_at}
 use Rattle.iop_base.specs.Piece.{Piece, Traced}
@@ -19,8 +19,10 @@ use Rattle.iop_kernel.specs.declared.after.After.TheVariants.{Resume, Switch, Mo
 use Rattle.iop_kernel.specs.Dispatching.{Dispatched, dispatches}
 use Rattle.iop_kernel.specs.Serving.{services, calls_library}
 use Rattle.iop_kernel.specs.System.{Core, System, Served, may_switch, caller, opened, words_place}
-use Rattle.iop_kernel.specs.Threads.{named}
-use Rattle.iop_kernel.specs.Making.{status_words, refer_thread_status}
+use Rattle.iop_kernel.specs.Naming.{named}
+use Rattle.iop_kernel.specs.Status.{status_words, refer_thread_status}
+use Rattle.iop_kernel.specs.declared.status.TheConstants.{STATUS_WORDS}
+use Rattle.iop_kernel.specs.declared.call.TheConstants.{THBASE}
 
 -- what holds of the kernel and its processor at all times
 pub record IsCore (c : Core) : Type 0 where
@@ -70,9 +72,9 @@ ServicesKeep =
 
 -- the services of thbase alone change threads, and they leave the libraries as they were
 pub record ServicesStayApart (s : System) (library number : ℕ) : Type 0 where
-  pub kernel : library ≢ 3
+  pub kernel : library ≢ THBASE
       → (calls_library library number s).left.state.core.kernel ≡ s.core.kernel
-  pub libraries : library ≡ 3 → (calls_library library number s).left.state.libraries ≡ s.libraries
+  pub libraries : library ≡ THBASE → (calls_library library number s).left.state.libraries ≡ s.libraries
 
 abbrev pub LibrariesStayApart : Type 0
 LibrariesStayApart = (s : System) (library number : ℕ) → ServicesStayApart s library number
@@ -101,8 +103,8 @@ pub record DispatchesAreStrict : Type 0 where
   pub settled : (c : Core) → IsCore c → dispatches c ≡ None → may_switch c.kernel ≡ true
       → IsSettled c.kernel.threads
 
--- the words of a thread's status stand at a place: with these names ReferThreadStatus of ps2sdk's thbase.h
--- has them
+-- the words of a thread's status stand at a place: with these names ReferThreadStatus of ps2sdk's
+-- thbase.h has them
 pub record HasStatus (ram : List ℕ) (place : ℕ) (t : Thread) : Type 0 where
   pub attr : number_at ram place 4 ≡ t.param.attr
   pub option : number_at ram (place + 4) 4 ≡ t.param.option
@@ -121,7 +123,7 @@ pub record HasStatus (ram : List ℕ) (place : ℕ) (t : Thread) : Type 0 where
 abbrev pub StatusIsRead : Type 0
 StatusIsRead =
     (s : System) (id at place named_id : ℕ) (t : Thread)
-    → words_place s.memory at 12 ≡ Some place → named (caller s.core) id ≡ Some named_id
+    → words_place s.memory at STATUS_WORDS ≡ Some place → named (caller s.core) id ≡ Some named_id
     → thread_of s.core.kernel.threads.live named_id ≡ Some t
     → All (λ word. word < 2 ^ 32) (status_words t)
     → HasStatus (refer_thread_status s id at).left.state.memory.ram place t

@@ -1,6 +1,12 @@
 pub mod System
-pub mod Threads
-pub mod Making
+pub mod Answering
+pub mod Naming
+pub mod Running
+pub mod Ordering
+pub mod Waiting
+pub mod Creating
+pub mod Deleting
+pub mod Status
 pub mod Serving
 pub mod Dispatching
 pub mod Standing

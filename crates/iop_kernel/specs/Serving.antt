@@ -15,8 +15,13 @@ use Rattle.iop_kernel.specs.declared.call.Call.{Call}
 use Rattle.iop_kernel.specs.declared.call.Call.TheVariants.{Library, ThreadReturn, ModuleReturn}
 use Rattle.iop_kernel.specs.declared.call.TheConstants.{THREAD_RETURN_CALL, MODULE_RETURN_CALL, SERVICES}
 use Rattle.iop_kernel.specs.System.{Core, Left, System, Served, argument, resumes, faults, silent, after_pieces, on_core}
-use Rattle.iop_kernel.specs.Threads.{start_thread, exit_thread, return_module, terminate_thread, set_dispatch, change_priority, rotate_ready_queue, release_wait, get_thread_id, sleep_thread, wakeup_thread, cancel_wakeups, suspend_thread, resume_thread}
-use Rattle.iop_kernel.specs.Making.{create_thread, refer_thread_status, delete_thread, exit_delete_thread, owner_of, on_owner}
+use Rattle.iop_kernel.specs.Creating.{create_thread}
+use Rattle.iop_kernel.specs.Deleting.{delete_thread, exit_delete_thread, owner_of, on_owner}
+use Rattle.iop_kernel.specs.Naming.{get_thread_id}
+use Rattle.iop_kernel.specs.Ordering.{set_dispatch, change_priority, rotate_ready_queue}
+use Rattle.iop_kernel.specs.Running.{start_thread, exit_thread, return_module, terminate_thread}
+use Rattle.iop_kernel.specs.Status.{refer_thread_status}
+use Rattle.iop_kernel.specs.Waiting.{release_wait, sleep_thread, wakeup_thread, cancel_wakeups, suspend_thread, resume_thread}
 
 -- what a code calls, if it has a meaning: service n of library L has the code L * 256 + n
 abbrev pub call_of : ℕ → Option Call

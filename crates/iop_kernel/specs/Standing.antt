@@ -1,5 +1,6 @@
 -- How the program's kernel stands for the kernel.
-use Rattle.std.specs.Prelude.{◌≡◌, Bool, true, false, Option, Some, None, List}
+use Rattle.std.specs.Prelude.{◌≡◌, Bool, true, false, Option, Some, None, List, [], ◌∷◌, length}
+use Rattle.iop_base.specs.Output.{Output, Gives}
 use Rattle.iop_exec.specs.declared.cpu.Cpu.{Cpu}
 use Rattle.iop_ready.specs.declared.entry.Entry.{Entry}
 use Rattle.iop_registry.specs.declared.registry.Entry.{Entry as Library}
@@ -7,8 +8,8 @@ use Rattle.iop_stubs.specs.Stubs.{Memory}
 use Rattle.iop_sysmem.specs.BlockMap.{BlockMap}
 use Rattle.iop_thread.specs.Standing as threads
 use Rattle.iop_kernel.specs.Dispatching.{Dispatched}
-use Rattle.iop_kernel.specs.Making.{Owner}
-use Rattle.iop_kernel.specs.System.{Kernel, Core, System, Left}
+use Rattle.iop_kernel.specs.Deleting.{Owner}
+use Rattle.iop_kernel.specs.System.{Kernel, Core, System, Left, Served}
 use Rattle.iop_kernel.specs.declared.after.After.{After}
 use Rattle.iop_kernel.specs.declared.kernel.Kernel.{Kernel as Program}
 
@@ -35,19 +36,22 @@ module _ {R : Type 0} (stands_for : R → List Entry → Type 0) where
     pub core : TakesCore (record { state = left.state.core; after = left.after }) after k cpu
     pub map : blocks ≡ left.state.blocks
 
-  -- the same, and all the rest
-  pub record Takes (left : Left System) (after : After) (k : Program R) (cpu : Cpu)
-      (memory : Memory) (blocks : BlockMap) (libraries : List Library) : Type 0 where
-    pub core : TakesCore (record { state = left.state.core; after = left.after }) after k cpu
-    pub ram : memory ≡ left.state.memory
-    pub map : blocks ≡ left.state.blocks
-    pub registry : libraries ≡ left.state.libraries
+  -- the same, and all the rest, after a call which gave the pieces
+  pub record Serves (d : Served) (after : After) (k : Program R) (cpu : Cpu) (memory : Memory)
+      (blocks : BlockMap) (libraries : List Library) (old new : Output) : Type 0 where
+    pub core : TakesCore (record { state = d.left.state.core; after = d.left.after }) after k cpu
+    pub ram : memory ≡ d.left.state.memory
+    pub map : blocks ≡ d.left.state.blocks
+    pub registry : libraries ≡ d.left.state.libraries
+    pub gives : Gives old new d.pieces
 
-  -- whether a dispatch was made, and what it left
-  abbrev pub Dispatches : Core → Option Dispatched → Bool → Program R → Cpu → Type 0
-  Dispatches c None result k cpu = (result ≡ false) × Stands k c.kernel × (cpu ≡ c.cpu)
-  Dispatches c (Some d) result k cpu =
-      (result ≡ true) × Stands k d.core.kernel × (cpu ≡ d.core.cpu)
+  -- whether a dispatch was made, what it left, and its line
+  abbrev pub Dispatches : Core → Option Dispatched → Bool → Program R → Cpu
+      → (old new : Output) → Type 0
+  Dispatches c None result k cpu old new =
+      (result ≡ false) × Stands k c.kernel × (cpu ≡ c.cpu) × Gives old new []
+  Dispatches c (Some d) result k cpu old new =
+      (result ≡ true) × Stands k d.core.kernel × (cpu ≡ d.core.cpu) × Gives old new (d.line ∷ [])
 
 abbrev pub core : Kernel → Cpu → Core
 core kernel cpu = record { kernel = kernel; cpu = cpu }
@@ -58,3 +62,7 @@ owner kernel cpu blocks = record { core = core kernel cpu; blocks = blocks }
 abbrev pub system : Kernel → Cpu → Memory → BlockMap → List Library → System
 system kernel cpu memory blocks libraries =
     record { core = core kernel cpu; memory = memory; blocks = blocks; libraries = libraries }
+
+-- they are the blocks of a memory as large as this
+abbrev pub HasSizeOf : BlockMap → Memory → Type 0
+HasSizeOf blocks memory = blocks.size ≡ length memory.ram

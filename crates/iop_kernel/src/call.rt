@@ -12,6 +12,9 @@ pub const HANDLER_RETURN_CALL: u32 = 0xF01;
 /// The code of the `syscall` to which a module returns.
 pub const MODULE_RETURN_CALL: u32 = 0xF02;
 
+/// The number of `thbase` among `KERNEL_LIBRARIES`.
+pub(crate) const THBASE: u32 = 3;
+
 /// How many services a kernel library has room for.
 pub const SERVICES: u32 = 64;
 

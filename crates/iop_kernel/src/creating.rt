@@ -2,15 +2,13 @@
 
 ghost use Rattle.std.specs.Prelude.{◌≡◌, ℕ, ◌+◌, ◌*◌, ◌%◌, ◌≤◌, Ok, List, length};
 ghost use Rattle.iop_base.specs.Numbers.{number_at};
-ghost use Rattle.iop_base.specs.Output.{Gives};
 ghost use Rattle.iop_base.specs.Places.{IsRamSize};
 ghost use Rattle.iop_registry.specs.declared.registry.Entry.{Entry};
 ghost use Rattle.iop_sysmem.specs.Allocating.{allocating};
 ghost use Rattle.iop_sysmem.specs.BlockMap.{BlockMap};
 ghost use Rattle.iop_kernel.specs.System.{Kernel as State};
-ghost use Rattle.iop_kernel.specs.Making.{param_of, create_thread};
-ghost use Rattle.iop_kernel.specs.Making.{creates_on, creates_at, creates_with};
-ghost use Rattle.iop_kernel.specs.Standing.{Stands, IsSound, Takes, system};
+ghost use Rattle.iop_kernel.specs.Creating.{param_of, create_thread, creates_on, creates_at, creates_with};
+ghost use Rattle.iop_kernel.specs.Standing.{Stands, IsSound, HasSizeOf, Serves, system};
 ghost use Rattle.iop_kernel.specs.declared.creating.TheConstants.{PARAM_WORDS};
 
 use crate::after::After;
@@ -32,10 +30,10 @@ pub(crate) const ATTRIBUTES: u32 = 0x0300_0000;
 pub(crate) const LEAST_STACK: u32 = 256;
 
 /// How many words ask for a thread.
-const PARAM_WORDS: u32 = 5;
+pub(crate) const PARAM_WORDS: u32 = 5;
 
 /// The mode that takes the greatest free place for a block.
-const FROM_ABOVE: u32 = 1;
+pub(crate) const FROM_ABOVE: u32 = 1;
 
 /// Says what the words of CreateThread ask for, or why no thread is made.
 fn param(attr: u32, option: u32, entry: u32, size: u32, priority: u32) -> Result<Param, Code>
@@ -91,16 +89,11 @@ impl<R: Ready> Kernel<R> {
         lines: &mut L,
     ) -> After
         requires sound { IsSound R.stands self.old }
-        ensures state { (k : State) (blocks : BlockMap) (libraries : List Entry)
+        ensures { (k : State) (blocks : BlockMap) (libraries : List Entry)
             → Stands R.stands self.old k
             → let s = system k cpu.old guest.old blocks libraries in
-            Takes R.stands (creates_on s param stack blocks).left result self.new cpu.new guest.new
-            blocks libraries }
-        ensures lines { (k : State) (blocks : BlockMap) (libraries : List Entry)
-            → Stands R.stands self.old k
-            → let s = system k cpu.old guest.old blocks libraries in
-            Gives (L.output lines.old) (L.output lines.new)
-            (creates_on s param stack blocks).pieces }
+            Serves R.stands (creates_on s param stack blocks) result self.new cpu.new guest.new
+            blocks libraries (L.output lines.old) (L.output lines.new) }
     {
         // The block lies in RAM.
         let _ = guest.fill(stack, param.stack_size, 0xFF, self.clock, lines);
@@ -122,17 +115,13 @@ impl<R: Ready> Kernel<R> {
         lines: &mut L,
     ) -> After
         requires sound { IsSound R.stands self.old }
-        requires same_size { blocks.old.size ≡ length guest.old.ram }
+        requires same_size { HasSizeOf blocks.old guest.old }
         requires sized { IsRamSize (length guest.old.ram) }
-        ensures state { (k : State) (libraries : List Entry) → Stands R.stands self.old k
+        ensures { (k : State) (libraries : List Entry) → Stands R.stands self.old k
             → let s = system k cpu.old guest.old blocks.old libraries in
-            let taken = allocating blocks.old 1 param.stack_size 0 in
-            Takes R.stands (creates_at s param taken).left result self.new cpu.new guest.new
-            blocks.new libraries }
-        ensures lines { (k : State) (libraries : List Entry) → Stands R.stands self.old k
-            → let s = system k cpu.old guest.old blocks.old libraries in
-            let taken = allocating blocks.old 1 param.stack_size 0 in
-            Gives (L.output lines.old) (L.output lines.new) (creates_at s param taken).pieces }
+            let taken = allocating blocks.old FROM_ABOVE param.stack_size 0 in
+            Serves R.stands (creates_at s param taken) result self.new cpu.new guest.new blocks.new
+            libraries (L.output lines.old) (L.output lines.new) }
     {
         let stack = blocks.alloc(FROM_ABOVE, param.stack_size, 0);
         if stack == 0 {
@@ -163,15 +152,12 @@ impl<R: Ready> Kernel<R> {
         lines: &mut L,
     ) -> After
         requires sound { IsSound R.stands self.old }
-        requires same_size { blocks.old.size ≡ length guest.old.ram }
+        requires same_size { HasSizeOf blocks.old guest.old }
         requires sized { IsRamSize (length guest.old.ram) }
-        ensures state { (k : State) (libraries : List Entry) → Stands R.stands self.old k
+        ensures { (k : State) (libraries : List Entry) → Stands R.stands self.old k
             → let s = system k cpu.old guest.old blocks.old libraries in
-            Takes R.stands (creates_with s (Ok param)).left result self.new cpu.new guest.new
-            blocks.new libraries }
-        ensures lines { (k : State) (libraries : List Entry) → Stands R.stands self.old k
-            → let s = system k cpu.old guest.old blocks.old libraries in
-            Gives (L.output lines.old) (L.output lines.new) (creates_with s (Ok param)).pieces }
+            Serves R.stands (creates_with s (Ok param)) result self.new cpu.new guest.new blocks.new
+            libraries (L.output lines.old) (L.output lines.new) }
     {
         if !self.threads.has_room() {
             return answer(cpu, Code::NO_MEMORY);
@@ -191,14 +177,11 @@ impl<R: Ready> Kernel<R> {
         lines: &mut L,
     ) -> After
         requires sound { IsSound R.stands self.old }
-        requires same_size { blocks.old.size ≡ length guest.old.ram }
-        ensures state { (k : State) (libraries : List Entry) → Stands R.stands self.old k
+        requires same_size { HasSizeOf blocks.old guest.old }
+        ensures { (k : State) (libraries : List Entry) → Stands R.stands self.old k
             → let s = system k cpu.old guest.old blocks.old libraries in
-            Takes R.stands (create_thread s at).left result self.new cpu.new guest.new blocks.new
-            libraries }
-        ensures lines { (k : State) (libraries : List Entry) → Stands R.stands self.old k
-            → let s = system k cpu.old guest.old blocks.old libraries in
-            Gives (L.output lines.old) (L.output lines.new) (create_thread s at).pieces }
+            Serves R.stands (create_thread s at) result self.new cpu.new guest.new blocks.new
+            libraries (L.output lines.old) (L.output lines.new) }
     {
         let Some(place) = words_place(guest, at, PARAM_WORDS) else {
             return After::Fault(GuestFault::Address);

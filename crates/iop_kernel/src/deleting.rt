@@ -4,9 +4,8 @@ ghost use Rattle.std.specs.Prelude.{◌≡◌};
 ghost use Rattle.iop_exec.specs.declared.cpu.Cpu.{Cpu as Processor};
 ghost use Rattle.iop_thread.specs.Operations.{deletes};
 ghost use Rattle.iop_kernel.specs.System.{Kernel as State};
-ghost use Rattle.iop_kernel.specs.Threads.{ended};
-ghost use Rattle.iop_kernel.specs.Making.{deletes_by, delete_thread};
-ghost use Rattle.iop_kernel.specs.Making.{exits_deleted, exit_delete_thread};
+ghost use Rattle.iop_kernel.specs.Deleting.{deletes_by, delete_thread, exits_deleted, exit_delete_thread};
+ghost use Rattle.iop_kernel.specs.Running.{ended};
 ghost use Rattle.iop_kernel.specs.Standing.{Stands, IsSound, TakesOwner, core, owner};
 
 use crate::after::After;

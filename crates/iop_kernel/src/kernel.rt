@@ -1,9 +1,8 @@
 ghost use Rattle.std.specs.Prelude.{◌≡◌, ◌≤◌, [], IfOk, is_some};
-ghost use Rattle.iop_base.specs.Output.{Gives};
 ghost use Rattle.iop_thread.specs.Operations.{begins, ends_running};
 ghost use Rattle.iop_thread.specs.Standing.{Lends};
 ghost use Rattle.iop_kernel.specs.System.{Kernel as State, beginning};
-ghost use Rattle.iop_kernel.specs.Dispatching.{dispatches, dispatch_pieces};
+ghost use Rattle.iop_kernel.specs.Dispatching.{dispatches};
 ghost use Rattle.iop_kernel.specs.Standing.{Stands, IsSound, Dispatches, core};
 
 use iop_base::{Line, Lines};
@@ -95,12 +94,9 @@ impl<R: Ready> Kernel<R> {
     #[tactic(auto, using(iop_base::proofs::Giving::gives_none), unfolding(crate::specs::Dispatching::dispatches))]
     pub fn dispatch<L: Lines>(&mut self, cpu: &mut Cpu, lines: &mut L) -> bool
         requires sound { IsSound R.stands self.old }
-        ensures state { (k : State) → Stands R.stands self.old k
-            → let c = core k cpu.old in
-            Dispatches R.stands c (dispatches c) result self.new cpu.new }
-        ensures lines { (k : State) → Stands R.stands self.old k
-            → Gives (L.output lines.old) (L.output lines.new)
-            (dispatch_pieces (dispatches (core k cpu.old))) }
+        ensures { (k : State) → Stands R.stands self.old k → let c = core k cpu.old in
+            Dispatches R.stands c (dispatches c) result self.new cpu.new (L.output lines.old)
+            (L.output lines.new) }
     {
         if !(self.interrupts && self.dispatching) {
             return false;

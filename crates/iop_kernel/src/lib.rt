@@ -8,6 +8,7 @@ mod creating;
 mod deleting;
 mod kernel;
 pub mod laws;
+mod naming;
 mod ordering;
 mod places;
 mod running;
@@ -15,7 +16,6 @@ mod serving;
 mod status;
 #[cfg(test)]
 mod tests;
-mod threads;
 mod waiting;
 
 pub use after::After;

@@ -1,11 +1,12 @@
-//! The priorities of threads, and the order of those that have the same one.
+//! Whether another thread may run, the priorities of threads, and the order of those that have the
+//! same one.
 
 ghost use Rattle.std.specs.Prelude.{◌≡◌, option_map};
 ghost use Rattle.iop_thread.specs.ThreadTable.{running_thread};
 ghost use Rattle.iop_thread.specs.Operations.{changes};
 ghost use Rattle.iop_kernel.specs.System.{Kernel as State, may_switch};
 ghost use Rattle.iop_kernel.specs.Standing.{Stands, IsSound, TakesCore, core};
-ghost use Rattle.iop_kernel.specs.Threads.{changes_by, changes_to, change_priority, rotates_to, rotates_own, rotate_ready_queue};
+ghost use Rattle.iop_kernel.specs.Ordering.{set_dispatch, answers_change, changes_named, change_priority, rotates_to, rotates_own, rotate_ready_queue};
 
 use crate::after::After;
 use crate::answering::{answer, answer_word};
@@ -15,11 +16,31 @@ use iop_exec::Cpu;
 use iop_ready::{Priority, Ready};
 
 impl<R: Ready> Kernel<R> {
+    /// Says whether another thread may run, so that the one that runs may wait.
+    pub(crate) fn may_switch(&self) -> bool
+        ensures { (k : State) → Stands R.stands self.now k → result ≡ may_switch k }
+    {
+        self.interrupts && self.dispatching
+    }
+
+    /// Enables or disables dispatch. `INTERRUPTS_DISABLED` where interrupts are off.
+    pub(crate) fn set_dispatch(&mut self, enabled: bool, cpu: &mut Cpu) -> After
+        ensures { (k : State) → Stands R.stands self.old k
+            → TakesCore R.stands (set_dispatch (core k cpu.old) enabled) result
+            self.new cpu.new }
+    {
+        if !self.interrupts {
+            return answer(cpu, Code::INTERRUPTS_DISABLED);
+        }
+        self.dispatching = enabled;
+        answer(cpu, Code::OK)
+    }
+
     /// Gives a thread a priority, and answers a code.
     fn change(&mut self, id: u32, priority: Priority, cpu: &mut Cpu) -> After
         requires sound { IsSound R.stands self.old }
         ensures { (k : State) → Stands R.stands self.old k → let c = core k cpu.old in
-            TakesCore R.stands (changes_by c (changes k.threads id priority)) result
+            TakesCore R.stands (answers_change c (changes k.threads id priority)) result
             self.new cpu.new }
     {
         match self.threads.change(id, priority) {
@@ -29,10 +50,10 @@ impl<R: Ready> Kernel<R> {
     }
 
     /// Gives the thread that an id names a priority, and answers a code.
-    fn change_to(&mut self, named: Option<u32>, priority: Priority, cpu: &mut Cpu) -> After
+    fn change_named(&mut self, named: Option<u32>, priority: Priority, cpu: &mut Cpu) -> After
         requires sound { IsSound R.stands self.old }
         ensures { (k : State) → Stands R.stands self.old k
-            → TakesCore R.stands (changes_to (core k cpu.old) priority named) result
+            → TakesCore R.stands (changes_named (core k cpu.old) priority named) result
             self.new cpu.new }
     {
         match named {
@@ -50,7 +71,7 @@ impl<R: Ready> Kernel<R> {
             self.new cpu.new }
     {
         match Priority::of(priority) {
-            Some(priority) => self.change_to(self.named(id), priority, cpu),
+            Some(priority) => self.change_named(self.named(id), priority, cpu),
             None => answer(cpu, Code::ILLEGAL_PRIORITY),
         }
     }
@@ -62,13 +83,6 @@ impl<R: Ready> Kernel<R> {
     {
         let thread = self.threads.get(self.threads.running()?)?;
         Some(thread.priority)
-    }
-
-    /// Says whether another thread may run, so that the one that runs may wait.
-    pub(crate) fn may_switch(&self) -> bool
-        ensures { (k : State) → Stands R.stands self.now k → result ≡ may_switch k }
-    {
-        self.interrupts && self.dispatching
     }
 
     /// Moves the first ready thread of a priority behind all others, and answers 0. Where the

@@ -4,7 +4,7 @@ ghost use Rattle.std.specs.Prelude.{◌≡◌, true};
 ghost use Rattle.iop_thread.specs.Operations.{ends_running, terminates};
 ghost use Rattle.iop_kernel.specs.System.{Kernel as State};
 ghost use Rattle.iop_kernel.specs.Standing.{Stands, IsSound, TakesCore, core};
-ghost use Rattle.iop_kernel.specs.Threads.{start_thread, exit_thread, return_module, terminates_by, terminate_thread};
+ghost use Rattle.iop_kernel.specs.Running.{start_thread, exit_thread, return_module, terminates_by, terminate_thread};
 
 use crate::after::After;
 use crate::answering::answer;

@@ -1,11 +1,10 @@
 //! What a `syscall` asks of the kernel.
 
 ghost use Rattle.std.specs.Prelude.{◌≡◌, List, length};
-ghost use Rattle.iop_base.specs.Output.{Gives};
 ghost use Rattle.iop_registry.specs.declared.registry.Entry.{Entry};
 ghost use Rattle.iop_kernel.specs.System.{Kernel as State};
-ghost use Rattle.iop_kernel.specs.Serving.{answers_by, serves, calls_library, services};
-ghost use Rattle.iop_kernel.specs.Standing.{Stands, IsSound, Takes, system};
+ghost use Rattle.iop_kernel.specs.Serving.{serves_core, answers_by, serves, calls_library, services};
+ghost use Rattle.iop_kernel.specs.Standing.{Stands, IsSound, HasSizeOf, TakesCore, Serves, core, system};
 
 use crate::after::After;
 use crate::answering::answer_word;
@@ -21,6 +20,34 @@ use iop_stubs::Guest;
 use iop_sysmem::Blocks;
 
 impl<R: Ready> Kernel<R> {
+    /// Does what a service of `thbase` does that looks at threads alone. Any other is not built: it
+    /// faults.
+    #[tactic(auto, unfolding(crate::specs::Serving::serves_core))]
+    fn serve_core(&mut self, service: Service, cpu: &mut Cpu) -> After
+        requires sound { IsSound R.stands self.old }
+        ensures { (k : State) → Stands R.stands self.old k
+            → TakesCore R.stands (serves_core (core k cpu.old) service) result self.new cpu.new }
+    {
+        let [a0, a1] = [cpu.regs[4], cpu.regs[5]];
+        match service {
+            Service::StartThread => self.start_thread(a0, a1, cpu),
+            Service::ExitThread => self.exit_thread(),
+            Service::TerminateThread => self.terminate_thread(a0, cpu),
+            Service::DisableDispatchThread => self.set_dispatch(false, cpu),
+            Service::EnableDispatchThread => self.set_dispatch(true, cpu),
+            Service::ChangeThreadPriority => self.change_priority(a0, a1, cpu),
+            Service::RotateThreadReadyQueue => self.rotate_ready_queue(a0, cpu),
+            Service::ReleaseWaitThread => self.release_wait(a0, cpu),
+            Service::GetThreadId => self.get_thread_id(cpu),
+            Service::SleepThread => self.sleep_thread(cpu),
+            Service::WakeupThread => self.wakeup_thread(a0, cpu),
+            Service::CancelWakeupThread => self.cancel_wakeups(a0, cpu),
+            Service::SuspendThread => self.suspend_thread(a0, cpu),
+            Service::ResumeThread => self.resume_thread(a0, cpu),
+            _ => After::Fault(GuestFault::Service),
+        }
+    }
+
     /// Does what a service does that the libraries of iop_libs do not have.
     #[tactic(auto, using(iop_base::proofs::Giving::gives_none), unfolding(crate::specs::Serving::serves))]
     fn serve<L: Lines>(
@@ -32,14 +59,11 @@ impl<R: Ready> Kernel<R> {
         lines: &mut L,
     ) -> After
         requires sound { IsSound R.stands self.old }
-        requires same_size { blocks.old.size ≡ length guest.old.ram }
-        ensures state { (k : State) (libraries : List Entry) → Stands R.stands self.old k
+        requires same_size { HasSizeOf blocks.old guest.old }
+        ensures { (k : State) (libraries : List Entry) → Stands R.stands self.old k
             → let s = system k cpu.old guest.old blocks.old libraries in
-            Takes R.stands (serves s service).left result self.new cpu.new guest.new blocks.new
-            libraries }
-        ensures lines { (k : State) (libraries : List Entry) → Stands R.stands self.old k
-            → let s = system k cpu.old guest.old blocks.old libraries in
-            Gives (L.output lines.old) (L.output lines.new) (serves s service).pieces }
+            Serves R.stands (serves s service) result self.new cpu.new guest.new blocks.new
+            libraries (L.output lines.old) (L.output lines.new) }
     {
         let [a0, a1] = [cpu.regs[4], cpu.regs[5]];
         match service {
@@ -65,15 +89,11 @@ impl<R: Ready> Kernel<R> {
         lines: &mut L,
     ) -> After
         requires sound { IsSound R.stands self.old }
-        requires same_size { blocks.old.size ≡ length guest.old.ram }
-        ensures state { (k : State) (libraries : List Entry) → Stands R.stands self.old k
+        requires same_size { HasSizeOf blocks.old guest.old }
+        ensures { (k : State) (libraries : List Entry) → Stands R.stands self.old k
             → let s = system k cpu.old guest.old blocks.old libraries in
-            Takes R.stands (answers_by library number s answer).left result
-            self.new cpu.new guest.new blocks.new libraries }
-        ensures lines { (k : State) (libraries : List Entry) → Stands R.stands self.old k
-            → let s = system k cpu.old guest.old blocks.old libraries in
-            Gives (L.output lines.old) (L.output lines.new)
-            (answers_by library number s answer).pieces }
+            Serves R.stands (answers_by library number s answer) result self.new cpu.new guest.new
+            blocks.new libraries (L.output lines.old) (L.output lines.new) }
     {
         match answer {
             Answer::Value(word) => answer_word(cpu, word),
@@ -104,15 +124,11 @@ impl<R: Ready> Kernel<R> {
         lines: &mut L,
     ) -> After
         requires sound { IsSound R.stands self.old }
-        requires same_size { blocks.old.size ≡ length guest.old.ram }
-        ensures state { (k : State) → Stands R.stands self.old k
+        requires same_size { HasSizeOf blocks.old guest.old }
+        ensures { (k : State) → Stands R.stands self.old k
             → let s = system k cpu.old guest.old blocks.old registry.old in
-            Takes R.stands (calls_library library number s).left result
-            self.new cpu.new guest.new blocks.new registry.new }
-        ensures lines { (k : State) → Stands R.stands self.old k
-            → let s = system k cpu.old guest.old blocks.old registry.old in
-            Gives (L.output lines.old) (L.output lines.new)
-            (calls_library library number s).pieces }
+            Serves R.stands (calls_library library number s) result self.new cpu.new guest.new
+            blocks.new registry.new (L.output lines.old) (L.output lines.new) }
     {
         let answer = call(library, number, false, cpu, guest, blocks, registry, lines);
         self.answer_call(library, number, answer, cpu, guest, blocks, lines)
@@ -137,14 +153,11 @@ impl<R: Ready> Kernel<R> {
         lines: &mut L,
     ) -> After
         requires sound { IsSound R.stands self.old }
-        requires same_size { blocks.old.size ≡ length guest.old.ram }
-        ensures state { (k : State) → Stands R.stands self.old k
+        requires same_size { HasSizeOf blocks.old guest.old }
+        ensures { (k : State) → Stands R.stands self.old k
             → let s = system k cpu.old guest.old blocks.old registry.old in
-            Takes R.stands (services s code).left result
-            self.new cpu.new guest.new blocks.new registry.new }
-        ensures lines { (k : State) → Stands R.stands self.old k
-            → let s = system k cpu.old guest.old blocks.old registry.old in
-            Gives (L.output lines.old) (L.output lines.new) (services s code).pieces }
+            Serves R.stands (services s code) result self.new cpu.new guest.new blocks.new
+            registry.new (L.output lines.old) (L.output lines.new) }
     {
         match Call::of_code(code) {
             Some(Call::Library { library, number }) => {

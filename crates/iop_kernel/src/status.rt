@@ -2,14 +2,12 @@
 
 ghost use Rattle.std.specs.Prelude.{◌≡◌, ◌+◌, ◌≤◌, Some, List, length};
 ghost use Rattle.iop_base.specs.Numbers.{bytes_of, with_bytes};
-ghost use Rattle.iop_base.specs.Output.{Gives};
 ghost use Rattle.iop_base.specs.Places.{IsRamSize};
 ghost use Rattle.iop_registry.specs.declared.registry.Entry.{Entry};
 ghost use Rattle.iop_sysmem.specs.BlockMap.{BlockMap};
 ghost use Rattle.iop_kernel.specs.System.{Kernel as State};
-ghost use Rattle.iop_kernel.specs.Making.{status_words, bytes_of_words};
-ghost use Rattle.iop_kernel.specs.Making.{refers_it, refer_thread_status};
-ghost use Rattle.iop_kernel.specs.Standing.{Stands, IsSound, Takes, system};
+ghost use Rattle.iop_kernel.specs.Status.{status_words, bytes_of_words, refers_it, refer_thread_status};
+ghost use Rattle.iop_kernel.specs.Standing.{Stands, IsSound, Serves, system};
 ghost use Rattle.iop_kernel.specs.declared.status.TheConstants.{STATUS_BYTES};
 
 use crate::after::After;
@@ -23,7 +21,7 @@ use iop_stubs::Guest;
 use iop_thread::{Thread, Wait};
 
 /// How many words the status of a thread has.
-const STATUS_WORDS: usize = 12;
+pub(crate) const STATUS_WORDS: usize = 12;
 
 /// How many bytes it has.
 const STATUS_BYTES: usize = 4 * STATUS_WORDS;
@@ -80,16 +78,11 @@ impl<R: Ready> Kernel<R> {
     ) -> After
         requires inside { place + STATUS_BYTES ≤ length guest.old.ram }
         requires sized { IsRamSize (length guest.old.ram) }
-        ensures state { (k : State) (blocks : BlockMap) (libraries : List Entry)
+        ensures { (k : State) (blocks : BlockMap) (libraries : List Entry)
             → Stands R.stands self.now k
             → let s = system k cpu.old guest.old blocks libraries in
-            Takes R.stands (refers_it s place (Some thread.now)).left result self.now cpu.new
-            guest.new blocks libraries }
-        ensures lines { (k : State) (blocks : BlockMap) (libraries : List Entry)
-            → Stands R.stands self.now k
-            → let s = system k cpu.old guest.old blocks libraries in
-            Gives (L.output lines.old) (L.output lines.new)
-            (refers_it s place (Some thread.now)).pieces }
+            Serves R.stands (refers_it s place (Some thread.now)) result self.now cpu.new guest.new
+            blocks libraries (L.output lines.old) (L.output lines.new) }
     {
         let bytes = bytes_of_words(&status_words(thread));
         // The bytes lie in RAM.
@@ -110,15 +103,11 @@ impl<R: Ready> Kernel<R> {
         lines: &mut L,
     ) -> After
         requires sound { IsSound R.stands self.old }
-        ensures state { (k : State) (blocks : BlockMap) (libraries : List Entry)
+        ensures { (k : State) (blocks : BlockMap) (libraries : List Entry)
             → Stands R.stands self.old k
             → let s = system k cpu.old guest.old blocks libraries in
-            Takes R.stands (refer_thread_status s id at).left result self.new cpu.new guest.new
-            blocks libraries }
-        ensures lines { (k : State) (blocks : BlockMap) (libraries : List Entry)
-            → Stands R.stands self.old k
-            → let s = system k cpu.old guest.old blocks libraries in
-            Gives (L.output lines.old) (L.output lines.new) (refer_thread_status s id at).pieces }
+            Serves R.stands (refer_thread_status s id at) result self.new cpu.new guest.new blocks
+            libraries (L.output lines.old) (L.output lines.new) }
     {
         let Some(place) = words_place(guest, at, STATUS_WORDS as u32) else {
             return After::Fault(GuestFault::Address);

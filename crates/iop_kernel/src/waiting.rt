@@ -3,7 +3,7 @@
 ghost use Rattle.std.specs.Prelude.{◌≡◌};
 ghost use Rattle.iop_kernel.specs.System.{Kernel as State};
 ghost use Rattle.iop_kernel.specs.Standing.{Stands, IsSound, TakesCore, core};
-ghost use Rattle.iop_kernel.specs.Threads.{releases_from, release_wait, waits, sleep_thread, wakeup_thread, cancel_wakeups, suspend_thread, resume_thread};
+ghost use Rattle.iop_kernel.specs.Waiting.{releases_from, release_wait, waits, sleep_thread, wakeup_thread, cancel_wakeups, suspend_thread, resume_thread};
 
 use crate::after::After;
 use crate::answering::{answer, answer_word};

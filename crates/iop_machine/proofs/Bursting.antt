@@ -2,7 +2,6 @@
 use Rattle.std.proofs.Common.{◌≡◌, ℕ, suc, ◌+◌, ◌-◌, ◌<◌, true, false, Some, None, [], length, refl, ap, sym, ◌∙◌, subst, arith}
 use Rattle.iop_base.specs.Numbers.{width_bytes}
 use Rattle.iop_base.specs.Output.{Output, Gives}
-use Rattle.iop_base.specs.declared.guest_fault.GuestFault.{GuestFault}
 use Rattle.iop_exec.specs.declared.cpu.Cpu.{Cpu}
 use Rattle.iop_exec.specs.declared.cpu.Event.{Event}
 use Rattle.iop_exec.specs.declared.cpu.Event.TheVariants.{Plain, Service, Fault}
@@ -16,7 +15,7 @@ use Rattle.iop_kernel.proofs.Settling.{settled_later}
 use Rattle.iop_machine.specs.Advancing.{Reached, Advances}
 use Rattle.iop_machine.specs.Iop.{Iop, Transition, Takes, silent, with_state, core_of}
 use Rattle.iop_machine.specs.Running.{Runs}
-use Rattle.iop_machine.specs.Services.{calls, faults_with}
+use Rattle.iop_machine.specs.Services.{calls, faults_with, concludes}
 use Rattle.iop_machine.specs.Standing.{Stands, StandsBooted}
 use Rattle.iop_machine.specs.Stepping.{performs, steps}
 use Rattle.iop_machine.specs.Storing.{Performs}
@@ -77,46 +76,50 @@ module _ (s : Iop) (cpu' : Cpu) (memory' : Memory) (b c : Output) where
   abbrev settled : Iop
   settled = record s { cpu = cpu'; memory = memory' }
 
-  -- a call that was made of the settled machine
-  abbrev called : Position → ℕ → Transition Iop
-  called before code = calls (record settled { cpu = standing_at before cpu' }) cpu' code
-
-  -- what is still to be done, by the instruction's event, for a transition
-  abbrev Concludes : Event → Transition Iop → Type 0
-  Concludes Plain t =
+  -- what was given and what is still to be done, by the instruction's event, for a transition
+  abbrev Performed : Event → Transition Iop → Type 0
+  Performed Plain t =
       (after s cpu' memory' (s.kernel.clock + 1) ≡ t.state) × Gives b c t.pieces
-  Concludes (Fault kind) t = Gives b c [] × (silent (faults_with settled kind) ≡ t)
-  Concludes (Service code) t = Gives b c [] × (called (position_of s.cpu) code ≡ t)
+  Performed (Fault kind) t = Gives b c [] × (concludes settled (position_of s.cpu) (Fault kind) ≡ t)
+  Performed (Service code) t =
+      Gives b c [] × (concludes settled (position_of s.cpu) (Service code) ≡ t)
 
-  concludes : (event : Event) (r : Row)
+  performed_by : (event : Event) (r : Row)
       → Performs r event s.kernel.clock s.cpu s.memory b cpu' memory' c
-      → Concludes event (performs s r)
-  concludes event (Goes next None) h =
-      subst (λ (e : Event). Concludes e (performs s (Goes next None))) (sym h.0) (
+      → Performed event (performs s r)
+  performed_by event (Goes next None) h =
+      subst (λ (e : Event). Performed e (performs s (Goes next None))) (sym h.0) (
         ap (λ x. after s x memory' (s.kernel.clock + 1)) h.1
             ∙ ap (λ x. after s next x (s.kernel.clock + 1)) h.2,
         h.3,
       )
-  concludes event (Goes next (Some storing)) h =
-      subst (λ (e : Event). Concludes e (performs s (Goes next (Some storing)))) (sym h.0) (
+  performed_by event (Goes next (Some storing)) h =
+      subst (λ (e : Event). Performed e (performs s (Goes next (Some storing)))) (sym h.0) (
         ap (λ x. after s x memory' (s.kernel.clock + 1)) h.1
             ∙ ap (λ x. after s next x (s.kernel.clock + 1)) h.2,
         subst (λ n. Gives b c
             (store_lines s.kernel.clock s.memory (access_place s.memory storing.at storing.width) n))
             (sym (length-bytes_of (width_bytes storing.width) storing.value)) h.3,
       )
-  concludes event (Serves code) h =
-      subst (λ (e : Event). Concludes e (performs s (Serves code))) (sym h.0) (
+  performed_by event (Serves code) h =
+      subst (λ (e : Event). Performed e (performs s (Serves code))) (sym h.0) (
         h.3,
         ap (λ x. calls (record settled { cpu = standing_at (position_of s.cpu) x }) x code) h.1
             ∙ ap (λ x. calls (record s { memory = x }) (at_next s.cpu) code) h.2,
       )
-  concludes event (Faults kind) h =
-      subst (λ (e : Event). Concludes e (performs s (Faults kind))) (sym h.0) (
+  performed_by event (Faults kind) h =
+      subst (λ (e : Event). Performed e (performs s (Faults kind))) (sym h.0) (
         h.3,
         ap (λ x. silent (faults_with (record settled { cpu = x }) kind)) h.1
             ∙ ap (λ x. silent (faults_with (record s { memory = x }) kind)) h.2,
       )
+
+  -- where it is not plain it is still to be concluded
+  is_left : (event : Event) (t : Transition Iop) → (event ≡ Plain → ⊥) → Performed event t
+      → Gives b c [] × (concludes settled (position_of s.cpu) event ≡ t)
+  is_left Plain t other h = absurd (other refl)
+  is_left (Fault kind) t other h = h
+  is_left (Service code) t other h = h
 
 -- an instruction leaves memory as long as it was
 pub length-performed : (r : Row) (event : Event) (clock : ℕ) (cpu cpu' : Cpu) (memory memory' : Memory)
@@ -187,20 +190,23 @@ module _ {w : World} {budget left : ℕ} {m : Program} {a b c : Output} {event :
   stands : Stands m before
   stands = turn.bursts.reached.state.1
 
-  performed : Performs (row before.memory.ram before.cpu) event before.kernel.clock before.cpu
+  performs_now : Performs (row before.memory.ram before.cpu) event before.kernel.clock before.cpu
       before.memory b cpu' memory' c
-  performed =
+  performs_now =
       let s = subst (λ (s : Iop). Performs (row s.memory.ram s.cpu) event m.kernel.clock s.cpu
       s.memory b cpu' memory' c) (sym stands.rest) turn.done in
       subst (λ n. Performs (row before.memory.ram before.cpu) event n before.cpu before.memory b cpu'
       memory' c) (sym stands.kernel.clock) s
 
-  -- how it concludes
-  concludes_as : {e : Event} → event ≡ e
-      → Concludes before cpu' memory' b c e (performs before (row before.memory.ram before.cpu))
-  concludes_as e = subst (λ (x : Event). Concludes before cpu' memory' b c x
-      (performs before (row before.memory.ram before.cpu))) e
-      (concludes before cpu' memory' b c event (row before.memory.ram before.cpu) performed)
+  performed : Performed before cpu' memory' b c event
+      (performs before (row before.memory.ram before.cpu))
+  performed = performed_by before cpu' memory' b c event (row before.memory.ram before.cpu)
+      performs_now
+
+  performed_plain : event ≡ Plain → Performed before cpu' memory' b c Plain
+      (performs before (row before.memory.ram before.cpu))
+  performed_plain e = subst (λ (x : Event). Performed before cpu' memory' b c x
+      (performs before (row before.memory.ram before.cpu))) e performed
 
   -- it is the next step
   next : IsNext true left (steps turn.bursts.taken w).state
@@ -224,7 +230,7 @@ module _ {w : World} {budget left : ℕ} {m : Program} {a b c : Output} {event :
       → ((s : Iop) → Stands m s → Stands new (after s cpu' memory' (m.kernel.clock + 1)))
       → Advances StandsBooted w budget turn.bursts.taken (left - 1) new a c
   plain_advances {new} e to =
-      let plain = concludes_as e in
+      let plain = performed_plain e in
       burst_with (record {
         state = subst (Stands new)
             (ap (λ n. after before cpu' memory' (n + 1)) (sym stands.kernel.clock) ∙ plain.0)
@@ -240,7 +246,7 @@ module _ {w : World} {budget left : ℕ} {m : Program} {a b c : Output} {event :
     taken = suc turn.bursts.taken;
     reached = reached_more (plain_advances e to) well;
     runs = subst Runs
-        ((concludes_as e).0 ∙ sym (ap (λ (d : Transition World). d.state.iop) next.step_is)
+        ((performed_plain e).0 ∙ sym (ap (λ (d : Transition World). d.state.iop) next.step_is)
         ∙ sym (ap (λ (d : Transition World). d.state.iop) (steps_suc turn.bursts.taken w)))
         (keeps_running before cpu' memory' (before.kernel.clock + 1) turn.bursts.runs);
   }
@@ -251,22 +257,13 @@ module _ {w : World} {budget left : ℕ} {m : Program} {a b c : Output} {event :
     now_stands = subst (λ n. Stands now (after before cpu' memory' n)) (sym stands.kernel.clock)
         (to before stands)
 
-    -- an instruction that faults
-    pub fault_advances : {new : Program} (kind : GuestFault) → event ≡ Fault kind
-        → ((s : Iop) → Stands now s → Stands new (faults_with s kind))
-        → Advances StandsBooted w budget turn.bursts.taken (left - 1) new a c
-    fault_advances kind e faults =
-        let fault = concludes_as e in
-        burst_with (takes_as (record { state = faults _ now_stands; gives = fault.0 }) fault.1)
-
-    -- one that calls a service
-    pub call_advances : {new : Program} {d : Output} (code : ℕ) (position : Position)
-        → event ≡ Service code → position ≡ position_of m.cpu
-        → ((s : Iop) → Stands now s
-        → Takes Stands (calls (record s { cpu = standing_at position s.cpu }) s.cpu code) new c d)
+    -- an instruction that is not plain
+    pub conclude_advances : {new : Program} {d : Output} (position : Position) → (event ≡ Plain → ⊥)
+        → position ≡ position_of m.cpu
+        → ((s : Iop) → Stands now s → Takes Stands (concludes s position event) new c d)
         → Advances StandsBooted w budget turn.bursts.taken (left - 1) new a d
-    call_advances code position e p serves =
-        let call = concludes_as e in
+    conclude_advances position other p does =
+        let rest = is_left before cpu' memory' b c event _ other performed in
         let same = p ∙ ap (λ (s : Iop). position_of s.cpu) (sym stands.rest) in
-        burst_with (takes_as (silent_then call.0 (serves _ now_stands))
-        (ap (λ x. called before cpu' memory' b c x code) same ∙ call.1))
+        burst_with (takes_as (silent_then rest.0 (does _ now_stands))
+        (ap (λ x. concludes (settled before cpu' memory' b c) x event) same ∙ rest.1))

@@ -3,7 +3,8 @@ use Rattle.std.proofs.Common.{◌≡◌, ℕ, zero, suc, ◌+◌, List, [], ◌+
 use Rattle.iop_base.specs.Piece.{Piece}
 use Rattle.iop_stubs.specs.declared.live_stub.Stub.{Stub}
 use Rattle.iop_machine.specs.Laws.{StepsCompose}
-use Rattle.iop_machine.specs.Stepping.{step, steps, executes, executed, one_if}
+use Rattle.iop_exec.specs.Arithmetic.{one_if}
+use Rattle.iop_machine.specs.Stepping.{step, steps, executes, executed}
 use Rattle.iop_machine.specs.World.{World}
 use Rattle.iop_machine.specs.Iop.{Transition, and_then}
 use Rattle.iop_machine.proofs.Reaching.{executed_suc}

@@ -1,10 +1,10 @@
 -- What comes before a burst: a dispatch, if one is to be made, and the look for a thread that runs.
-use Rattle.std.proofs.Common.{◌≡◌, ℕ, ◌+◌, Bool, true, false, not, is_some, Option, Some, None, refl, ap, sym, ◌∙◌, subst, arith}
+use Rattle.std.proofs.Common.{◌≡◌, ℕ, ◌+◌, Bool, true, false, not, is_some, Option, Some, None, [], ◌∷◌, refl, ap, sym, ◌∙◌, subst, arith}
 use Rattle.iop_base.specs.Output.{Output, Gives}
 use Rattle.iop_base.specs.declared.stop.Stop.TheVariants.{Quiet, Budget}
 use Rattle.iop_base.proofs.Giving.{gives_none, nothing_fails}
 use Rattle.iop_exec.specs.declared.cpu.Cpu.{Cpu}
-use Rattle.iop_kernel.specs.Dispatching.{Dispatched, dispatches, dispatch_pieces}
+use Rattle.iop_kernel.specs.Dispatching.{Dispatched, dispatches}
 use Rattle.iop_kernel.specs.Standing as kernel
 use Rattle.iop_kernel.specs.System.{Core}
 use Rattle.iop_kernel.specs.declared.kernel.Kernel.{Kernel}
@@ -41,11 +41,11 @@ module _ {m : Program} {s : Iop} (h : Stands m s) (now : Kernel PlainReady) (cpu
         ∙ ap (λ (x : Iop). record x { kernel = c.kernel; cpu = cpu }) h.rest;
   }
 
-  module _ (budget : ℕ) {a b : Output} (over : s.over ≡ None) (well : a.failed ≡ false) where
+  module _ (budget : ℕ) (a b : Output) (over : s.over ≡ None) (well : a.failed ≡ false) where
     -- a thread is dispatched
     dispatch_advances : (d : Dispatched) → dispatches (core_of s) ≡ Some d
         → kernel.Stands StandsFor now d.core.kernel → cpu ≡ d.core.cpu
-        → Gives a b (dispatch_pieces (Some d))
+        → Gives a b (d.line ∷ [])
         → Advances StandsBooted (booted s) budget 0 budget new a b
     dispatch_advances d e k f gives =
         one_step m (refl, h) well (next_dispatches s budget d over e)
@@ -53,26 +53,26 @@ module _ {m : Program} {s : Iop} (h : Stands m s) (now : Kernel PlainReady) (cpu
 
     -- by whether one was to be, and whether a write failed
     settles_by : (o : Option Dispatched) → dispatches (core_of s) ≡ o → (did : Bool)
-        → kernel.Dispatches StandsFor (core_of s) o did now cpu → Gives a b (dispatch_pieces o)
+        → kernel.Dispatches StandsFor (core_of s) o did now cpu a b
         → (failed : Bool) → b.failed ≡ failed
         → Settles StandsBooted failed (booted s) budget new a b
     unfolding steps
-    settles_by None e did d gives true f = absurd (nothing_fails gives well f)
-    settles_by None e did d gives false f = (
+    settles_by None e did d true f = absurd (nothing_fails d.3 well f)
+    settles_by None e did d false f = (
       0,
       record {
-        reached = reached_none (booted s) budget new a b (refl, stands_core (core_of s) d.1 d.2) gives f;
+        reached = reached_none (booted s) budget new a b (refl, stands_core (core_of s) d.1 d.2) d.3 f;
         over = over;
         dispatch = e;
         clock = refl;
       },
     )
-    settles_by (Some d) e did k gives true f = (0, dispatch_advances d e k.1 k.2 gives)
-    settles_by (Some d) e did k gives false f =
+    settles_by (Some d) e did k true f = (0, dispatch_advances d e k.1 k.2 k.3)
+    settles_by (Some d) e did k false f =
         let is = sym (after_one (booted s) _ (next_dispatches s budget d over e).step_is) in (
           1,
           record {
-            reached = reached_more (dispatch_advances d e k.1 k.2 gives) f;
+            reached = reached_more (dispatch_advances d e k.1 k.2 k.3) f;
             over = subst (λ (v : World). v.iop.over ≡ None) is over;
             dispatch = subst (λ (v : World). dispatches (core_of v.iop) ≡ None) is
                 (dispatch_settles (core_of s) d e);
@@ -84,14 +84,13 @@ module _ {m : Program} {s : Iop} (h : Stands m s) (now : Kernel PlainReady) (cpu
     -- what a dispatch leaves, if one is to be made
     pub dispatch_leaves : (did : Bool)
         → (let c = kernel.core s.kernel m.cpu in
-        kernel.Dispatches StandsFor c (dispatches c) did now cpu)
-        → Gives a b (dispatch_pieces (dispatches (kernel.core s.kernel m.cpu)))
+        kernel.Dispatches StandsFor c (dispatches c) did now cpu a b)
         → Settles StandsBooted b.failed (booted s) budget new a b
-    dispatch_leaves did k gives =
+    dispatch_leaves did k =
         let is = ap (λ (x : Iop). kernel.core s.kernel x.cpu) (sym h.rest) in
         settles_by (dispatches (core_of s)) refl did
-        (subst (λ (c : Core). kernel.Dispatches StandsFor c (dispatches c) did now cpu) is k)
-        (subst (λ (c : Core). Gives a b (dispatch_pieces (dispatches c))) is gives) b.failed refl
+        (subst (λ (c : Core). kernel.Dispatches StandsFor c (dispatches c) did now cpu a b) is k)
+        b.failed refl
 
 settles_well : (failed : Bool) → true ≡ not failed → {w : World} {budget : ℕ} {m : Program}
     {a b : Output} → Settles StandsBooted failed w budget m a b

@@ -6,7 +6,8 @@ use Rattle.iop_base.specs.Piece.{Piece}
 use Rattle.iop_base.specs.declared.stop.Stop.{Stop}
 use Rattle.iop_machine.specs.Laws.{RunsCompose, RunsAreDetermined, OverStays, RunsEnd, RunsAreComputed}
 use Rattle.iop_machine.specs.Running.{Ends, GoesOn, GoesOnFor}
-use Rattle.iop_machine.specs.Stepping.{step, steps, executes, executed, one_if, stop_at, stops_by, Ran, ran_by, run_within, run_of}
+use Rattle.iop_exec.specs.Arithmetic.{one_if}
+use Rattle.iop_machine.specs.Stepping.{step, steps, executes, executed, stop_at, stops_by, Ran, ran_by, run_within, run_of}
 use Rattle.iop_machine.specs.World.{World}
 use Rattle.iop_machine.specs.Iop.{Transition, silent, and_then}
 use Rattle.iop_machine.proofs.Composing.{steps_more, executed_more, steps_front, executed_front}

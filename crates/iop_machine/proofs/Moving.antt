@@ -1,5 +1,5 @@
 -- How far each step takes the clock, and that it keeps what holds of the kernel.
-use Rattle.std.proofs.Common.{◌≡◌, ℕ, ◌+◌, ◌≤◌, Bool, true, false, if◌then◌else◌, Option, Some, None, Result, Ok, Err, List, [], ◌∷◌, refl, ap, sym, ◌∙◌, arith, subst}
+use Rattle.std.proofs.Common.{◌≡◌, ℕ, ◌+◌, ◌≤◌, true, false, if◌then◌else◌, Option, Some, None, Result, Ok, Err, List, [], ◌∷◌, refl, ap, sym, ◌∙◌, arith, subst}
 use Rattle.iop_base.specs.declared.code.Code.{Code}
 use Rattle.iop_exec.specs.declared.cpu.Cpu.{Cpu}
 use Rattle.iop_exec.specs.Laws.{cpu_after}
@@ -9,17 +9,13 @@ use Rattle.iop_exec.specs.Row.{Row, Goes, Serves, Faults, at_next, row}
 use Rattle.iop_thread.specs.Laws.{AreStraight}
 use Rattle.iop_thread.specs.Operations as threads
 use Rattle.iop_thread.specs.Placing.{IsPlaced}
-use Rattle.iop_thread.specs.ThreadTable.{ThreadTable, thread_of}
-use Rattle.iop_thread.specs.States.{is_dormant}
-use Rattle.iop_thread.specs.declared.thread.Thread.{Thread}
-use Rattle.iop_thread.specs.declared.thread.TheConstants.{LOADER}
 use Rattle.iop_kernel.specs.Dispatching.{Dispatched, dispatches}
 use Rattle.iop_kernel.specs.Laws.{IsCore}
 use Rattle.iop_kernel.specs.Serving.{services}
 use Rattle.iop_kernel.specs.System.{Kernel, Core, Served, may_switch}
 use Rattle.iop_kernel.specs.declared.after.After.{After}
 use Rattle.iop_kernel.specs.declared.after.After.TheVariants.{Resume, Switch, ModuleReturned, Fault}
-use Rattle.iop_kernel.proofs.KeepingCore.{CoreKeeps, nothing_changes, keeps_then, with_them, places as stay_placed, straights as stay_straight}
+use Rattle.iop_kernel.proofs.KeepingCore.{CoreKeeps, nothing_changes, keeps_then, with_them, places as stay_placed, straights as stay_straight, moves}
 use Rattle.iop_kernel.proofs.KeepingServices.{services_keep}
 use Rattle.iop_kernel.proofs.Returning.{returning_opens}
 use Rattle.iop_kernel.proofs.Settling.{dispatch_clock}
@@ -31,7 +27,8 @@ use Rattle.iop_machine.specs.Iop.{Iop, Transition, with_state, later, core_of, s
 use Rattle.iop_machine.specs.Loading.{loading_of, places, enters_or, loads_first, with_kernel, starts_by, boots}
 use Rattle.iop_machine.specs.Modules.{Module, module_start}
 use Rattle.iop_machine.specs.Services.{calls, calls_by, serves, leaves, goes_on_by, ends_module, returns_by}
-use Rattle.iop_machine.specs.Stepping.{performs, acts_by, goes_by, executes_by, one_if}
+use Rattle.iop_exec.specs.Arithmetic.{one_if}
+use Rattle.iop_machine.specs.Stepping.{performs, acts_by, goes_by, executes_by}
 
 -- what loads modules leaves the kernel as it is, and a processor straight
 pub record Lands (s : Iop) (t : Transition Iop) : Type 0 where
@@ -76,25 +73,13 @@ landed {s} lands = record {
   clock = ap (λ (k : Kernel). k.clock) lands.kernel;
 }
 
--- the loader's thread becomes ready, which leaves the thread that runs
-running_begins : (s : ThreadTable) (registers : Cpu) (o : Option Thread)
-    → (threads.begins_it s registers o).running ≡ s.running
-running_begins s registers None = refl
-running_begins s registers (Some t) = either (is_dormant t.state) _ refl
-  where
-    either : (b : Bool) (x : ThreadTable) → x.running ≡ s.running
-        → (if b then x else s).running ≡ s.running
-    either true x same = same
-    either false x same = refl
-
 -- it begins, if it is to
 starts_stand : (s : Iop) (o : Option BegunModule) → Stands s (starts_by s o)
 starts_stand s None = nothing_changes (core_of s)
 starts_stand s (Some begun) = with_them (core_of s) _ (λ h. record {
-  placed = (stay_placed (core_of s) h).begins s.cpu;
+  placed = (stay_placed (core_of s) h).begins s.cpu tt;
   straight = (stay_straight (core_of s) h).begins s.cpu h.straight;
-  awake = λ none. h.awake (sym (running_begins s.kernel.threads s.cpu
-      (thread_of s.kernel.threads.live LOADER)) ∙ none);
+  awake = λ none. h.awake (sym ((moves (core_of s) h).begins s.cpu).running ∙ none);
 })
 
 -- booting takes no time

@@ -5,7 +5,8 @@ use Rattle.iop_kernel.specs.Dispatching.{Dispatched, dispatches}
 use Rattle.iop_kernel.proofs.Settling.{dispatch_settles}
 use Rattle.iop_machine.specs.Iop.{Iop, Transition, core_of}
 use Rattle.iop_machine.specs.Loading.{boots}
-use Rattle.iop_machine.specs.Stepping.{step, steps, executes, executed, executes_by, one_if, acts_by, goes_by}
+use Rattle.iop_exec.specs.Arithmetic.{one_if}
+use Rattle.iop_machine.specs.Stepping.{step, steps, executes, executed, executes_by, acts_by, goes_by}
 use Rattle.iop_machine.specs.World.{World, booted}
 use Rattle.iop_machine.proofs.Moving.{boots_stand, goes_move}
 use Rattle.iop_machine.proofs.Reaching.{steps_suc, executed_suc}

@@ -142,22 +142,19 @@ did code s = services (system_of s) code
 -- this call left the kernel with its processor, the memory, the blocks and the libraries so, and gave
 -- its pieces
 pub record IsServed (m left : Program) (code : ℕ) (after : After) (a b : Output) : Type 0 where
-  pub taken : (k : Kernel) → kernel.Stands StandsFor m.kernel k
-      → kernel.Takes StandsFor (did code (iop_of m k)).left after
-      left.kernel left.cpu left.guest left.blocks left.registry
-  pub lines : (k : Kernel) → kernel.Stands StandsFor m.kernel k
-      → Gives a b (did code (iop_of m k)).pieces
+  pub serves : (k : Kernel) → kernel.Stands StandsFor m.kernel k
+      → kernel.Serves StandsFor (did code (iop_of m k)) after left.kernel left.cpu left.guest
+      left.blocks left.registry a b
 
--- as the clauses of the kernel's call say it
+-- as the clause of the kernel's call says it
 pub served : (m : Program) (new : Kernels (List Entry)) (cpu : Cpu) (memory : Memory)
     (blocks : BlockMap) (libraries : List Library) (code : ℕ) (after : After) {a b : Output}
     → ((k : Kernel) → kernel.Stands StandsFor m.kernel k
-    → kernel.Takes StandsFor (did code (iop_of m k)).left after new cpu memory blocks libraries)
-    → ((k : Kernel) → kernel.Stands StandsFor m.kernel k → Gives a b (did code (iop_of m k)).pieces)
+    → kernel.Serves StandsFor (did code (iop_of m k)) after new cpu memory blocks libraries a b)
     → IsServed m (record m
     { kernel = new; cpu = cpu; guest = memory; blocks = blocks; registry = libraries }) code after a b
-served m new cpu memory blocks libraries code after taken lines =
-    record { taken = taken; lines = lines }
+served m new cpu memory blocks libraries code after serves =
+    record { serves = serves }
 
 -- the program with what was left
 abbrev pub with_left : Program → Program → Program
@@ -174,7 +171,7 @@ module _ {m left : Program} {code : ℕ} {after : After} {a b : Output}
       → Takes Stands (serves (stood s) (did code s)) (with_left m left) a b
   serves_takes =
       carried m (λ s. Takes Stands (serves (stood s) (did code s)) (with_left m left) a b) (λ k stands.
-      let taken = h.taken k stands in
+      let taken = h.serves k stands in
       let x = (did code (iop_of m k)).left.state in
       let now = iop_of (with_left m left) x.core.kernel in
       record {
@@ -189,12 +186,12 @@ module _ {m left : Program} {code : ℕ} {after : After} {a b : Output}
               (sym taken.map)
               ∙ ap (λ (v : List Library). record now { libraries = v }) (sym taken.registry);
         };
-        gives = h.lines k stands;
+        gives = taken.gives;
       })
 
   -- what it answered becomes of its caller
   answer_is : (s : Iop) → Stands m s → after ≡ (did code s).left.after
-  answer_is = carried m (λ s. after ≡ (did code s).left.after) (λ k stands. (h.taken k stands).core.answer)
+  answer_is = carried m (λ s. after ≡ (did code s).left.after) (λ k stands. (h.serves k stands).core.answer)
 
   -- then by what becomes of its caller
   pub calls_takes : (r : After) → after ≡ r → {now : Program} {c : Output} (s : Iop) → Stands m s

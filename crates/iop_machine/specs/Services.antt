@@ -4,6 +4,10 @@ use Rattle.std.specs.Prelude.{ℕ, Option, Some, None, []}
 use Rattle.iop_base.specs.declared.guest_fault.GuestFault.{GuestFault}
 use Rattle.iop_base.specs.declared.stop.Stop.TheVariants as stops
 use Rattle.iop_exec.specs.declared.cpu.Cpu.{Cpu}
+use Rattle.iop_exec.specs.declared.cpu.Event.{Event}
+use Rattle.iop_exec.specs.declared.cpu.Event.TheVariants as events
+use Rattle.iop_exec.specs.declared.position.Position.{Position}
+use Rattle.iop_exec.specs.Positions.{standing_at}
 use Rattle.iop_kernel.specs.Serving.{services}
 use Rattle.iop_kernel.specs.System.{Served}
 use Rattle.iop_kernel.specs.declared.after.After.{After}
@@ -61,3 +65,11 @@ calls_by s d (Fault kind) = silent (faults_with s kind)
 unfoldable pub calls : Iop → (behind : Cpu) → (code : ℕ) → Transition Iop
 calls s behind code =
     let d = services (system_of (record s { cpu = behind })) code in calls_by s d d.left.after
+
+-- what an instruction is still to do by its event; it stood at this position, and the processor has moved on
+-- from there unless it faulted
+abbrev pub concludes : Iop → (before : Position) → Event → Transition Iop
+concludes s before events.Plain = silent s
+concludes s before (events.Fault kind) = silent (faults_with s kind)
+concludes s before (events.Service code) =
+    calls (record s { cpu = standing_at before s.cpu }) s.cpu code

@@ -3,6 +3,7 @@ use Rattle.std.specs.Prelude.{ℕ, zero, suc, ◌+◌, ◌-◌, ◌*◌, Bool, t
 use Rattle.iop_base.specs.Piece.{Piece}
 use Rattle.iop_base.specs.declared.stop.Stop.{Stop}
 use Rattle.iop_base.specs.declared.stop.Stop.TheVariants.{Quiet, Budget}
+use Rattle.iop_exec.specs.Arithmetic.{one_if}
 use Rattle.iop_exec.specs.Row.{Row, Goes, Serves, Faults, Storing, at_next, row}
 use Rattle.iop_kernel.specs.Dispatching.{Dispatched, dispatches}
 use Rattle.iop_machine.specs.Loading.{boots}
@@ -71,10 +72,6 @@ stop_at w left = stops_by w.iop.over (executes w) left
 unfoldable pub steps : ℕ → World → Transition World
 steps zero w = silent w
 steps (suc k) w = and_then (steps k w) step
-
-abbrev pub one_if : Bool → ℕ
-one_if true = 1
-one_if false = 0
 
 -- how many instructions so many steps execute
 unfoldable pub executed : ℕ → World → ℕ

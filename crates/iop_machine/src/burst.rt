@@ -18,6 +18,8 @@ use iop_trace::Out;
 
 impl Iop {
     /// Takes over the processor and the moment of a burst.
+    #[cold]
+    #[inline(never)]
     fn settle(&mut self, cpu: Cpu, clock: u64)
         requires sound { IsSound self.old }
         requires later { self.old.kernel.clock ≤ clock }
@@ -36,6 +38,7 @@ impl Iop {
     /// left. Whether anything else is due is not asked in between: a plain instruction changes processor,
     /// memory and clock alone. It is the one place that executes instructions. The processor and the
     /// clock are local meanwhile.
+    #[inline(never)]
     fn burst<C: Sink, T: Sink>(&mut self, budget: u64, out: &mut Out<'_, C, T>) -> u64
         requires runs { (s : State) × Stands self.old s × Runs s }
         requires some { 0 < budget }
@@ -63,14 +66,9 @@ impl Iop {
                         return left;
                     }
                 }
-                Event::Fault(kind) => {
+                event => {
                     self.settle(cpu, clock);
-                    self.fault(kind);
-                    return left;
-                }
-                Event::Service(code) => {
-                    self.settle(cpu, clock);
-                    self.call(code, Position { pc, next, in_slot }, out);
+                    self.conclude(event, Position { pc, next, in_slot }, out);
                     return left;
                 }
             }

@@ -3,19 +3,19 @@
 ghost use Rattle.std.specs.Prelude.{◌≡◌, ◌+◌, ◌^◌, ◌<◌, true, is_some, length};
 ghost use Rattle.iop_exec.specs.Positions.{standing_at};
 ghost use Rattle.iop_machine.specs.Iop.{Iop as State, Takes, later};
-ghost use Rattle.iop_machine.specs.Services.{faults_with, returns_by, ends_module, calls};
+ghost use Rattle.iop_machine.specs.Services.{faults_with, returns_by, ends_module, calls, concludes};
 ghost use Rattle.iop_machine.specs.Standing.{Stands, IsSound};
 
 use crate::begun_module::BegunModule;
 use crate::iop::Iop;
 use iop_base::{GuestFault, Lines, Stop};
-use iop_exec::Position;
+use iop_exec::{Event, Position};
 use iop_kernel::After;
 use iop_modload::finish;
 
 impl Iop {
     /// Stops it with a fault of the instruction at pc.
-    pub(crate) fn fault(&mut self, kind: GuestFault)
+    fn fault(&mut self, kind: GuestFault)
         ensures { (s : State) → Stands self.old s → Stands self.new (faults_with s kind) }
     {
         self.over = Some(Stop::Fault(kind, self.cpu.pc));
@@ -73,8 +73,7 @@ impl Iop {
 
     /// Does what a code asks for. Its `syscall` stood at `before`, and the processor has moved on from
     /// it.
-    #[inline(never)]
-    pub(crate) fn call<L: Lines>(&mut self, code: u32, before: Position, lines: &mut L)
+    fn call<L: Lines>(&mut self, code: u32, before: Position, lines: &mut L)
         requires runs { (s : State) × Stands self.old s
             × (is_some s.kernel.threads.running ≡ true) }
         requires time { self.old.kernel.clock + 1 < 2 ^ 64 }
@@ -102,6 +101,26 @@ impl Iop {
                 before.restore(&mut self.cpu);
                 self.fault(kind);
             }
+        }
+    }
+
+    /// Concludes an instruction that ended a burst by its event: it stops with a fault, or does what a
+    /// code asks for. The instruction stood at `before`.
+    #[inline(never)]
+    #[tactic(auto, using(iop_base::proofs::Giving::gives_none))]
+    pub(crate) fn conclude<L: Lines>(&mut self, event: Event, before: Position, lines: &mut L)
+        requires runs { (s : State) × Stands self.old s
+            × (is_some s.kernel.threads.running ≡ true) }
+        requires time { self.old.kernel.clock + 1 < 2 ^ 64 }
+        requires same_size { self.old.blocks.size ≡ length self.old.guest.ram }
+        ensures { (s : State) → Stands self.old s
+            → Takes Stands (concludes s before event) self.new
+            (L.output lines.old) (L.output lines.new) }
+    {
+        match event {
+            Event::Plain => {}
+            Event::Fault(kind) => self.fault(kind),
+            Event::Service(code) => self.call(code, before, lines),
         }
     }
 }

@@ -1,1 +1,6 @@
 pub mod Scripts
+pub mod Texts
+pub mod Statements
+pub mod Reading
+pub mod Answers
+pub mod Laws

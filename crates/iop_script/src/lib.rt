@@ -3,11 +3,20 @@
 #![tactic(auto)]
 
 mod args;
+mod fault;
+pub mod laws;
+mod parsing;
 mod raise;
 mod script;
+mod statements;
+#[cfg(test)]
+mod tests;
+mod texts;
 mod word;
 
 pub use args::Args;
+pub use fault::ScriptFault;
+pub use parsing::parse;
 pub use raise::Raise;
 pub use script::Script;
 pub use word::Word;

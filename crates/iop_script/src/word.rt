@@ -1,3 +1,6 @@
+ghost use Rattle.std.specs.Prelude.{◌≡◌, IfOk};
+
+use std::alloc::{AllocError, Global};
 use std::marker::Model;
 
 /// A word that a module is handed.
@@ -13,4 +16,14 @@ impl Model for Word {
     ghost Value = { List ℕ };
 
     ghost view = { λ word. word.bytes.items };
+}
+
+impl Word {
+    /// Makes the word of these bytes.
+    pub(crate) fn new(alloc: Global, bytes: &[u8]) -> Result<Self, AllocError>
+        ensures { IfOk result (λ word. word ≡ bytes.now) }
+    {
+        let bytes = Vec::from_slice(alloc, bytes)?;
+        Ok(Word { bytes })
+    }
 }

@@ -8,7 +8,8 @@ use Rattle.iop_base.proofs.ChoosingLemmas.{best_is_first}
 use Rattle.iop_thread.specs.declared.thread.Thread.{Thread}
 use Rattle.iop_thread.specs.States.{is_ready}
 use Rattle.iop_thread.specs.ThreadTable.{ThreadTable, thread_of, priority_of, best_ready}
-use Rattle.iop_thread.specs.Placing.{IsPlaced, one_if, is_in_state}
+use Rattle.iop_exec.specs.Arithmetic.{one_if}
+use Rattle.iop_thread.specs.Placing.{IsPlaced, is_in_state}
 use Rattle.iop_thread.specs.Laws.{IsBest}
 use Rattle.iop_thread.proofs.LiveThreads.{changed, thread_of_changed, thread_of_id}
 use Rattle.iop_thread.proofs.Moving.{found_there}

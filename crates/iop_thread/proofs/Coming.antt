@@ -12,9 +12,9 @@ use Rattle.iop_ready.specs.ReadyList.{entry_of}
 use Rattle.iop_thread.specs.declared.thread.Thread.{Thread}
 use Rattle.iop_thread.specs.declared.thread.TheConstants.{LAST_ID, LOADER, LOADER_STACK}
 use Rattle.iop_thread.specs.declared.threads.Threads.{Threads}
-use Rattle.iop_thread.specs.Operations.{made, loader_param, opening}
+use Rattle.iop_thread.specs.Operations.{dormant_thread, loader_param, opening}
 use Rattle.iop_thread.specs.ThreadTable.{ThreadTable, thread_of, has_room}
-use Rattle.iop_thread.specs.Placing.{one_if}
+use Rattle.iop_exec.specs.Arithmetic.{one_if}
 use Rattle.iop_thread.specs.ThreadPlaces.{thread_at, HasAlone}
 use Rattle.iop_thread.specs.Moves.{IsIn, HasNotId}
 use Rattle.iop_thread.specs.Standing.{Holds, entry_in}
@@ -225,7 +225,7 @@ module _ {R : Type 0} (stands_for : R → List Entry → Type 0) (place : ℕ �
 
 -- the loader's thread alone
 module _ {R : Type 0} (stands_for : R → List Entry → Type 0) (t : Threads R)
-    (alone : HasAlone (made LOADER loader_param LOADER_STACK 0) t.places)
+    (alone : HasAlone (dormant_thread LOADER loader_param LOADER_STACK 0) t.places)
     (none : stands_for t.ready []) (idle : t.running ≡ None) (next : t.next ≡ LOADER + 1) where
   -- the table holds it
   pub opens : Holds stands_for (λ id. 0) t opening
@@ -241,14 +241,15 @@ module _ {R : Type 0} (stands_for : R → List Entry → Type 0) (t : Threads R)
   }
     where
       loader : Thread
-      loader = made LOADER loader_param LOADER_STACK 0
+      loader = dormant_thread LOADER loader_param LOADER_STACK 0
 
       own_at : (slot : ℕ) (u : Thread)
-          → (if slot == 0 then Some (made LOADER loader_param LOADER_STACK 0) else None) ≡ Some u
+          → (if slot == 0 then Some (dormant_thread LOADER loader_param LOADER_STACK 0) else None)
+          ≡ Some u
           → IsIn (λ id. 0) opening.live slot u
       own_at slot u found =
           let zero : slot ≡ 0 = grind (arith, nat_tests, found) in
-          let is : made LOADER loader_param LOADER_STACK 0 ≡ u =
+          let is : dormant_thread LOADER loader_param LOADER_STACK 0 ≡ u =
           same_Some _ u (grind (arith, nat_tests, found, zero)) in
           subst (IsIn (λ id. 0) opening.live slot) is
           (record { found = grind (arith, nat_tests); slot = sym zero })

@@ -11,7 +11,7 @@ use Rattle.iop_thread.specs.Operations.{changes_it, changes, rotates_ready, rota
 use Rattle.iop_thread.specs.Placing.{IsPlaced, times}
 use Rattle.iop_thread.proofs.LiveThreads.{thread_of_changed}
 use Rattle.iop_thread.proofs.Moving.{in_its_state, goes_last, goes_first, goes_to_run, placed_in_same_state, placed_moved_last}
-use Rattle.iop_thread.proofs.FindingThreads.{Finds, finds_by_id, running_thread_runs, none_runs, IsReady, best_is_ready, first_is_ready, placed_either, Runs}
+use Rattle.iop_thread.proofs.FindingThreads.{Finds, finds_by_id, running_thread_runs, none_runs, IsReady, best_is_ready, first_is_ready, either_way, Runs}
 
 module _ (s : ThreadTable) (placed : IsPlaced s) where
   -- only the priority of a thread changes
@@ -36,7 +36,7 @@ module _ (s : ThreadTable) (placed : IsPlaced s) where
       → IsPlaced (changes_it s priority o).1
   placed_changes_it priority None finds = placed
   placed_changes_it priority (Some t) finds =
-      placed_either (is_dormant t.state) _ _ (λ is. placed)
+      either_way IsPlaced (is_dormant t.state) _ _ (λ is. placed)
       (λ other. placed_ready_again t (finds t refl) priority (is_ready t.state) refl)
 
   pub placed_changes : (id priority : ℕ) → IsPlaced (changes s id priority).1

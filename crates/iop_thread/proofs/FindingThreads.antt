@@ -1,5 +1,5 @@
 -- Which thread an operation finds, and what state it is in.
-use Rattle.std.proofs.Common.{◌≡◌, ℕ, ◌<◌, ◌==◌, Bool, true, false, if◌then◌else◌, option_and_then, Option, Some, None, Contains, refl, ap, ◌∙◌, arith}
+use Rattle.std.proofs.Common.{◌≡◌, ℕ, ◌<◌, ◌==◌, Bool, true, false, if◌then◌else◌, option_and_then, Option, Some, None, Contains, refl, ap, sym, ◌∙◌, arith}
 use Rattle.std.proofs.lemmas.Bool.Decides.{nat_tests}
 use Rattle.iop_base.specs.Choosing.{best}
 use Rattle.iop_exec.specs.declared.cpu.Cpu.{Cpu}
@@ -8,7 +8,8 @@ use Rattle.iop_thread.specs.declared.state.State.TheVariants.{Dormant, Running, 
 use Rattle.iop_thread.specs.declared.thread.Thread.{Thread}
 use Rattle.iop_thread.specs.States.{is_dormant, is_ready, is_running}
 use Rattle.iop_thread.specs.ThreadTable.{ThreadTable, thread_of, priority_of, is_it, running_thread, best_ready, first_ready}
-use Rattle.iop_thread.specs.Placing.{IsPlaced, times, one_if, is_in_state}
+use Rattle.iop_exec.specs.Arithmetic.{one_if}
+use Rattle.iop_thread.specs.Placing.{IsPlaced, times, is_in_state}
 use Rattle.iop_thread.proofs.LiveThreads.{thread_of_id}
 use Rattle.iop_thread.proofs.ReadyIds.{times_found, times_best, not_contained}
 
@@ -44,6 +45,16 @@ Finds s o = (t : Thread) → o ≡ Some t → thread_of s.live t.id ≡ Some t
 -- so is the one that any id finds
 pub finds_by_id : (s : ThreadTable) (id : ℕ) → Finds s (thread_of s.live id)
 finds_by_id s id t found = ap (thread_of s.live) (thread_of_id s.live id t found) ∙ found
+
+-- the id that runs is that of the running thread
+pub running_id : (s : ThreadTable) (t : Thread) → running_thread s ≡ Some t
+    → s.running ≡ Some t.id
+running_id s t found = by s.running refl found
+  where
+    by : (o : Option ℕ) → s.running ≡ o → option_and_then (thread_of s.live) o ≡ Some t
+        → s.running ≡ Some t.id
+    by None is found = cc
+    by (Some id) is found = is ∙ ap Some (sym (thread_of_id s.live id t found))
 
 -- the thread that runs
 pub record Runs (s : ThreadTable) (t : Thread) : Type 0 where
@@ -122,8 +133,8 @@ module _ (s : ThreadTable) (placed : IsPlaced s) where
   first_is_ready priority id found =
       times_found (λ id. priority_of s.live id == priority) s.ready id found
 
--- an operation that does one of two things leaves threads that are placed
-pub placed_either : {A : Type 0} (b : Bool) (x y : A × ThreadTable) → (b ≡ true → IsPlaced x.1)
-    → (b ≡ false → IsPlaced y.1) → IsPlaced (if b then x else y).1
-placed_either true x y first second = first refl
-placed_either false x y first second = second refl
+-- of the two ways that an operation can go, both leave such threads
+pub either_way : {A : Type 0} (P : ThreadTable → Type 0) (b : Bool) (x y : A × ThreadTable)
+    → (b ≡ true → P x.1) → (b ≡ false → P y.1) → P (if b then x else y).1
+either_way P true x y first second = first refl
+either_way P false x y first second = second refl

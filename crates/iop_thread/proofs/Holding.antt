@@ -12,7 +12,7 @@ use Rattle.iop_thread.specs.declared.found.Found.{Found}
 use Rattle.iop_thread.specs.declared.thread.Thread.{Thread}
 use Rattle.iop_thread.specs.declared.threads.Threads.{Threads}
 use Rattle.iop_thread.specs.ThreadTable.{ThreadTable, thread_of, priority_of, with_thread}
-use Rattle.iop_thread.specs.Placing.{one_if}
+use Rattle.iop_exec.specs.Arithmetic.{one_if}
 use Rattle.iop_thread.specs.ThreadPlaces.{thread_at, place_of}
 use Rattle.iop_thread.specs.Moves.{IsIn, IsThere, HasNotId, CanBecome}
 use Rattle.iop_thread.specs.Standing.{Holds, entry_in}

@@ -3,6 +3,7 @@ pub mod ChoosingThreads
 pub mod Coming
 pub mod DispatchSettling
 pub mod Dispatching
+pub mod EachThread
 pub mod FindingThreads
 pub mod Handling
 pub mod Holding
@@ -14,8 +15,11 @@ pub mod Placed
 pub mod ReadyHolding
 pub mod ReadyIds
 pub mod Settling
+pub mod Sleepers
 pub mod Starting
 pub mod Straight
-pub mod StraightThreads
 pub mod Strict
+pub mod WaitingOn
+pub mod Waits
+pub mod WaitsStarting
 pub mod Waking

@@ -7,7 +7,8 @@ use Rattle.iop_thread.specs.declared.state.State.TheVariants.{Dormant, Running, 
 use Rattle.iop_thread.specs.declared.thread.Thread.{Thread}
 use Rattle.iop_thread.specs.States.{is_ready, is_running}
 use Rattle.iop_thread.specs.ThreadTable.{ThreadTable, thread_of, is_it, in_state, with_thread, without, ready_last, ready_first, leaves, runs}
-use Rattle.iop_thread.specs.Placing.{IsPlaced, times, one_if, is_in_state}
+use Rattle.iop_exec.specs.Arithmetic.{one_if}
+use Rattle.iop_thread.specs.Placing.{IsPlaced, times, is_in_state}
 use Rattle.iop_thread.proofs.LiveThreads.{changed, HaveOwnIds, thread_of_changed, own_ids_changed, given_changed}
 use Rattle.iop_thread.proofs.ReadyIds.{times_first, times_last, times_without}
 

@@ -8,7 +8,7 @@ use Rattle.std.proofs.lemmas.List.{length-set, length-replicate}
 use Rattle.std.proofs.lemmas.List.Sums.{fails_before_first}
 use Rattle.iop_ready.specs.declared.slot.TheConstants.{MOST_THREADS}
 use Rattle.iop_thread.specs.declared.thread.Thread.{Thread}
-use Rattle.iop_thread.specs.Placing.{one_if}
+use Rattle.iop_exec.specs.Arithmetic.{one_if}
 use Rattle.iop_thread.specs.ThreadPlaces.{has_id, thread_at, place_of, HasAlone}
 
 -- the thread in a place after a write
@@ -100,7 +100,7 @@ free-Some places i found =
     is_none-true (Some t) is = cc
 
 -- no more than all are taken
-taken-le : (places : List (Option Thread)) → taken places ≤ length places
+pub taken-le : (places : List (Option Thread)) → taken places ≤ length places
 taken-le [] = omega arith
 taken-le (None ∷ places) = omega (arith, taken-le places)
 taken-le (Some t ∷ places) = omega (arith, taken-le places)

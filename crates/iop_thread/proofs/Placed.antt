@@ -24,19 +24,19 @@ keeps_places s placed = record {
   creates = placed_creates s placed;
   deletes = placed_deletes s placed;
   starts = placed_starts s placed;
-  begins = placed_begins s placed;
+  begins = λ registers any. placed_begins s placed registers;
   ends_running = placed_ends_running s placed;
   terminates = placed_terminates s placed;
   changes = placed_changes s placed;
-  rotates = placed_rotates s placed;
-  blocks = placed_blocks s placed;
+  rotates = λ priority registers any. placed_rotates s placed priority registers;
+  blocks = λ wait registers any so. placed_blocks s placed wait registers;
   wakes = placed_wakes s placed;
-  suspends = placed_suspends s placed;
+  suspends = λ id registers any. placed_suspends s placed id registers;
   resumes = placed_resumes s placed;
   wakes_up = placed_wakes_up s placed;
   cancels = placed_cancels s placed;
   takes_wakeup = placed_takes_wakeup s placed;
-  dispatches = placed_dispatches s placed;
+  dispatches = λ registers d any did. (placed_dispatches s placed registers d did, tt);
 }
 
 pub operations_keep_places : OperationsKeepPlaces

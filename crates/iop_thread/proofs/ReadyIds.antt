@@ -3,7 +3,8 @@ use Rattle.std.proofs.Common.{◌≡◌, ℕ, zero, suc, ◌+◌, ◌<◌, ◌�
 use Rattle.std.proofs.lemmas.Bool.Decides.{nat_tests}
 use Rattle.iop_base.specs.Choosing.{better, best}
 use Rattle.iop_thread.specs.ThreadTable.{without}
-use Rattle.iop_thread.specs.Placing.{times, one_if}
+use Rattle.iop_exec.specs.Arithmetic.{one_if}
+use Rattle.iop_thread.specs.Placing.{times}
 
 -- one id more in front
 pub times_first : (id one : ℕ) (ids : List ℕ) →

@@ -1,26 +1,23 @@
 -- What holds of the thread that an operation found, and when the table stands for what the operation
 -- left.
-use Rattle.std.proofs.Common.{◌≡◌, ℕ, ◌+◌, min, true, false, Option, Some, None, is_some, option_and_then, List, refl, ap, sym, ◌∙◌, subst, arith}
+use Rattle.std.proofs.Common.{◌≡◌, ℕ, ◌≤◌, true, false, Option, Some, None, is_some, List, length, refl, ap, sym, ◌∙◌, subst, arith}
 use Rattle.std.proofs.lemmas.Bool.Decides.{nat_tests}
 use Rattle.std.proofs.lemmas.Option.{same_Some}
 use Rattle.iop_exec.specs.declared.cpu.Cpu.{Cpu}
 use Rattle.iop_ready.specs.declared.entry.Entry.{Entry}
+use Rattle.iop_ready.specs.declared.slot.TheConstants.{MOST_THREADS}
 use Rattle.iop_thread.specs.declared.found.Found.{Found}
 use Rattle.iop_thread.specs.declared.state.State.{State}
 use Rattle.iop_thread.specs.declared.state.State.TheVariants.{Dormant, Running, Ready, Waiting, Suspended, WaitingSuspended}
 use Rattle.iop_thread.specs.declared.thread.Thread.{Thread}
-use Rattle.iop_thread.specs.declared.thread.TheConstants.{MOST_WAKEUPS}
-use Rattle.iop_thread.specs.declared.wait.Wait.{Wait}
-use Rattle.iop_thread.specs.declared.wait.Wait.TheVariants.{Sleep, Delay, Semaphore, EventFlag, Mailbox}
 use Rattle.iop_thread.specs.declared.threads.Threads.{Threads}
 use Rattle.iop_thread.specs.States.{is_dormant, is_ready}
-use Rattle.iop_thread.specs.ThreadTable.{ThreadTable, thread_of, is_it, running_thread, with_thread}
-use Rattle.iop_thread.specs.Operations.{wakes_in, wakes_up_for}
+use Rattle.iop_thread.specs.ThreadTable.{ThreadTable, thread_of, is_it}
 use Rattle.iop_thread.specs.Placing.{IsPlaced}
-use Rattle.iop_thread.specs.Moves.{IsIn, IsThere, HasNotId, CanEnter, sleeps}
+use Rattle.iop_thread.specs.Moves.{IsIn, IsThere, HasNotId, CanEnter}
 use Rattle.iop_thread.specs.Standing.{Stands, Holds, Leaves, Lends}
-use Rattle.iop_thread.proofs.LiveThreads.{contains_thread_of, thread_of_id}
-use Rattle.iop_thread.proofs.PlaceLists.{thread_at-within}
+use Rattle.iop_thread.proofs.LiveThreads.{contains_thread_of}
+use Rattle.iop_thread.proofs.PlaceLists.{thread_at-within, taken-le}
 use Rattle.iop_thread.proofs.Holding.{one_place}
 use Rattle.iop_thread.proofs.FindingThreads.{dormant_state}
 use Rattle.iop_thread.proofs.Handling.{has_not_id}
@@ -39,43 +36,12 @@ not_ready_state (Waiting wait own) other = refl
 not_ready_state (Suspended own) other = refl
 not_ready_state (WaitingSuspended wait own) other = refl
 
--- one that does not sleep has one wakeup more
-pub wakes_up_other : (s : ThreadTable) (t : Thread) (o : Option Wait) → sleeps o ≡ false
-    → wakes_up_for s t o
-    ≡ with_thread s (record t { wakeups = min (t.wakeups + 1) MOST_WAKEUPS })
-wakes_up_other s t None other = refl
-wakes_up_other s t (Some Sleep) other = cc
-wakes_up_other s t (Some Delay) other = refl
-wakes_up_other s t (Some (Semaphore id)) other = refl
-wakes_up_other s t (Some (EventFlag id)) other = refl
-wakes_up_other s t (Some (Mailbox id)) other = refl
-
--- one that sleeps is woken
-pub wakes_up_sleeper : (s : ThreadTable) (t : Thread) (o : Option Wait) → sleeps o ≡ true
-    → wakes_up_for s t o ≡ wakes_in s 0 t t.state
-wakes_up_sleeper s t None is = cc
-wakes_up_sleeper s t (Some Sleep) is = refl
-wakes_up_sleeper s t (Some Delay) is = cc
-wakes_up_sleeper s t (Some (Semaphore id)) is = cc
-wakes_up_sleeper s t (Some (EventFlag id)) is = cc
-wakes_up_sleeper s t (Some (Mailbox id)) is = cc
-
 -- a thread that is not ready is not in the ready list
 pub not_listed : (s : ThreadTable) (t : Thread) → IsPlaced s → thread_of s.live t.id ≡ Some t
     → is_ready t.state ≡ false → HasNotId t.id s.ready
 not_listed s t placed found other =
     let times = placed.ready t.id in
     has_not_id t.id s.ready (grind (arith, times, found, other))
-
--- the id that runs is that of the running thread
-pub running_id : (s : ThreadTable) (t : Thread) → running_thread s ≡ Some t
-    → s.running ≡ Some t.id
-running_id s t found = by s.running refl found
-  where
-    by : (o : Option ℕ) → s.running ≡ o → option_and_then (thread_of s.live) o ≡ Some t
-        → s.running ≡ Some t.id
-    by None is found = cc
-    by (Some id) is found = is ∙ ap Some (sym (thread_of_id s.live id t found))
 
 -- the running thread is live
 pub running_is_live : (s : ThreadTable) → IsPlaced s → (id : ℕ) → s.running ≡ Some id
@@ -122,6 +88,11 @@ module _ {R : Type 0} (stands_for : R → List Entry → Type 0) (place : ℕ �
     sym (ap (λ (d : A × ThreadTable). d.0) is),
     stands_as did.1 (ap (λ (d : A × ThreadTable). d.1) is) placed,
   )
+
+-- no more threads are live than can be
+pub most_are_live : {R : Type 0} (stands_for : R → List Entry → Type 0) (t : Threads R)
+    (s : ThreadTable) → Stands stands_for t s → length s.live ≤ MOST_THREADS
+most_are_live stands_for t s h = omega (arith, h.holds.count, h.holds.size, taken-le t.places)
 
 -- what the table lends
 pub lends : {R : Type 0} (stands_for : R → List Entry → Type 0) (t : Threads R) (s : ThreadTable)

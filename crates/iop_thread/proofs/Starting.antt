@@ -9,18 +9,19 @@ use Rattle.iop_thread.specs.declared.thread.Thread.{Thread}
 use Rattle.iop_thread.specs.declared.thread.TheConstants.{LOADER}
 use Rattle.iop_thread.specs.States.{is_dormant, first_registers}
 use Rattle.iop_thread.specs.ThreadTable.{ThreadTable, thread_of, ready_last, running_thread, has_room}
-use Rattle.iop_thread.specs.Operations.{made, creates, deletes_it, deletes, starts_it, starts, begins_it, begins, ends_it, ends_running, terminates_it, terminates}
+use Rattle.iop_thread.specs.Operations.{dormant_thread, creates, deletes_it, deletes, starts_it, starts, begins_it, begins, ends_it, ends_running, terminates_it, terminates}
 use Rattle.iop_thread.specs.Placing.{IsPlaced}
 use Rattle.iop_thread.proofs.LiveThreads.{thread_of_added, thread_of_without, own_ids_added, own_ids_without, given_added, given_without, none_of_next}
 use Rattle.iop_thread.proofs.Moving.{in_hand, arrives_last, goes_aside, goes_last}
-use Rattle.iop_thread.proofs.FindingThreads.{Finds, finds_by_id, dormant_state, running_thread_runs, placed_either}
+use Rattle.iop_thread.proofs.FindingThreads.{Finds, finds_by_id, dormant_state, running_thread_runs, either_way}
 
 module _ (s : ThreadTable) (placed : IsPlaced s) where
   -- a dormant thread comes
   placed_with_made : (param : Param) (stack gp : ℕ)
-      → IsPlaced (record s { live = s.live ++ made s.next param stack gp ∷ []; next = s.next + 1 })
+      → IsPlaced (record s
+      { live = s.live ++ dormant_thread s.next param stack gp ∷ []; next = s.next + 1 })
   placed_with_made param stack gp =
-      let t = made s.next param stack gp in
+      let t = dormant_thread s.next param stack gp in
       let none = none_of_next s.live s.next placed.given in
       record {
         ready = λ id. let added = thread_of_added s.live t id none in
@@ -34,7 +35,7 @@ module _ (s : ThreadTable) (placed : IsPlaced s) where
   -- a thread is made, where there is room
   pub placed_creates : (param : Param) (stack gp : ℕ) → IsPlaced (creates s param stack gp).1
   placed_creates param stack gp =
-      placed_either (has_room s) _ _ (λ room. placed_with_made param stack gp) (λ full. placed)
+      either_way IsPlaced (has_room s) _ _ (λ room. placed_with_made param stack gp) (λ full. placed)
 
   -- a dormant thread goes
   placed_without : (t : Thread) → thread_of s.live t.id ≡ Some t → t.state ≡ Dormant
@@ -54,7 +55,7 @@ module _ (s : ThreadTable) (placed : IsPlaced s) where
   placed_deletes_it : (o : Option Thread) → Finds s o → IsPlaced (deletes_it s o).1
   placed_deletes_it None finds = placed
   placed_deletes_it (Some t) finds =
-      placed_either (is_dormant t.state) _ _
+      either_way IsPlaced (is_dormant t.state) _ _
       (λ is. placed_without t (finds t refl) (dormant_state t.state is)) (λ other. placed)
 
   pub placed_deletes : (id : ℕ) → IsPlaced (deletes s id).1
@@ -65,7 +66,7 @@ module _ (s : ThreadTable) (placed : IsPlaced s) where
       → IsPlaced (starts_it s argument o).1
   placed_starts_it argument None finds = placed
   placed_starts_it argument (Some t) finds =
-      placed_either (is_dormant t.state) _ _
+      either_way IsPlaced (is_dormant t.state) _ _
       (λ is. let hand = in_hand s t placed (finds t refl) Dormant (dormant_state t.state is) in
       arrives_last s t (record t { priority = t.param.priority; wakeups = 0 }) hand (finds t refl)
       (first_registers t argument))
@@ -101,7 +102,7 @@ module _ (s : ThreadTable) (placed : IsPlaced s) where
   placed_terminates_it : (o : Option Thread) → Finds s o → IsPlaced (terminates_it s o).1
   placed_terminates_it None finds = placed
   placed_terminates_it (Some t) finds =
-      placed_either (is_dormant t.state) _ _ (λ is. placed)
+      either_way IsPlaced (is_dormant t.state) _ _ (λ is. placed)
       (λ other. goes_aside s t placed (finds t refl) t.state Dormant refl refl refl)
 
   pub placed_terminates : (id : ℕ) → IsPlaced (terminates s id).1

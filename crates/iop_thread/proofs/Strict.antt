@@ -10,7 +10,8 @@ use Rattle.iop_thread.specs.declared.thread.Thread.{Thread}
 use Rattle.iop_thread.specs.States.{is_ready}
 use Rattle.iop_thread.specs.ThreadTable.{ThreadTable, thread_of, priority_of, ready_first, runs, running_thread, best_ready, without}
 use Rattle.iop_thread.specs.Operations.{Dispatch, ready_registers, dispatches_it, dispatches_by, dispatches}
-use Rattle.iop_thread.specs.Placing.{IsPlaced, times, one_if, is_in_state}
+use Rattle.iop_exec.specs.Arithmetic.{one_if}
+use Rattle.iop_thread.specs.Placing.{IsPlaced, times, is_in_state}
 use Rattle.iop_thread.specs.Laws.{IsBest, IsDispatched, IsSettled, DispatchIsStrict}
 use Rattle.iop_thread.proofs.BestReady.{is_best, best_is_least, none_ready}
 use Rattle.iop_thread.proofs.FindingThreads.{best_is_ready, none_runs, running_thread_runs}

@@ -1,70 +1,77 @@
 -- What the laws of the operations say.
-use Rattle.std.specs.Prelude.{◌≡◌, ℕ, ◌<◌, ◌≤◌, Some, None, IfSome, option_map, List, [], ◌∷◌, ◌++◌, All}
+use Rattle.std.specs.Prelude.{◌≡◌, ℕ, ◌<◌, ◌≤◌, Some, None, IfSome, option_map, List, [], ◌∷◌, ◌++◌, All, ⊤}
 use Rattle.iop_exec.specs.declared.cpu.Cpu.{Cpu}
 use Rattle.iop_exec.specs.Positions.{IsStraight}
 use Rattle.iop_thread.specs.declared.param.Param.{Param}
 use Rattle.iop_thread.specs.declared.wait.Wait.{Wait}
+use Rattle.iop_thread.specs.declared.wait.Wait.TheVariants.{Sleep}
 use Rattle.iop_thread.specs.Operations.{Dispatch, opening, creates, deletes, starts, begins, ends_running, terminates, changes, rotates, blocks, wakes, suspends, resumes, wakes_up, cancels, takes_wakeup, dispatches}
 use Rattle.iop_thread.specs.Placing.{IsPlaced}
-use Rattle.iop_thread.specs.States.{kept_registers}
-use Rattle.iop_thread.specs.ThreadTable.{ThreadTable, thread_of, priority_of}
+use Rattle.iop_thread.specs.States.{kept_registers, wait_in}
+use Rattle.iop_thread.specs.ThreadTable.{ThreadTable, thread_of, priority_of, running_thread}
 use Rattle.iop_thread.specs.declared.state.State.TheVariants.{Ready}
 use Rattle.iop_thread.specs.declared.thread.Thread.{Thread}
 
--- each operation leaves threads that are placed
-pub record KeepsPlaces (s : ThreadTable) : Type 0 where
-  pub creates : (param : Param) (stack gp : ℕ) → IsPlaced (creates s param stack gp).1
-  pub deletes : (id : ℕ) → IsPlaced (deletes s id).1
-  pub starts : (id argument : ℕ) → IsPlaced (starts s id argument).1
-  pub begins : (registers : Cpu) → IsPlaced (begins s registers)
-  pub ends_running : IsPlaced (ends_running s)
-  pub terminates : (id : ℕ) → IsPlaced (terminates s id).1
-  pub changes : (id priority : ℕ) → IsPlaced (changes s id priority).1
-  pub rotates : (priority : ℕ) (registers : Cpu) → IsPlaced (rotates s priority registers)
-  pub blocks : (wait : Wait) (registers : Cpu) → IsPlaced (blocks s wait registers)
-  pub wakes : (id answer : ℕ) → IsPlaced (wakes s id answer)
-  pub suspends : (id : ℕ) (registers : Cpu) → IsPlaced (suspends s id registers).1
-  pub resumes : (id : ℕ) → IsPlaced (resumes s id).1
-  pub wakes_up : (id : ℕ) → IsPlaced (wakes_up s id).1
-  pub cancels : (id : ℕ) → IsPlaced (cancels s id).1
-  pub takes_wakeup : IsPlaced (takes_wakeup s).1
-  pub dispatches : (registers : Cpu) (d : Dispatch) → dispatches s registers ≡ Some d
-      → IsPlaced d.threads
+module _ (P : ThreadTable → Type 0) (MayHave : Cpu → Type 0)
+    (MayWait : ThreadTable → Wait → Type 0) where
+  -- each operation leaves what holds of the threads, if the registers and the wait may be that it is
+  -- given; a thread that is dispatched goes on with such registers
+  pub record Keeps (s : ThreadTable) : Type 0 where
+    pub creates : (param : Param) (stack gp : ℕ) → P (creates s param stack gp).1
+    pub deletes : (id : ℕ) → P (deletes s id).1
+    pub starts : (id argument : ℕ) → P (starts s id argument).1
+    pub begins : (registers : Cpu) → MayHave registers → P (begins s registers)
+    pub ends_running : P (ends_running s)
+    pub terminates : (id : ℕ) → P (terminates s id).1
+    pub changes : (id priority : ℕ) → P (changes s id priority).1
+    pub rotates : (priority : ℕ) (registers : Cpu) → MayHave registers
+        → P (rotates s priority registers)
+    pub blocks : (wait : Wait) (registers : Cpu) → MayHave registers → MayWait s wait
+        → P (blocks s wait registers)
+    pub wakes : (id answer : ℕ) → P (wakes s id answer)
+    pub suspends : (id : ℕ) (registers : Cpu) → MayHave registers → P (suspends s id registers).1
+    pub resumes : (id : ℕ) → P (resumes s id).1
+    pub wakes_up : (id : ℕ) → P (wakes_up s id).1
+    pub cancels : (id : ℕ) → P (cancels s id).1
+    pub takes_wakeup : P (takes_wakeup s).1
+    pub dispatches : (registers : Cpu) (d : Dispatch) → MayHave registers
+        → dispatches s registers ≡ Some d → P d.threads × MayHave d.registers
 
-pub record OperationsKeepPlaces : Type 0 where
-  pub opening : IsPlaced opening
-  pub keeps : (s : ThreadTable) → IsPlaced s → KeepsPlaces s
+  -- it holds at first, and after each operation
+  pub record OperationsKeep : Type 0 where
+    pub opening : P opening
+    pub keeps : (s : ThreadTable) → P s → Keeps s
+
+-- threads stay placed
+abbrev pub KeepsPlaces : ThreadTable → Type 0
+KeepsPlaces = Keeps IsPlaced (λ registers. ⊤) (λ s wait. ⊤)
+
+abbrev pub OperationsKeepPlaces : Type 0
+OperationsKeepPlaces = OperationsKeep IsPlaced (λ registers. ⊤) (λ s wait. ⊤)
 
 -- outside a delay slot the next instruction of each thread is the one behind
 abbrev pub AreStraight : ThreadTable → Type 0
 AreStraight s = All (λ t. IfSome (kept_registers t.state) IsStraight) s.live
 
--- each operation leaves threads that are so, if the registers are that it is given
-pub record KeepsStraight (s : ThreadTable) : Type 0 where
-  pub creates : (param : Param) (stack gp : ℕ) → AreStraight (creates s param stack gp).1
-  pub deletes : (id : ℕ) → AreStraight (deletes s id).1
-  pub starts : (id argument : ℕ) → AreStraight (starts s id argument).1
-  pub begins : (registers : Cpu) → IsStraight registers → AreStraight (begins s registers)
-  pub ends_running : AreStraight (ends_running s)
-  pub terminates : (id : ℕ) → AreStraight (terminates s id).1
-  pub changes : (id priority : ℕ) → AreStraight (changes s id priority).1
-  pub rotates : (priority : ℕ) (registers : Cpu) → IsStraight registers
-      → AreStraight (rotates s priority registers)
-  pub blocks : (wait : Wait) (registers : Cpu) → IsStraight registers
-      → AreStraight (blocks s wait registers)
-  pub wakes : (id answer : ℕ) → AreStraight (wakes s id answer)
-  pub suspends : (id : ℕ) (registers : Cpu) → IsStraight registers
-      → AreStraight (suspends s id registers).1
-  pub resumes : (id : ℕ) → AreStraight (resumes s id).1
-  pub wakes_up : (id : ℕ) → AreStraight (wakes_up s id).1
-  pub cancels : (id : ℕ) → AreStraight (cancels s id).1
-  pub takes_wakeup : AreStraight (takes_wakeup s).1
-  pub dispatches : (registers : Cpu) (d : Dispatch) → IsStraight registers
-      → dispatches s registers ≡ Some d → AreStraight d.threads × IsStraight d.registers
+abbrev pub KeepsStraight : ThreadTable → Type 0
+KeepsStraight = Keeps AreStraight IsStraight (λ s wait. ⊤)
 
-pub record OperationsKeepStraight : Type 0 where
-  pub opening : AreStraight opening
-  pub keeps : (s : ThreadTable) → AreStraight s → KeepsStraight s
+abbrev pub OperationsKeepStraight : Type 0
+OperationsKeepStraight = OperationsKeep AreStraight IsStraight (λ s wait. ⊤)
+
+-- a thread that sleeps has no wakeups
+abbrev pub SleepersAreUnwoken : ThreadTable → Type 0
+SleepersAreUnwoken s = All (λ t. wait_in t.state ≡ Some Sleep → t.wakeups ≡ 0) s.live
+
+-- the running thread may sleep if it has none
+abbrev pub MayWaitSo : ThreadTable → Wait → Type 0
+MayWaitSo s wait = wait ≡ Sleep → IfSome (running_thread s) (λ t. t.wakeups ≡ 0)
+
+abbrev pub KeepsSleepers : ThreadTable → Type 0
+KeepsSleepers = Keeps SleepersAreUnwoken (λ registers. ⊤) MayWaitSo
+
+abbrev pub OperationsKeepSleepers : Type 0
+OperationsKeepSleepers = OperationsKeep SleepersAreUnwoken (λ registers. ⊤) MayWaitSo
 
 -- a thread is the first among those of the least priority number
 pub record IsBest (s : ThreadTable) (t : Thread) : Type 0 where

@@ -6,3 +6,4 @@ pub mod Standing
 pub mod States
 pub mod ThreadPlaces
 pub mod ThreadTable
+pub mod Waits

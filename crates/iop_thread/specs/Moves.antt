@@ -1,11 +1,8 @@
 -- What the moves of single threads ask of the thread that is moved.
-use Rattle.std.specs.Prelude.{◌≡◌, ◌≢◌, ◌⊎◌, ℕ, Bool, true, false, Option, Some, List, All}
+use Rattle.std.specs.Prelude.{◌≡◌, ◌≢◌, ◌⊎◌, ℕ, Option, Some, List, All}
 use Rattle.iop_thread.specs.declared.found.Found.{Found}
 use Rattle.iop_thread.specs.declared.thread.Thread.{Thread}
-use Rattle.iop_thread.specs.declared.wait.Wait.{Wait}
-use Rattle.iop_thread.specs.declared.wait.Wait.TheVariants.{Sleep}
-use Rattle.iop_thread.specs.ThreadTable.{ThreadTable, thread_of, with_thread}
-use Rattle.iop_thread.specs.Operations.{ready_again}
+use Rattle.iop_thread.specs.ThreadTable.{ThreadTable, thread_of}
 use Rattle.iop_thread.specs.ThreadPlaces.{thread_at}
 
 -- the thread that was found stands in its place
@@ -34,21 +31,3 @@ pub record CanEnter (place : ℕ → ℕ) (s : ThreadTable) (at : ℕ) (t : Thre
   pub found : thread_of s.live t.id ≡ Some was
   pub slot : place t.id ≡ at
   pub absent : HasNotId t.id s.ready
-
--- the threads where one has another priority
-abbrev pub with_priority : ThreadTable → Thread → ℕ → ThreadTable
-with_priority s t priority =
-    record (with_thread s (record t { priority = priority })) { ready = ready_again s t }
-
--- a thread with the priority that it was made with and no wakeups
-abbrev pub renewed : Thread → Thread
-renewed t = record t { priority = t.param.priority; wakeups = 0 }
-
--- whether a thread that waits so sleeps
-abbrev pub sleeps : Option Wait → Bool
-sleeps (Some Sleep) = true
-sleeps other = false
-
--- the threads where one has so many wakeups
-abbrev pub with_wakeups : ThreadTable → Thread → ℕ → ThreadTable
-with_wakeups s t wakeups = with_thread s (record t { wakeups = wakeups })

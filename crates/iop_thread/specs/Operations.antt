@@ -1,6 +1,6 @@
 -- What the operations on threads answer, and the threads that they leave (ps2sdk: thbase; the codes are
 -- those of its kerr.h). The order of refusals is this project's own profile.
-use Rattle.std.specs.Prelude.{ℕ, ◌+◌, ◌-◌, ◌==◌, min, nat_lt, Bool, true, false, if◌then◌else◌, Option, Some, None, Result, Ok, Err, List, [], ◌∷◌, ◌++◌, filter, not}
+use Rattle.std.specs.Prelude.{ℕ, ◌+◌, ◌-◌, ◌==◌, min, nat_lt, Bool, true, false, if◌then◌else◌, Option, Some, None, Result, Ok, Err, [], ◌∷◌, ◌++◌, filter, not}
 use Rattle.iop_base.specs.declared.code.Code.{Code}
 use Rattle.iop_base.specs.declared.code.TheConstants.Code.{OK, NO_MEMORY, UNKNOWN_THREAD, DORMANT, NOT_DORMANT, NOT_SUSPENDED}
 use Rattle.iop_exec.specs.declared.cpu.Cpu.{Cpu}
@@ -10,13 +10,12 @@ use Rattle.iop_thread.specs.declared.state.State.TheVariants as states
 use Rattle.iop_thread.specs.declared.thread.Thread.{Thread}
 use Rattle.iop_thread.specs.declared.thread.TheConstants.{LOADER_ATTRIBUTE, LOADER_PRIORITY, LOADER_STACK, LOADER_STACK_SIZE, MOST_WAKEUPS, LOADER}
 use Rattle.iop_thread.specs.declared.wait.Wait.{Wait}
-use Rattle.iop_thread.specs.declared.wait.Wait.TheVariants.{Sleep}
-use Rattle.iop_thread.specs.States.{is_dormant, is_ready, wait_in, suspended, answered, first_registers}
-use Rattle.iop_thread.specs.ThreadTable.{ThreadTable, thread_of, running_thread, best_ready, first_ready, with_thread, in_state, without, ready_last, ready_first, leaves, runs, has_room}
+use Rattle.iop_thread.specs.States.{is_dormant, wait_in, sleeps, suspended_state, with_answer, first_registers}
+use Rattle.iop_thread.specs.ThreadTable.{ThreadTable, thread_of, running_thread, best_ready, first_ready, in_state, without, as_at_first, with_priority, with_wakeups, ready_last, ready_first, leaves, runs, has_room}
 
--- a thread that is made: it is dormant
-abbrev pub made : ℕ → Param → (stack gp : ℕ) → Thread
-made id param stack gp = record {
+-- a thread as it is made: dormant
+abbrev pub dormant_thread : ℕ → Param → (stack gp : ℕ) → Thread
+dormant_thread id param stack gp = record {
   id = id;
   param = param;
   stack = stack;
@@ -39,7 +38,7 @@ loader_param = record {
 -- the threads at first: the loader's thread alone, dormant
 abbrev pub opening : ThreadTable
 opening = record {
-  live = made LOADER loader_param LOADER_STACK 0 ∷ [];
+  live = dormant_thread LOADER loader_param LOADER_STACK 0 ∷ [];
   ready = [];
   running = None;
   next = LOADER + 1;
@@ -50,7 +49,10 @@ module _ (s : ThreadTable) where
   abbrev pub creates : Param → (stack gp : ℕ) → Result ℕ Code × ThreadTable
   creates param stack gp =
       if has_room s
-      then (Ok s.next, record s { live = s.live ++ made s.next param stack gp ∷ []; next = s.next + 1 })
+      then (
+        Ok s.next,
+        record s { live = s.live ++ dormant_thread s.next param stack gp ∷ []; next = s.next + 1 },
+      )
       else (Err NO_MEMORY, s)
 
   -- a dormant thread is deleted; its stack is answered
@@ -69,12 +71,7 @@ module _ (s : ThreadTable) where
   starts_it argument None = (UNKNOWN_THREAD, s)
   starts_it argument (Some t) =
       if is_dormant t.state
-      then (
-        OK,
-        ready_last s (record t { priority = t.param.priority; wakeups = 0 })
-            (first_registers t argument),
-      )
-      else (NOT_DORMANT, s)
+      then (OK, ready_last s (as_at_first t) (first_registers t argument)) else (NOT_DORMANT, s)
 
   abbrev pub starts : (id argument : ℕ) → Code × ThreadTable
   starts id argument = starts_it argument (thread_of s.live id)
@@ -105,19 +102,12 @@ module _ (s : ThreadTable) where
   abbrev pub terminates : ℕ → Result (Option Wait) Code × ThreadTable
   terminates id = terminates_it (thread_of s.live id)
 
-  -- the priority of a thread changes; a ready one is moved behind all others, what one waits for is
-  -- answered
-  abbrev pub ready_again : Thread → List ℕ
-  ready_again t = if is_ready t.state then without t.id s.ready ++ t.id ∷ [] else s.ready
-
+  -- the priority of a thread changes; what it waits for is answered
   abbrev pub changes_it : (priority : ℕ) → Option Thread → Result (Option Wait) Code × ThreadTable
   changes_it priority None = (Err UNKNOWN_THREAD, s)
   changes_it priority (Some t) =
       if is_dormant t.state then (Err DORMANT, s)
-      else (
-        Ok (wait_in t.state),
-        record (with_thread s (record t { priority = priority })) { ready = ready_again t },
-      )
+      else (Ok (wait_in t.state), with_priority s t priority)
 
   abbrev pub changes : (id priority : ℕ) → Result (Option Wait) Code × ThreadTable
   changes id priority = changes_it priority (thread_of s.live id)
@@ -148,9 +138,9 @@ module _ (s : ThreadTable) where
 
   -- the wait of a thread ends with an answer
   abbrev pub wakes_in : (answer : ℕ) → Thread → State → ThreadTable
-  wakes_in answer t (states.Waiting wait own) = ready_last s t (answered own answer)
+  wakes_in answer t (states.Waiting wait own) = ready_last s t (with_answer own answer)
   wakes_in answer t (states.WaitingSuspended wait own) =
-      in_state s t (states.Suspended (answered own answer))
+      in_state s t (states.Suspended (with_answer own answer))
   wakes_in answer t other = s
 
   abbrev pub wakes_it : (answer : ℕ) → Option Thread → ThreadTable
@@ -165,7 +155,7 @@ module _ (s : ThreadTable) where
   suspends_it registers None = (UNKNOWN_THREAD, s)
   suspends_it registers (Some t) =
       if is_dormant t.state then (DORMANT, s)
-      else (OK, in_state (leaves s t t.state) t (suspended registers t.state))
+      else (OK, in_state (leaves s t t.state) t (suspended_state registers t.state))
 
   abbrev pub suspends : ℕ → Cpu → Code × ThreadTable
   suspends id registers = suspends_it registers (thread_of s.live id)
@@ -184,14 +174,15 @@ module _ (s : ThreadTable) where
   resumes id = resumes_it (thread_of s.live id)
 
   -- a sleeping thread is woken, any other is woken once more when it will sleep
-  abbrev pub wakes_up_for : Thread → Option Wait → ThreadTable
-  wakes_up_for t (Some Sleep) = wakes_in 0 t t.state
-  wakes_up_for t other = with_thread s (record t { wakeups = min (t.wakeups + 1) MOST_WAKEUPS })
+  abbrev pub wakes_up_by : Thread → ThreadTable
+  wakes_up_by t =
+      if sleeps (wait_in t.state) then wakes_in 0 t t.state
+      else with_wakeups s t (min (t.wakeups + 1) MOST_WAKEUPS)
 
   abbrev pub wakes_up_it : Option Thread → Code × ThreadTable
   wakes_up_it None = (UNKNOWN_THREAD, s)
   wakes_up_it (Some t) =
-      if is_dormant t.state then (DORMANT, s) else (OK, wakes_up_for t (wait_in t.state))
+      if is_dormant t.state then (DORMANT, s) else (OK, wakes_up_by t)
 
   abbrev pub wakes_up : ℕ → Code × ThreadTable
   wakes_up id = wakes_up_it (thread_of s.live id)
@@ -201,7 +192,7 @@ module _ (s : ThreadTable) where
   cancels_it None = (Err UNKNOWN_THREAD, s)
   cancels_it (Some t) =
       if is_dormant t.state then (Err DORMANT, s)
-      else (Ok t.wakeups, with_thread s (record t { wakeups = 0 }))
+      else (Ok t.wakeups, with_wakeups s t 0)
 
   abbrev pub cancels : ℕ → Result ℕ Code × ThreadTable
   cancels id = cancels_it (thread_of s.live id)
@@ -210,8 +201,7 @@ module _ (s : ThreadTable) where
   abbrev pub takes_wakeup_it : Option Thread → Bool × ThreadTable
   takes_wakeup_it None = (false, s)
   takes_wakeup_it (Some t) =
-      if nat_lt 0 t.wakeups then (true, with_thread s (record t { wakeups = t.wakeups - 1 }))
-      else (false, s)
+      if nat_lt 0 t.wakeups then (true, with_wakeups s t (t.wakeups - 1)) else (false, s)
 
   abbrev pub takes_wakeup : Bool × ThreadTable
   takes_wakeup = takes_wakeup_it (running_thread s)

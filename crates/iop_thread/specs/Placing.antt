@@ -1,5 +1,6 @@
 -- Where threads stand, at all times (ps2sdk: thread.h): a law of the operations.
-use Rattle.std.specs.Prelude.{◌≡◌, ◌≢◌, ℕ, ◌<◌, ◌==◌, Bool, true, false, option_map, unwrap_or, List, length, filter, All, AllPairs}
+use Rattle.std.specs.Prelude.{◌≡◌, ◌≢◌, ℕ, ◌<◌, ◌==◌, Bool, false, option_map, unwrap_or, List, length, filter, All, AllPairs}
+use Rattle.iop_exec.specs.Arithmetic.{one_if}
 use Rattle.iop_thread.specs.declared.state.State.{State}
 use Rattle.iop_thread.specs.declared.thread.Thread.{Thread}
 use Rattle.iop_thread.specs.States.{is_ready, is_running}
@@ -8,10 +9,6 @@ use Rattle.iop_thread.specs.ThreadTable.{ThreadTable, thread_of, is_it}
 -- how often an id is in a list
 abbrev pub times : ℕ → List ℕ → ℕ
 times id ids = length (filter (λ other. other == id) ids)
-
-abbrev pub one_if : Bool → ℕ
-one_if true = 1
-one_if false = 0
 
 -- whether a thread of this id is live, in such a state
 abbrev pub is_in_state : (State → Bool) → List Thread → ℕ → Bool

@@ -29,6 +29,11 @@ wait_in (Waiting wait registers) = Some wait
 wait_in (WaitingSuspended wait registers) = Some wait
 wait_in other = None
 
+-- whether a thread that waits so sleeps
+abbrev pub sleeps : Option Wait → Bool
+sleeps (Some Sleep) = true
+sleeps other = false
+
 -- the registers with which a thread is to go on
 abbrev pub kept_registers : State → Option Cpu
 kept_registers (Ready own) = Some own
@@ -61,15 +66,15 @@ object_of (EventFlag id) = id
 object_of (Mailbox id) = id
 
 -- a thread that is suspended, which had these registers if it was running
-abbrev pub suspended : Cpu → State → State
-suspended registers Running = Suspended registers
-suspended registers (Ready own) = Suspended own
-suspended registers (Waiting wait own) = WaitingSuspended wait own
-suspended registers other = other
+abbrev pub suspended_state : Cpu → State → State
+suspended_state registers Running = Suspended registers
+suspended_state registers (Ready own) = Suspended own
+suspended_state registers (Waiting wait own) = WaitingSuspended wait own
+suspended_state registers other = other
 
 -- the registers with a word answered in `$v0`
-abbrev pub answered : Cpu → ℕ → Cpu
-answered registers value = with_reg registers 2 value
+abbrev pub with_answer : Cpu → ℕ → Cpu
+with_answer registers value = with_reg registers 2 value
 
 -- a processor of which all registers are zero, at an address
 abbrev pub zeroed_at : ℕ → Cpu

@@ -4,6 +4,7 @@ use Rattle.std.specs.Prelude.{ℕ, ◌==◌, nat_lt, nat_le, Bool, false, not, �
 use Rattle.iop_base.specs.Choosing.{best}
 use Rattle.iop_ready.specs.declared.slot.TheConstants.{MOST_THREADS}
 use Rattle.iop_exec.specs.declared.cpu.Cpu.{Cpu}
+use Rattle.iop_thread.specs.States.{is_ready}
 use Rattle.iop_thread.specs.declared.state.State.{State}
 use Rattle.iop_thread.specs.declared.state.State.TheVariants.{Running, Ready}
 use Rattle.iop_thread.specs.declared.thread.Thread.{Thread}
@@ -36,6 +37,11 @@ is_it (Some one) id = one == id
 abbrev pub running_thread : ThreadTable → Option Thread
 running_thread s = option_and_then (thread_of s.live) s.running
 
+-- whether there is a thread, and it has a priority
+abbrev pub has_priority : (priority : ℕ) → Option Thread → Bool
+has_priority priority None = false
+has_priority priority (Some t) = t.priority == priority
+
 -- the ready thread that is dispatched next: the first among those of the least priority number
 abbrev pub best_ready : ThreadTable → Option Thread
 best_ready s = option_and_then (thread_of s.live) (best (priority_of s.live) s.ready)
@@ -55,6 +61,21 @@ in_state s t state = with_thread s (record t { state = state })
 
 abbrev pub without : ℕ → List ℕ → List ℕ
 without id ids = filter (λ other. not (other == id)) ids
+
+-- a thread as it was at first: with the priority that it was made with, and no wakeups
+abbrev pub as_at_first : Thread → Thread
+as_at_first t = record t { priority = t.param.priority; wakeups = 0 }
+
+abbrev pub with_wakeups : ThreadTable → Thread → ℕ → ThreadTable
+with_wakeups s t wakeups = with_thread s (record t { wakeups = wakeups })
+
+-- a thread has another priority; a ready one is moved behind all others
+abbrev pub ready_again : ThreadTable → Thread → List ℕ
+ready_again s t = if is_ready t.state then without t.id s.ready ++ t.id ∷ [] else s.ready
+
+abbrev pub with_priority : ThreadTable → Thread → ℕ → ThreadTable
+with_priority s t priority =
+    record (with_thread s (record t { priority = priority })) { ready = ready_again s t }
 
 -- a thread is put behind the other ready ones, with its registers
 abbrev pub ready_last : ThreadTable → Thread → Cpu → ThreadTable

@@ -1,7 +1,8 @@
 //! Facts about the definitions that no call computes. Each is the contract of a function that does
 //! nothing.
 
-ghost use Rattle.iop_thread.specs.Laws.{OperationsKeepPlaces, OperationsKeepStraight, DispatchIsStrict};
+ghost use Rattle.iop_thread.specs.Laws.{OperationsKeepPlaces, OperationsKeepStraight, OperationsKeepSleepers, DispatchIsStrict};
+ghost use Rattle.iop_thread.specs.Waits.{OperationsMoveWaits};
 
 /// Each thread that is ready is once in the ready list, which has no other, the one that runs is in
 /// the state of running, and no two threads have one id: at first, and after each operation.
@@ -13,6 +14,18 @@ pub fn operations_keep_places()
 /// operation.
 pub fn operations_keep_straight()
     ensures { OperationsKeepStraight }
+{}
+
+/// A thread that sleeps has no wakeups: at first, and after each operation, if none sleeps while it has
+/// one.
+pub fn operations_keep_sleepers()
+    ensures { OperationsKeepSleepers }
+{}
+
+/// Which threads are live after each operation, what each waits for, and which one runs. A thread waits
+/// from the call that blocks it until it is woken or terminated; a wakeup ends sleep alone.
+pub fn operations_move_waits()
+    ensures { OperationsMoveWaits }
 {}
 
 /// The thread that is dispatched is the first of the best priority, and better than the one that ran.

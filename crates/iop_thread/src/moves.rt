@@ -1,10 +1,10 @@
 //! The moves of single threads: found, changed, put into the ready list, taken out of it, run.
 
 ghost use Rattle.std.specs.Prelude.{◌≡◌, ℕ, MatchOption, Some, None, option_map};
-ghost use Rattle.iop_thread.specs.ThreadTable.{ThreadTable, thread_of, running_thread, best_ready, with_thread, in_state, ready_last, ready_first, leaves, runs};
+ghost use Rattle.iop_thread.specs.ThreadTable.{ThreadTable, thread_of, running_thread, best_ready, with_thread, in_state, ready_last, ready_first, leaves, runs, with_wakeups};
 ghost use Rattle.iop_thread.specs.Operations.{ready_registers};
 ghost use Rattle.iop_thread.specs.ThreadPlaces.{thread_at};
-ghost use Rattle.iop_thread.specs.Moves.{IsThere, IsIn, CanBecome, CanEnter, with_wakeups};
+ghost use Rattle.iop_thread.specs.Moves.{IsThere, IsIn, CanBecome, CanEnter};
 ghost use Rattle.iop_thread.specs.Standing.{Stands, Holds, IsOpenTo};
 
 use crate::found::Found;

@@ -2,13 +2,12 @@
 
 ghost use Rattle.std.specs.Prelude.{◌≡◌, Some};
 ghost use Rattle.iop_thread.specs.ThreadTable.{ThreadTable, running_thread, best_ready};
-ghost use Rattle.iop_thread.specs.Operations.{ends_running, rotates, blocks, wakes, wakes_in, wakes_up, wakes_up_for, cancels, takes_wakeup, dispatches};
-ghost use Rattle.iop_thread.specs.States.{wait_in};
+ghost use Rattle.iop_thread.specs.Operations.{ends_running, rotates, blocks, wakes, wakes_in, wakes_up, wakes_up_by, cancels, takes_wakeup, dispatches};
 ghost use Rattle.iop_thread.specs.Moves.{IsThere};
 ghost use Rattle.iop_thread.specs.Standing.{Stands, IsSound, Leaves, Dispatches};
 
 use crate::found::Found;
-use crate::state::{State, answered};
+use crate::state::{State, with_answer};
 use crate::thread::MOST_WAKEUPS;
 use crate::threads::Threads;
 use crate::wait::Wait;
@@ -77,10 +76,10 @@ impl<R: Ready> Threads<R> {
     {
         match found.thread.state {
             State::Waiting(_, own) => {
-                self.put_last(found.slot, found.thread, answered(&own, answer));
+                self.put_last(found.slot, found.thread, with_answer(&own, answer));
             }
             State::WaitingSuspended(_, own) => {
-                self.set_state(found, State::Suspended(answered(&own, answer)));
+                self.set_state(found, State::Suspended(with_answer(&own, answer)));
             }
             _ => {}
         }
@@ -110,7 +109,7 @@ impl<R: Ready> Threads<R> {
         requires there { IsThere self.old.places found.now }
         ensures { (s : ThreadTable) → Stands R.stands self.old s
             → Stands R.stands self.new
-            (wakes_up_for s found.now.thread (wait_in found.now.thread.state)) }
+            (wakes_up_by s found.now.thread) }
     {
         if found.thread.state.sleeps() {
             return self.wake_found(found, 0);

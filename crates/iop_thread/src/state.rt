@@ -1,7 +1,6 @@
 ghost use Rattle.std.specs.Prelude.{◌≡◌};
-ghost use Rattle.iop_thread.specs.States.{state_number, wait_in, is_dormant, suspended, answered};
+ghost use Rattle.iop_thread.specs.States.{state_number, wait_in, is_dormant, sleeps, suspended_state, with_answer};
 ghost use Rattle.iop_thread.specs.Operations.{ready_registers};
-ghost use Rattle.iop_thread.specs.Moves.{sleeps};
 
 use crate::wait::Wait;
 use iop_exec::Cpu;
@@ -63,7 +62,7 @@ impl State {
 
     /// Makes the state of such a thread that is suspended. If it runs, it has these registers.
     pub(crate) fn suspended(&self, registers: &Cpu) -> State
-        ensures { result ≡ suspended registers.now self.now }
+        ensures { result ≡ suspended_state registers.now self.now }
     {
         match self {
             State::Running => State::Suspended(*registers),
@@ -85,8 +84,8 @@ impl State {
 }
 
 /// Puts an answer into `$v0`.
-pub(crate) fn answered(registers: &Cpu, value: u32) -> Cpu
-    ensures { result ≡ answered registers.now value }
+pub(crate) fn with_answer(registers: &Cpu, value: u32) -> Cpu
+    ensures { result ≡ with_answer registers.now value }
 {
     let mut registers = *registers;
     registers.regs[2] = value;

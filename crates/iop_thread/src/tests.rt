@@ -1,7 +1,7 @@
 ghost use Rattle.iop_ready.specs.ReadyList.{StandsFor};
 ghost use Rattle.iop_thread.specs.Standing.{IsSound};
 
-use crate::{LOADER, Param, Threads, Wait, registers_at};
+use crate::{LOADER, MOST_WAKEUPS, Param, Threads, Wait, registers_at};
 use iop_base::Code;
 use iop_exec::Cpu;
 use iop_ready::{KernelReady, MOST_THREADS, Priority};
@@ -13,12 +13,18 @@ enum Call {
     Create(Priority),
     Delete(u32),
     Start(u32),
+    EndRunning,
     Terminate(u32),
+    Change(u32, Priority),
+    Rotate(Priority),
     Suspend(u32),
     Resume(u32),
+    Sleep,
+    Wake(u32),
     Wakeup(u32),
     CancelWakeups(u32),
-    Sleep,
+    GiveWakeups(u32, u32),
+    HasRoom,
     Dispatch,
 }
 
@@ -31,16 +37,44 @@ fn answer(threads: &mut Threads<KernelReady>, call: Call, cpu: &mut Cpu) -> i64
         Call::Create(priority) => number(threads.create(param(priority), 0x2_0000, 0)),
         Call::Delete(id) => number(threads.delete(id)),
         Call::Start(id) => i64::from(threads.start(id, 7).0),
+        Call::EndRunning => {
+            threads.end_running();
+            0
+        }
         Call::Terminate(id) => number(threads.terminate(id).map(|wait| kind(wait))),
+        Call::Change(id, priority) => number(threads.change(id, priority).map(|wait| kind(wait))),
+        Call::Rotate(priority) => {
+            threads.rotate(priority, cpu);
+            0
+        }
         Call::Suspend(id) => i64::from(threads.suspend(id, cpu).0),
         Call::Resume(id) => i64::from(threads.resume(id).0),
-        Call::Wakeup(id) => i64::from(threads.wakeup(id).0),
-        Call::CancelWakeups(id) => number(threads.cancel_wakeups(id)),
         Call::Sleep => {
             threads.block(Wait::Sleep, cpu);
             0
         }
+        Call::Wake(id) => {
+            threads.wake(id, 0);
+            0
+        }
+        Call::Wakeup(id) => i64::from(threads.wakeup(id).0),
+        Call::CancelWakeups(id) => number(threads.cancel_wakeups(id)),
+        Call::GiveWakeups(id, wakeups) => {
+            give_wakeups(threads, id, wakeups);
+            0
+        }
+        Call::HasRoom => i64::from(threads.has_room()),
         Call::Dispatch => i64::from(threads.dispatch(cpu).unwrap_or(0)),
+    }
+}
+
+/// Gives a thread, if it is live, so many wakeups.
+fn give_wakeups(threads: &mut Threads<KernelReady>, id: u32, wakeups: u32)
+    requires { IsSound StandsFor threads.old }
+    ensures { IsSound StandsFor threads.new }
+{
+    if let Some(found) = threads.find(id) {
+        threads.set_wakeups(&found, wakeups);
     }
 }
 
@@ -95,6 +129,11 @@ fn answers(rt: HostRuntime) -> Result<(), Fail> {
         (Call::Wakeup(LOADER), 0),
         (Call::Wakeup(LOADER), 0),
         (Call::CancelWakeups(LOADER), 2),
+        (Call::GiveWakeups(LOADER, MOST_WAKEUPS - 2), 0),
+        (Call::Wakeup(LOADER), 0),
+        (Call::Wakeup(LOADER), 0),
+        (Call::Wakeup(LOADER), 0),
+        (Call::CancelWakeups(LOADER), 0x7FFF_FFFF),
         (Call::Sleep, 0),
         (Call::Suspend(LOADER), 0),
         (Call::Wakeup(LOADER), 0),
@@ -140,6 +179,39 @@ fn order_of_dispatch(rt: HostRuntime) -> Result<(), Fail> {
 }
 
 #[test]
+fn order_of_ready_threads(rt: HostRuntime) -> Result<(), Fail> {
+    let mut threads = Threads::new(rt.alloc(), KernelReady::new(rt.alloc())?)?;
+    let high = Priority::new(20);
+    let low = Priority::new(30);
+    let rows = [
+        (Call::Create(high), 2),
+        (Call::Create(high), 3),
+        (Call::Create(low), 4),
+        (Call::Change(4, high), -413),
+        (Call::Change(9, high), -407),
+        (Call::Start(2), 0),
+        (Call::Start(3), 0),
+        (Call::Dispatch, 2),
+        (Call::Rotate(high), 0),
+        (Call::Dispatch, 3),
+        (Call::Change(3, low), 0),
+        (Call::Dispatch, 2),
+        (Call::Start(4), 0),
+        (Call::Rotate(low), 0),
+        (Call::EndRunning, 0),
+        (Call::Wake(2), 0),
+        (Call::Dispatch, 4),
+        (Call::Sleep, 0),
+        (Call::Change(4, high), 1),
+        (Call::Dispatch, 3),
+        (Call::Wake(4), 0),
+        (Call::Dispatch, 4),
+    ];
+    assert_eq!(rt; wrong_row(&mut threads, &rows), None);
+    Ok(())
+}
+
+#[test]
 fn most_threads(rt: HostRuntime) -> Result<(), Fail> {
     let mut threads = Threads::new(rt.alloc(), KernelReady::new(rt.alloc())?)?;
     let mut cpu = registers_at(0);
@@ -148,8 +220,10 @@ fn most_threads(rt: HostRuntime) -> Result<(), Fail> {
         let _ = answer(&mut threads, create, &mut cpu);
     }
     let rows = [
+        (Call::HasRoom, 0),
         (create, -400),
         (Call::Delete(2), 0x2_0000),
+        (Call::HasRoom, 1),
         (create, 256),
         (create, -400),
     ];

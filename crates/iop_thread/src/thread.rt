@@ -1,7 +1,7 @@
 ghost use Rattle.std.specs.Prelude.{◌≡◌, ◌+◌, ◌<◌, ◌≤◌, ◌^◌};
 ghost use Rattle.iop_thread.specs.States.{zeroed_at, first_registers};
-ghost use Rattle.iop_thread.specs.Operations.{made, loader_param};
-ghost use Rattle.iop_thread.specs.Moves.{renewed};
+ghost use Rattle.iop_thread.specs.Operations.{dormant_thread, loader_param};
+ghost use Rattle.iop_thread.specs.ThreadTable.{as_at_first};
 
 use crate::param::Param;
 use crate::state::State;
@@ -53,8 +53,8 @@ pub struct Thread {
 
 impl Thread {
     /// Makes a dormant thread, which starts with the priority that it is made with.
-    pub(crate) fn made(id: u32, param: Param, stack: u32, gp: u32) -> Self
-        ensures { result ≡ made id param stack gp }
+    pub(crate) fn dormant(id: u32, param: Param, stack: u32, gp: u32) -> Self
+        ensures { result ≡ dormant_thread id param stack gp }
     {
         Thread {
             id,
@@ -69,7 +69,7 @@ impl Thread {
 
     /// Makes the loader's thread: dormant.
     pub(crate) fn loader() -> Self
-        ensures { result ≡ made LOADER loader_param LOADER_STACK 0 }
+        ensures { result ≡ dormant_thread LOADER loader_param LOADER_STACK 0 }
     {
         let param = Param {
             attr: LOADER_ATTRIBUTE,
@@ -78,12 +78,12 @@ impl Thread {
             stack_size: LOADER_STACK_SIZE,
             priority: Priority::new(LOADER_PRIORITY),
         };
-        Thread::made(LOADER, param, LOADER_STACK, 0)
+        Thread::dormant(LOADER, param, LOADER_STACK, 0)
     }
 
     /// Makes the thread that has its first priority and no wakeups, and is otherwise the same.
-    pub(crate) fn renewed(&self) -> Self
-        ensures { result ≡ renewed self.now }
+    pub(crate) fn as_at_first(&self) -> Self
+        ensures { result ≡ as_at_first self.now }
     {
         Thread {
             priority: self.param.priority,

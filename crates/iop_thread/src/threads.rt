@@ -1,9 +1,9 @@
 //! The table of the threads: who is made, started, ended, and what is changed of a thread by its id.
 
 ghost use Rattle.std.specs.Prelude.{◌≡◌, [], IfOk, option_map};
-ghost use Rattle.iop_thread.specs.ThreadTable.{ThreadTable, thread_of, has_room};
+ghost use Rattle.iop_thread.specs.ThreadTable.{ThreadTable, thread_of, with_priority, has_room};
 ghost use Rattle.iop_thread.specs.Operations.{opening, creates, deletes, starts, begins, terminates, changes, suspends, resumes, resumes_in};
-ghost use Rattle.iop_thread.specs.Moves.{IsThere, with_priority};
+ghost use Rattle.iop_thread.specs.Moves.{IsThere};
 ghost use Rattle.iop_thread.specs.Standing.{Stands, IsSound, Leaves, Lends};
 
 use crate::found::Found;
@@ -89,7 +89,7 @@ impl<R: Ready> Threads<R> {
             return Err(Code::NO_MEMORY);
         }
         let id = self.next;
-        self.places.put(slot, Thread::made(id, param, stack, gp));
+        self.places.put(slot, Thread::dormant(id, param, stack, gp));
         self.next += 1;
         Ok(id)
     }
@@ -126,7 +126,7 @@ impl<R: Ready> Threads<R> {
             return Code::NOT_DORMANT;
         }
         let registers = found.thread.first_registers(argument);
-        self.put_last(found.slot, found.thread.renewed(), registers);
+        self.put_last(found.slot, found.thread.as_at_first(), registers);
         Code::OK
     }
 

@@ -1,5 +1,5 @@
 use Rattle.std.proofs.Common.{◌≡◌, ◌++◌, ◌-◌, ◌*◌, take, replicate}
-use Rattle.iop_kernel.specs.Making.{bytes_of_words}
+use Rattle.iop_kernel.specs.Status.{bytes_of_words}
 use Rattle.iop_kernel.specs.declared.status.TheConstants.{STATUS_BYTES}
 use Rattle.iop_kernel.proofs.status.bytes_of_words.Given as goal
 

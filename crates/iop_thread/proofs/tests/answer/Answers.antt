@@ -13,6 +13,18 @@ returns-in-Delete c = let (s, h) = c.requires in (_, (c.delete.ensures s h).1)
 pub returns-in-Start : goal.returns-in-Start
 returns-in-Start c = let (s, h) = c.requires in (_, (c.start.ensures s h).1)
 
+pub returns-in-EndRunning : goal.returns-in-EndRunning
+returns-in-EndRunning c = let (s, h) = c.requires in (_, c.end_running.ensures s h)
+
+pub returns-in-Change : goal.returns-in-Change
+returns-in-Change c = let (s, h) = c.requires in (_, (c.change.ensures s h).1)
+
+pub returns-in-Rotate : goal.returns-in-Rotate
+returns-in-Rotate c = let (s, h) = c.requires in (_, c.rotate.ensures s h)
+
+pub returns-in-Wake : goal.returns-in-Wake
+returns-in-Wake c = let (s, h) = c.requires in (_, c.wake.ensures s h)
+
 pub returns-in-Terminate : goal.returns-in-Terminate
 returns-in-Terminate c = let (s, h) = c.requires in (_, (c.terminate.ensures s h).1)
 

@@ -1,12 +1,11 @@
-use Rattle.std.proofs.Common.{ℕ, false, ap, ◌∙◌, subst}
-use Rattle.iop_base.proofs.Giving.{gives_then}
-use Rattle.iop_base.specs.Output.{Gives}
+use Rattle.std.proofs.Common.{ℕ, false, ap, ◌∙◌}
 use Rattle.iop_libs.specs.Calls.{Sight, After}
 use Rattle.iop_services.specs.Table.{row_of}
 use Rattle.iop_kernel.specs.Serving.{answers_by, calls_library}
-use Rattle.iop_kernel.specs.Standing.{Takes, system}
+use Rattle.iop_kernel.specs.Standing.{system}
 use Rattle.iop_kernel.specs.System.{System, Served}
 use Rattle.iop_kernel.proofs.KeepingBlocks.{row_keeps}
+use Rattle.iop_kernel.proofs.Standing.{serves_after, serves_as}
 use Rattle.iop_kernel.proofs.kernel.Kernel.call_library.Goals as goal
 
 -- what a call comes to after the libraries have answered
@@ -22,22 +21,10 @@ answer_call-requires-clause-same_size g c =
     ∙ (row_keeps sight c.args.blocks.now c.args.registry.now false
     (row_of c.args.library c.args.number)).size ∙ c.requires.same_size
 
-pub returns-clause-state : goal.returns-clause-state
+pub returns : goal.returns
 unfolding calls_library
-returns-clause-state g c = λ k h.
+returns g c = λ k h.
     let s = system k c.args.cpu.now c.args.guest.now c.args.blocks.now c.args.registry.now in
-    let new = c.answer_call.new in
-    subst (λ (after : After).
-    Takes g.R.Ready.stands (answered_by c.args.library c.args.number s after).left
-    c.answer_call.result new.self new.cpu new.guest new.blocks c.call-answer.new.registry)
-    c.call-answer.ensures.answer (c.answer_call.ensures.state k c.call-answer.new.registry h)
-
-pub returns-clause-lines : goal.returns-clause-lines
-unfolding calls_library
-returns-clause-lines g c = λ k h.
-    let s = system k c.args.cpu.now c.args.guest.now c.args.blocks.now c.args.registry.now in
-    gives_then c.call-answer.ensures.lines
-    (subst (λ (after : After).
-    Gives (g.L.Lines.output c.call-answer.new.lines) (g.L.Lines.output c.answer_call.new.lines)
-    (answered_by c.args.library c.args.number s after).pieces)
-    c.call-answer.ensures.answer (c.answer_call.ensures.lines k c.call-answer.new.registry h))
+    let told = c.call-answer.ensures in
+    serves_after (serves_as (c.answer_call.ensures k c.call-answer.new.registry h)
+    (ap (answered_by c.args.library c.args.number s) told.answer)) told.lines

@@ -1,7 +1,7 @@
 use Rattle.std.proofs.Common.{refl}
 use Rattle.iop_kernel.specs.System.{Kernel}
 use Rattle.iop_kernel.specs.Standing.{core}
-use Rattle.iop_kernel.specs.Threads.{ended}
+use Rattle.iop_kernel.specs.Running.{ended}
 use Rattle.iop_kernel.proofs.Deletions.{deletes_refused}
 use Rattle.iop_kernel.proofs.Standing.{stands_with}
 use Rattle.iop_kernel.proofs.kernel.Kernel.delete_ended.Goals as goal

@@ -9,6 +9,6 @@ returns c =
     let k = c.requires.sound.0 in
     let now = core k c.args.self.now.cpu in
     record {
-      sound = sound_after_dispatch StandsFor now (dispatches now) _ _
-          (c.dispatch-taken.ensures.state k c.requires.sound.1);
+      sound = sound_after_dispatch StandsFor now (dispatches now) _ _ _ _
+          (c.dispatch-taken.ensures k c.requires.sound.1);
     }

@@ -1,6 +1,6 @@
 use Rattle.std.proofs.Common.{◌+◌, sym, ◌∙◌, arith}
 use Rattle.iop_exec.specs.Row.{row}
-use Rattle.iop_machine.proofs.Bursting.{stands_after, size_kept, length-performed, bursts_first, burst_runs, turn_of, plain_advances, plain_goes_on, fault_advances, call_advances}
+use Rattle.iop_machine.proofs.Bursting.{stands_after, size_kept, length-performed, bursts_first, burst_runs, turn_of, plain_advances, plain_goes_on, conclude_advances}
 use Rattle.iop_machine.proofs.iop.Iop.burst.Goals as goal
 
 pub instructions-init : goal.instructions-init
@@ -44,55 +44,40 @@ returns-then-left-eq0-clause-advances g c = λ s h r.
           (stands_after c.instructions.self.cpu c.perform.new.guest c.instructions.self.kernel.clock k)),
     )
 
-pub settle-requires-in-Fault-clause-sound : goal.settle-requires-in-Fault-clause-sound
-settle-requires-in-Fault-clause-sound g c =
+pub settle-requires-in_default-clause-sound : goal.settle-requires-in_default-clause-sound
+settle-requires-in_default-clause-sound g c =
     let r = burst_runs c.instructions.self c.perform.new.guest c.requires.runs
     c.instructions.invariant.bursts in (r.0, r.1)
 
-pub returns-in-Fault-clause-advances : goal.returns-in-Fault-clause-advances
-returns-in-Fault-clause-advances g c = λ s h r.
-    let i = c.instructions.invariant in
-    let turn = turn_of (i.bursts s h r) i.some c.perform.ensures in (
-      _,
-      fault_advances turn {now = c.settle-in-Fault.new.self} (λ t k. c.settle-in-Fault.ensures _
-          (stands_after c.instructions.self.cpu c.perform.new.guest c.instructions.self.kernel.clock k))
-          c.in-Fault.kind c.in-Fault.is c.fault.ensures,
-    )
-
-pub settle-requires-in-Service-clause-sound : goal.settle-requires-in-Service-clause-sound
-settle-requires-in-Service-clause-sound g c =
-    let r = burst_runs c.instructions.self c.perform.new.guest c.requires.runs
-    c.instructions.invariant.bursts in (r.0, r.1)
-
-pub call-requires-clause-runs : goal.call-requires-clause-runs
-call-requires-clause-runs g c =
+pub conclude-requires-clause-runs : goal.conclude-requires-clause-runs
+conclude-requires-clause-runs g c =
     let r = burst_runs c.instructions.self c.perform.new.guest c.requires.runs
     c.instructions.invariant.bursts in
-    (_, c.settle-in-Service.ensures r.0 r.1, r.2.running)
+    (_, c.settle-in_default.ensures r.0 r.1, r.2.running)
 
-pub call-requires-clause-time : goal.call-requires-clause-time
-call-requires-clause-time g c =
+pub conclude-requires-clause-time : goal.conclude-requires-clause-time
+conclude-requires-clause-time g c =
     let r = burst_runs c.instructions.self c.perform.new.guest c.requires.runs
     c.instructions.invariant.bursts in
-    let clock = (c.settle-in-Service.ensures r.0 r.1).kernel.clock in
+    let clock = (c.settle-in_default.ensures r.0 r.1).kernel.clock in
     let i = c.instructions.invariant in omega (arith, clock, i.time, i.some)
 
-pub call-requires-clause-same_size : goal.call-requires-clause-same_size
-call-requires-clause-same_size g c =
+pub conclude-requires-clause-same_size : goal.conclude-requires-clause-same_size
+conclude-requires-clause-same_size g c =
     let r = burst_runs c.instructions.self c.perform.new.guest c.requires.runs
     c.instructions.invariant.bursts in
     size_kept c.perform.new.cpu c.instructions.clock r.1
-    (c.settle-in-Service.ensures r.0 r.1)
+    (c.settle-in_default.ensures r.0 r.1)
     (c.instructions.invariant.same_size
     ∙ sym (length-performed (row c.instructions.self.guest.ram c.instructions.cpu) _ _ _ _ _ _ _ _
     c.perform.ensures))
 
-pub returns-in-Service-clause-advances : goal.returns-in-Service-clause-advances
-returns-in-Service-clause-advances g c = λ s h r.
+pub returns-in_default-clause-advances : goal.returns-in_default-clause-advances
+returns-in_default-clause-advances g c = λ s h r.
     let i = c.instructions.invariant in
     let turn = turn_of (i.bursts s h r) i.some c.perform.ensures in (
       _,
-      call_advances turn {now = c.settle-in-Service.new.self} (λ t k. c.settle-in-Service.ensures _
+      conclude_advances turn {now = c.settle-in_default.new.self} (λ t k. c.settle-in_default.ensures _
           (stands_after c.instructions.self.cpu c.perform.new.guest c.instructions.self.kernel.clock k))
-          c.in-Service.code c.of-pc.result c.in-Service.is c.of-pc.ensures c.call.ensures,
+          c.of-pc.result c.in_default.not-Plain c.of-pc.ensures c.conclude.ensures,
     )

@@ -17,7 +17,7 @@ pub tick-requires : goal.tick-requires
 tick-requires g c =
     let h = served c.args.self.now c.service-after.new.self c.service-after.new.cpu
     c.service-after.new.guest c.service-after.new.blocks c.service-after.new.registry c.args.code
-    c.service-after.result c.service-after.ensures.state c.service-after.ensures.lines in
+    c.service-after.result c.service-after.ensures in
     let runs = c.requires.runs in
     let clock = clock_left h c.args.before runs.0 runs.1 runs.2 in
     record {
@@ -29,7 +29,7 @@ pub return_module-requires : goal.return_module-requires
 return_module-requires g c =
     let h = served c.args.self.now c.service-after.new.self c.service-after.new.cpu
     c.service-after.new.guest c.service-after.new.blocks c.service-after.new.registry c.args.code
-    c.service-after.result c.service-after.ensures.state c.service-after.ensures.lines in
+    c.service-after.result c.service-after.ensures in
     let runs = c.requires.runs in
     record {
       sound = (_, (serves_takes h c.args.before runs.0 runs.1).state);
@@ -40,7 +40,7 @@ pub tick-requires-in-ModuleReturned : goal.tick-requires-in-ModuleReturned
 tick-requires-in-ModuleReturned g c =
     let h = served c.args.self.now c.service-after.new.self c.service-after.new.cpu
     c.service-after.new.guest c.service-after.new.blocks c.service-after.new.registry c.args.code
-    c.service-after.result c.service-after.ensures.state c.service-after.ensures.lines in
+    c.service-after.result c.service-after.ensures in
     let runs = c.requires.runs in
     let left = (serves_takes h c.args.before runs.0 runs.1).state in
     let returned = c.return_module.ensures _ left in
@@ -55,7 +55,7 @@ pub returns-in-Resume : goal.returns-in-Resume
 returns-in-Resume g c s stands =
     let h = served c.args.self.now c.service-after.new.self c.service-after.new.cpu
     c.service-after.new.guest c.service-after.new.blocks c.service-after.new.registry c.args.code
-    c.service-after.result c.service-after.ensures.state c.service-after.ensures.lines in
+    c.service-after.result c.service-after.ensures in
     let taken = takes_with (serves_takes h c.args.before s stands) Stands later _ (c.tick.ensures _) in
     elim c.in-Resume.is [
       | inl resumes ↦ calls_takes h c.args.before Resume resumes s stands taken
@@ -66,7 +66,7 @@ pub returns-in-ModuleReturned : goal.returns-in-ModuleReturned
 returns-in-ModuleReturned g c s stands =
     let h = served c.args.self.now c.service-after.new.self c.service-after.new.cpu
     c.service-after.new.guest c.service-after.new.blocks c.service-after.new.registry c.args.code
-    c.service-after.result c.service-after.ensures.state c.service-after.ensures.lines in
+    c.service-after.result c.service-after.ensures in
     let value = c.in-ModuleReturned.value in
     let taken = serves_takes h c.args.before s stands in
     calls_takes h c.args.before (ModuleReturned value) c.in-ModuleReturned.is s stands
@@ -77,6 +77,6 @@ pub returns-in-Fault : goal.returns-in-Fault
 returns-in-Fault g c =
     let h = served c.args.self.now c.service-after.new.self c.service-after.new.cpu
     c.service-after.new.guest c.service-after.new.blocks c.service-after.new.registry c.args.code
-    c.service-after.result c.service-after.ensures.state c.service-after.ensures.lines in
+    c.service-after.result c.service-after.ensures in
     faults_takes h c.args.before c.in-Fault.kind c.in-Fault.is c.restore.new.cpu c.restore.ensures _
     c.fault.ensures

@@ -27,4 +27,4 @@ returns-then-is_dormant g c = λ s h.
     stands_as g.R.Ready.stands h.place c.put_last.new.self _
     (c.put_last.ensures h.place s h.holds can)
     (begins s c.args.registers.now) (rw (is, dormant) refl)
-    ((keeps_places s h.placed).begins c.args.registers.now)
+    ((keeps_places s h.placed).begins c.args.registers.now tt)

@@ -19,4 +19,4 @@ returns-in-Some g c = λ s h.
     (blocks s c.args.wait c.args.registers.now)
     (ap (blocks_it s c.args.wait c.args.registers.now) is
     ∙ ap (λ (left : State). in_state (leaves s t left) t state) (sym runs.is))
-    ((keeps_places s h.placed).blocks c.args.wait c.args.registers.now)
+    ((keeps_places s h.placed).blocks c.args.wait c.args.registers.now tt tt)

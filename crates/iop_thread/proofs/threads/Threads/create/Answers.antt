@@ -22,13 +22,13 @@ pub returns : goal.returns
 returns g c = λ s h.
     let t = c.args.self.now in
     let slot = c.in-Some.slot in
-    let u = c.made.result in
+    let u = c.dormant.result in
     let is = sym c.in-Some.is ∙ c.free.ensures in
     let free = free-Some t.places slot (sym is) in
     let room = has_room-free g.R.Ready.stands h.place t s h.holds (Some slot) is in
     let some : has_room s ≡ true = grind (arith, nat_tests, room, c.if-self-gt-LAST_ID.false) in
     let none : thread_of s.live u.id ≡ None =
-    rw (c.made.ensures, ← h.holds.next) (none_of_next s.live s.next h.placed.given) in
+    rw (c.dormant.ensures, ← h.holds.next) (none_of_next s.live s.next h.placed.given) in
     let left = comes g.R.Ready.stands h.place t s h.holds slot u none free.0 free.1
     (running_is_live s h.placed) in
     settled g.R.Ready.stands (place_with h.place u.id slot)
@@ -36,5 +36,5 @@ returns g c = λ s h.
     (record s { live = s.live ++ u ∷ []; next = s.next + 1 })
     (rw c.put.ensures left)
     (creates s c.args.param c.args.stack c.args.gp) (Ok t.next)
-    (rw (some, c.made.ensures, h.holds.next) refl)
+    (rw (some, c.dormant.ensures, h.holds.next) refl)
     ((keeps_places s h.placed).creates c.args.param c.args.stack c.args.gp)

@@ -23,6 +23,6 @@ returns-in-None g c = λ s h.
       place = h.place;
       holds = c.run.ensures.state h.place s h.holds
           (in_place g.R.Ready.stands c.args.self.now s h best there);
-      placed = (keeps_places s h.placed).dispatches cpu _ did;
+      placed = ((keeps_places s h.placed).dispatches cpu _ tt did).0;
     })
     c.run.ensures.registers

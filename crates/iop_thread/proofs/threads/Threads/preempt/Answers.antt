@@ -41,6 +41,6 @@ returns g c = λ s h is there best_is best_there.
     (record {
       place = h.place;
       holds = c.run.ensures.state h.place behind first at;
-      placed = (keeps_places s h.placed).dispatches cpu _ did;
+      placed = ((keeps_places s h.placed).dispatches cpu _ tt did).0;
     })
     c.run.ensures.registers

@@ -43,7 +43,7 @@ returns-in-Some g c = λ s h.
     stands_as g.R.Ready.stands h.place c.put_last.new.self _
     (c.put_last.ensures h.place (leaves s t Running) left (enters_stopped h.place s found.slot t can))
     (rotates s c.args.priority c.args.registers.now) (rw (is, same) refl)
-    ((keeps_places s h.placed).rotates c.args.priority c.args.registers.now)
+    ((keeps_places s h.placed).rotates c.args.priority c.args.registers.now tt)
 
 pub returns-in_default : goal.returns-in_default
 returns-in_default g c = λ s h.
@@ -59,4 +59,4 @@ returns-in_default g c = λ s h.
     (rotates_ready s (first_ready s p))
     (rotates_holds g.R.Ready.stands h.place c.args.self.now s h.holds p c.rotate.new.self
     (c.rotate.ensures _ h.holds.ready))
-    (rotates s p registers) did ((keeps_places s h.placed).rotates p registers)
+    (rotates s p registers) did ((keeps_places s h.placed).rotates p registers tt)

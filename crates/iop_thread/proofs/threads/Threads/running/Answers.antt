@@ -1,6 +1,6 @@
 use Rattle.std.proofs.Common.{◌∙◌, sym}
 use Rattle.iop_thread.proofs.threads.Threads.running.Goals as goal
-use Rattle.iop_thread.proofs.Settling.{running_id}
+use Rattle.iop_thread.proofs.FindingThreads.{running_id}
 use Rattle.iop_thread.proofs.FindingThreads.{none_runs}
 
 pub returns-in_err-running : goal.returns-in_err-running

@@ -13,11 +13,11 @@ put_last-requires g c =
     let (is, there) = c.in-Some.ensures s h in
     let dormant = sym c.is_dormant.ensures ∙ c.if-not-is_dormant.false in
     let other = dormant_not_ready found.thread.state dormant in
-    let same = ap (λ (t : Thread). t.id) c.renewed.ensures in (
+    let same = ap (λ (t : Thread). t.id) c.as_at_first.ensures in (
       h.place,
       s,
       h.holds,
-      can_enter g.R.Ready.stands c.args.self.now s h found there other c.renewed.result same,
+      can_enter g.R.Ready.stands c.args.self.now s h found there other c.as_at_first.result same,
     )
 
 pub returns : goal.returns
@@ -26,10 +26,10 @@ returns g c = λ s h.
     let (is, there) = c.in-Some.ensures s h in
     let dormant = sym c.is_dormant.ensures ∙ c.if-not-is_dormant.false in
     let other = dormant_not_ready found.thread.state dormant in
-    let same = ap (λ (t : Thread). t.id) c.renewed.ensures in
-    let can = can_enter g.R.Ready.stands c.args.self.now s h found there other c.renewed.result same in
+    let same = ap (λ (t : Thread). t.id) c.as_at_first.ensures in
+    let can = can_enter g.R.Ready.stands c.args.self.now s h found there other c.as_at_first.result same in
     settled g.R.Ready.stands h.place c.put_last.new.self _
     (c.put_last.ensures h.place s h.holds can)
     (starts s c.args.id c.args.argument) OK
-    (rw (is, dormant, c.renewed.ensures, c.first_registers-registers.ensures) refl)
+    (rw (is, dormant, c.as_at_first.ensures, c.first_registers-registers.ensures) refl)
     ((keeps_places s h.placed).starts c.args.id c.args.argument)

@@ -14,4 +14,4 @@ returns g c = λ s h.
     settled g.R.Ready.stands h.place c.settle.new.self _ (c.settle.ensures h.place s h.holds at)
     (suspends s c.args.id c.args.registers.now) OK
     (rw (is, other, c.suspended.ensures) refl)
-    ((keeps_places s h.placed).suspends c.args.id c.args.registers.now)
+    ((keeps_places s h.placed).suspends c.args.id c.args.registers.now tt)

@@ -28,7 +28,7 @@ returns-in-Waiting g c = λ s h.
     let can = can_enter g.R.Ready.stands c.args.self.now s h found there other t refl in
     stands_as g.R.Ready.stands h.place c.put_last.new.self _
     (c.put_last.ensures h.place s h.holds can)
-    (wakes_in s c.args.answer t t.state) (rw (c.in-Waiting.is, c.answered.ensures) refl)
+    (wakes_in s c.args.answer t t.state) (rw (c.in-Waiting.is, c.with_answer.ensures) refl)
     (subst (λ (o : Option Thread). IsPlaced (wakes_it s c.args.answer o)) at.found
     ((keeps_places s h.placed).wakes t.id c.args.answer))
 
@@ -40,6 +40,6 @@ returns-in-WaitingSuspended g c = λ s h.
     stands_as g.R.Ready.stands h.place c.set_state.new.self _
     (c.set_state.ensures h.place s h.holds at)
     (wakes_in s c.args.answer t t.state)
-    (rw (c.in-WaitingSuspended.is, c.answered-in-WaitingSuspended.ensures) refl)
+    (rw (c.in-WaitingSuspended.is, c.with_answer-in-WaitingSuspended.ensures) refl)
     (subst (λ (o : Option Thread). IsPlaced (wakes_it s c.args.answer o)) at.found
     ((keeps_places s h.placed).wakes t.id c.args.answer))

@@ -1,0 +1,12 @@
+//! Facts about the definitions that no call computes. Each is the contract of a function that does
+//! nothing.
+
+ghost use Rattle.iop_event.specs.Laws.{FlagsAreMet};
+
+/// The threads whose conditions hold, taken one after the other, are those that a walk over all of
+/// them in order meets, each with the pattern as it then stands. After it no condition of a thread
+/// that waits on holds. Bits that are set are added to the pattern; bits that are not in a mask are
+/// cleared, and all others stay; all threads wait on.
+pub fn flags_are_met()
+    ensures { FlagsAreMet }
+{}

@@ -1,0 +1,5 @@
+use Rattle.iop_intr.proofs.Sets.{has-none}
+use Rattle.iop_intr.proofs.line_set.LineSet.new.Goals as goal
+
+pub returns : goal.returns
+returns c = has-none

@@ -1,0 +1,4 @@
+pub mod InterruptLines
+pub mod LineSets
+pub mod LineViews
+pub mod Laws

@@ -1,0 +1,12 @@
+//! The interrupt lines: which are raised, which are enabled, and the handler of each.
+#![tactic(auto)]
+
+mod handler;
+mod irqs;
+pub mod laws;
+mod line_set;
+#[cfg(test)]
+mod tests;
+
+pub use handler::Handler;
+pub use irqs::{IRQ_LINES, Irqs};

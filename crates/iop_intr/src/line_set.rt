@@ -1,0 +1,63 @@
+ghost use Rattle.std.specs.Prelude.{◌≡◌, ℕ, ◌<◌, ◌&&◌, true, false, MatchOption};
+ghost use Rattle.iop_intr.specs.LineSets.{has, ChangesOnly, IsFirst};
+ghost use Rattle.iop_intr.specs.declared.irqs.TheConstants.{IRQ_LINES};
+
+/// A set of interrupt lines.
+#[derive(Clone, Copy, Debug)]
+pub(crate) struct LineSet {
+    /// Bit n is 1 where line n is in the set.
+    bits: u64,
+}
+
+impl LineSet {
+    /// Makes the set of no line.
+    pub(crate) fn new() -> Self
+        ensures { (n : ℕ) → has result n ≡ false }
+    {
+        LineSet { bits: 0 }
+    }
+
+    /// Tells whether a line is in the set.
+    pub(crate) fn has(self, line: u32) -> bool
+        requires { line < IRQ_LINES }
+        ensures { result ≡ has self line }
+    {
+        self.bits >> line & 1 == 1
+    }
+
+    /// Puts a line into the set.
+    pub(crate) fn insert(&mut self, line: u32)
+        requires { line < IRQ_LINES }
+        ensures { ChangesOnly self.old self.new line true }
+    {
+        self.bits |= 1 << line;
+    }
+
+    /// Takes a line out of the set, if it is there.
+    pub(crate) fn remove(&mut self, line: u32)
+        requires { line < IRQ_LINES }
+        ensures { ChangesOnly self.old self.new line false }
+    {
+        self.bits &= !(1 << line);
+    }
+
+    /// Makes the set of the lines that are in both.
+    pub(crate) fn intersection(self, other: Self) -> Self
+        ensures { (n : ℕ) → has result n ≡ (has self n && has other n) }
+    {
+        LineSet {
+            bits: self.bits & other.bits,
+        }
+    }
+
+    /// Finds the lowest line of the set. None where it has none.
+    pub(crate) fn first(self) -> Option<u8>
+        ensures { MatchOption result ((n : ℕ) → n < IRQ_LINES → has self n ≡ false)
+            (IsFirst self) }
+    {
+        if self.bits == 0 {
+            return None;
+        }
+        Some(self.bits.trailing_zeros() as u8)
+    }
+}

@@ -1,0 +1,5 @@
+mod MailboxTables
+mod MailboxChanges
+mod WaiterChanges
+mod MailboxCalls
+mod Receiving

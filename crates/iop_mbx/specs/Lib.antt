@@ -1,0 +1,3 @@
+pub mod Mailboxes
+pub mod Standing
+pub mod Laws

@@ -1,0 +1,11 @@
+//! Mailboxes: their messages, and the threads that wait for messages.
+#![tactic(auto)]
+
+pub mod laws;
+mod mailbox;
+mod mailboxes;
+#[cfg(test)]
+mod tests;
+
+pub use mailbox::{MESSAGES_BY_PRIORITY, Mailbox, WAITERS_BY_PRIORITY};
+pub use mailboxes::{MOST_MESSAGES, Mailboxes};

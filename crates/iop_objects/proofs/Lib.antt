@@ -1,0 +1,16 @@
+pub mod Apart
+pub mod Changes
+pub mod KeptApart
+pub mod MappedLists
+pub mod QueuesBest
+pub mod QueuesChosen
+pub mod QueuesMoved
+pub mod QueuesOwned
+pub mod QueuesPlaces
+pub mod QueuesRequeued
+pub mod QueuesWhere
+pub mod Totals
+pub mod Tables
+pub mod TableQueues
+pub mod StateSetting
+pub mod Rooms

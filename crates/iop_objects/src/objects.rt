@@ -1,0 +1,178 @@
+ghost use Rattle.std.specs.Prelude.{◌≡◌, ◌<◌, ◌≤◌, [], IfOk, is_some, length, true};
+ghost use Rattle.iop_objects.specs.Objects.{AreObjects, no_objects, object_of, state_of, waiters_of, waiting, creates, deletes, with_state, waits, takes_next, takes_where, drops, requeues};
+ghost use Rattle.iop_objects.specs.declared.objects.TheConstants.{MOST_WAITERS};
+
+use crate::condition::Condition;
+use crate::queued::Queued;
+use crate::queues::Queues;
+use crate::waiter::Waiter;
+use iop_base::Code;
+use std::alloc::{AllocError, Global};
+use std::marker::Model;
+
+/// The id of the first object.
+pub const FIRST_ID: u32 = 1;
+
+/// The last id that an object can have.
+pub const LAST_ID: u32 = 0x7FFF_FFFF;
+
+/// The most objects of one kind that can be live.
+pub const MOST_OBJECTS: usize = 255;
+
+/// The most threads that can wait for the objects of one kind.
+pub const MOST_WAITERS: usize = 255;
+
+/// A live object.
+#[derive(Clone, Copy, Drop)]
+struct Live<A> {
+    /// Its id.
+    id: u32,
+    /// What is known of it.
+    state: A,
+}
+
+/// The live objects of one kind, and the threads that wait for each. An object has an id, from
+/// `FIRST_ID` on, that is never used again, and a state.
+#[derive(Drop)]
+pub struct Objects<A, W> {
+    live: Vec<Live<A>>,
+    waiters: Queues<Waiter<W>, MOST_WAITERS>,
+    next: u32,
+}
+
+impl<A, W> Model for Objects<A, W> {
+    ghost use Rattle.std.specs.Prelude.{◌≤◌, vec_capacity};
+    ghost use Rattle.iop_objects.specs.Objects.{Objects as Table};
+    ghost use Rattle.iop_objects.specs.declared.objects.TheConstants.{MOST_OBJECTS};
+
+    ghost Value = { Table A W };
+
+    ghost use Rattle.iop_objects.specs.Standing.{objects_in, IsTable};
+
+    ghost view = { λ s. objects_in s.live.items s.waiters s.next };
+
+    ghost invariant = { λ s. IsTable s.live.items s.waiters s.next
+        × (MOST_OBJECTS ≤ vec_capacity s.live) };
+}
+
+impl<A: Copy, W: Copy> Objects<A, W> {
+    /// Makes a table of no object. It takes all the memory that the table will need; `AllocError`
+    /// where the host has less.
+    pub fn new(alloc: Global) -> Result<Self, AllocError>
+        ensures { IfOk result (λ objects. objects ≡ no_objects) }
+    {
+        Ok(Objects {
+            live: Vec::with_capacity(alloc, MOST_OBJECTS)?,
+            waiters: Queues::new(alloc)?,
+            next: FIRST_ID,
+        })
+    }
+
+    /// Makes an object for which no thread waits, and answers its id. `NO_MEMORY` exactly where
+    /// `MOST_OBJECTS` are live or no id is left; nothing changes then.
+    pub fn create(&mut self, state: A) -> Result<u32, Code>
+        ensures answer { result ≡ (creates self.old state).0 }
+        ensures left { self.new ≡ (creates self.old state).1 }
+    {
+        if self.live.len() >= MOST_OBJECTS || self.next > LAST_ID {
+            return Err(Code::NO_MEMORY);
+        }
+        let id = self.next;
+        self.live.push_reserved(Live { id, state });
+        self.next += 1;
+        Ok(id)
+    }
+
+    /// Deletes an object, if it is live. No thread waits for it.
+    pub fn delete(&mut self, id: u32)
+        requires none { waiters_of self.old id ≡ [] }
+        ensures { self.new ≡ deletes self.old id }
+    {
+        self.live.retain(|object| object.id != id);
+    }
+
+    /// Reads what is known of an object. None exactly where none of this id is live.
+    pub fn state(&self, id: u32) -> Option<A>
+        ensures known { result ≡ state_of self.now id }
+        ensures sound { AreObjects self.now }
+    {
+        self.live
+            .iter()
+            .find(|object| object.id == id)
+            .map(|object| object.state)
+    }
+
+    /// Changes what is known of an object, if it is live.
+    pub fn set_state(&mut self, id: u32, state: A)
+        ensures { self.new ≡ with_state self.old id state }
+    {
+        for object in self.live.iter_mut() {
+            if object.id == id {
+                object.state = state;
+            }
+        }
+    }
+
+    /// Tells how many threads wait for an object: 0 where none of this id is live.
+    pub fn waiters(&self, id: u32) -> usize
+        ensures count { result ≡ length (waiters_of self.now id) }
+        ensures few { result ≤ MOST_WAITERS }
+        ensures sound { AreObjects self.now }
+    {
+        self.waiters.count(id)
+    }
+
+    /// Lets a thread wait for a live object, behind all others.
+    pub fn wait(&mut self, id: u32, waiter: Waiter<W>, priority: u8)
+        requires live { is_some (object_of self.old.live id) ≡ true }
+        requires room { waiting self.old < MOST_WAITERS }
+        ensures { self.new ≡ waits self.old id (record { priority = priority; item = waiter }) }
+    {
+        self.waiters.push(
+            id,
+            Queued {
+                priority,
+                item: waiter,
+            },
+        );
+    }
+
+    /// Takes the thread out that is next among those that wait for an object, by priority or by
+    /// arrival. None exactly where none waits, or no object of this id is live.
+    pub fn take_next(&mut self, id: u32, by_priority: bool) -> Option<Waiter<W>>
+        ensures answer { result ≡ (takes_next self.old id by_priority).0 }
+        ensures left { self.new ≡ (takes_next self.old id by_priority).1 }
+    {
+        let taken = self.waiters.take(id, by_priority);
+        taken.map(|queued| queued.item)
+    }
+
+    /// Takes the first thread out that waits for an object and of which a condition holds. None
+    /// exactly where it holds of none, or no object of this id is live.
+    pub fn take_where<C: Condition<Waiter<W>>>(
+        &mut self,
+        id: u32,
+        condition: &C,
+    ) -> Option<Waiter<W>>
+        ensures answer { result ≡ (takes_where self.old id (C.holds_for condition.now)).0 }
+        ensures left { self.new ≡ (takes_where self.old id (C.holds_for condition.now)).1 }
+    {
+        let taken = self.waiters.take_where(id, condition);
+        taken.map(|queued| queued.item)
+    }
+
+    /// Takes a thread out of those that wait for an object, if it does.
+    pub fn drop_waiter(&mut self, id: u32, thread: u32)
+        ensures { self.new ≡ drops self.old id thread }
+    {
+        self.waiters.drop_thread(id, thread);
+    }
+
+    /// Changes the priority of a thread that waits for an object, if it does. By priority it waits
+    /// behind all others then, by arrival it keeps its place.
+    pub fn requeue(&mut self, id: u32, by_priority: bool, thread: u32, priority: u8)
+        ensures { self.new ≡ requeues self.old id by_priority thread priority }
+    {
+        self.waiters.requeue(id, by_priority, thread, priority);
+    }
+}

@@ -1,0 +1,13 @@
+//! Facts about the definitions that no call computes. Each is the contract of a function that does
+//! nothing.
+
+ghost use Rattle.iop_sema.specs.Laws.{SemaphoresCount};
+
+/// A signal wakes one thread where one waits, or raises the count by one where none waits and it
+/// is below its most, and never both; it is refused exactly where none waits and the count is at
+/// its most. One is taken exactly where the count is not 0, and lowers it by one. A count stays at
+/// most its most. A semaphore that is made has the count that it is made with, and no thread waits
+/// for it.
+pub fn semaphores_count()
+    ensures { SemaphoresCount }
+{}

@@ -1,0 +1,11 @@
+//! Semaphores: their counts, and the threads that wait for them.
+#![tactic(auto)]
+
+pub mod laws;
+mod semaphore;
+mod semaphores;
+#[cfg(test)]
+mod tests;
+
+pub use semaphore::{BY_PRIORITY, Semaphore};
+pub use semaphores::Semaphores;

@@ -1,0 +1,5 @@
+pub mod ClockTime
+pub mod Timers
+pub mod Turns
+pub mod Taking
+pub mod Laws
