@@ -35,7 +35,8 @@ behind_asks x (Some later) here others c e =
     let same : x ∷ later.others ≡ c.others = cc in
     subst AskBits same (All-cons Asks x later.others here (others later refl))
 
-others_ask : (p : Waiter Wanted → Bool) (waiters : Waiting) → AskBits waiters
+-- the others ask as before
+pub others_ask : (p : Waiter Wanted → Bool) (waiters : Waiting) → AskBits waiters
     → (c : Choice (Waiter Wanted)) → chooses_where p waiters ≡ Some c → AskBits c.others
 others_ask p [] all = λ c e. cc
 others_ask p (x ∷ xs) all =

@@ -1,3 +1,3 @@
-mod Asking
-mod Settling
+pub mod Asking
+pub mod Settling
 mod SettingBits

@@ -18,7 +18,7 @@ use Rattle.iop_objects.specs.declared.queued.Queued.{Queued}
 use Rattle.iop_objects.specs.declared.waiter.Waiter.{Waiter}
 use Rattle.iop_objects.proofs.Changes.{state_of-with_state, state_of-with_waiters, waiters_of-with_waiters, waiters_of-with_state}
 
-abbrev Waiting : Type 0
+abbrev pub Waiting : Type 0
 Waiting = List (Queued (Waiter Wanted))
 
 abbrev Asks : Queued (Waiter Wanted) → Type 0
@@ -51,7 +51,8 @@ one_met pattern c =
     meets (met_by pattern c.one.item)
     (settles (pattern_after c.one.item.wants.mode pattern) c.others)
 
-settles-taken : (pattern : ℕ) (waiters : Waiting) → AskBits waiters → (c : Choice (Waiter Wanted))
+-- one is taken out
+pub settles-taken : (pattern : ℕ) (waiters : Waiting) → AskBits waiters → (c : Choice (Waiter Wanted))
     → chooses_where (is_met pattern) waiters ≡ Some c → settles pattern waiters ≡ one_met pattern c
 settles-taken pattern [] asks = λ c e. cc
 settles-taken pattern (x ∷ xs) asks =
@@ -80,7 +81,8 @@ settles-taken pattern (x ∷ xs) asks =
         ap (one_met pattern) taken
     either false is later same c e = behind is later same c e
 
-settles-none : (pattern : ℕ) (waiters : Waiting) → chooses_where (is_met pattern) waiters ≡ None
+-- none is: all wait on
+pub settles-none : (pattern : ℕ) (waiters : Waiting) → chooses_where (is_met pattern) waiters ≡ None
     → settles pattern waiters ≡ record { met = []; waiters = waiters; pattern = pattern }
 settles-none pattern [] = λ e. refl
 settles-none pattern (x ∷ xs) = either (is_met pattern x.item) (chooses_where (is_met pattern) xs) (settles-none pattern xs)

@@ -1,5 +1,5 @@
 ghost use Rattle.std.specs.Prelude.{◌≡◌, ◌≢◌, ◌<◌, ◌≤◌, Bool, [], IfOk, is_some, option_map, true, false, length};
-ghost use Rattle.iop_objects.specs.Objects.{no_objects, object_of, state_of, waiters_of, waiting, takes_next, drops, requeues};
+ghost use Rattle.iop_objects.specs.Objects.{AreObjects, no_objects, object_of, state_of, waiters_of, waiting, takes_next, drops, requeues};
 ghost use Rattle.iop_objects.specs.declared.objects.TheConstants.{MOST_WAITERS};
 ghost use Rattle.iop_event.specs.EventFlags.{AskForBits, creates, deletes, sets, meets_next, clears, is_taken, tests, waits};
 
@@ -59,6 +59,7 @@ impl EventFlags {
     pub fn get(&self, id: u32) -> Option<EventFlag>
         ensures flag { result ≡ state_of self.now id }
         ensures sound { AskForBits self.now }
+        ensures objects { AreObjects self.now }
     {
         self.objects.state(id)
     }
@@ -116,9 +117,9 @@ impl EventFlags {
         Code::OK
     }
 
-    /// Takes the first thread out that waits for an event flag and whose condition holds, and clears
-    /// the pattern if its mode says so. None exactly where the condition of none holds, or no event
-    /// flag of this id is live; nothing changes then.
+    /// Takes the first thread out that waits for an event flag and whose condition holds, and
+    /// clears the pattern if its mode says so. None exactly where the condition of none holds, or
+    /// no event flag of this id is live; nothing changes then.
     pub fn next_met(&mut self, id: u32) -> Option<Met>
         ensures answer { result ≡ (meets_next self.old id).0 }
         ensures left { self.new ≡ (meets_next self.old id).1 }
@@ -134,8 +135,8 @@ impl EventFlags {
         })
     }
 
-    /// Clears the bits of an event flag that are not in a mask. `UNKNOWN_EVENT_FLAG` exactly where none
-    /// of this id is live.
+    /// Clears the bits of an event flag that are not in a mask. `UNKNOWN_EVENT_FLAG` exactly where
+    /// none of this id is live.
     pub fn clear(&mut self, id: u32, mask: u32) -> Code
         ensures answer { result ≡ (clears self.old id mask).0 }
         ensures left { self.new ≡ (clears self.old id mask).1 }
@@ -148,11 +149,11 @@ impl EventFlags {
         Code::OK
     }
 
-    /// Tests a condition on bits by a mode. Where it holds the pattern is answered, and cleared if the
-    /// mode says so. `UNKNOWN_EVENT_FLAG` exactly where no event flag of this id is live, else
-    /// `EMPTY_PATTERN` exactly where no bit is asked for, else `SECOND_WAITER` exactly where a thread
-    /// waits and one alone may, else `FLAG_CONDITION` exactly where the condition does not hold;
-    /// nothing changes then.
+    /// Tests a condition on bits by a mode. Where it holds the pattern is answered, and cleared if
+    /// the mode says so. `UNKNOWN_EVENT_FLAG` exactly where no event flag of this id is live, else
+    /// `EMPTY_PATTERN` exactly where no bit is asked for, else `SECOND_WAITER` exactly where a
+    /// thread waits and one alone may, else `FLAG_CONDITION` exactly where the condition does not
+    /// hold; nothing changes then.
     pub fn test(&mut self, id: u32, bits: u32, mode: u32) -> Result<u32, Code>
         ensures answer { result ≡ (tests self.old id bits mode).0 }
         ensures left { self.new ≡ (tests self.old id bits mode).1 }
@@ -191,8 +192,8 @@ impl EventFlags {
         );
     }
 
-    /// Takes the thread out that is first among those that wait for an event flag. None exactly where
-    /// none waits, or no event flag of this id is live.
+    /// Takes the thread out that is first among those that wait for an event flag. None exactly
+    /// where none waits, or no event flag of this id is live.
     pub fn pop_waiter(&mut self, id: u32) -> Option<u32>
         ensures answer { result ≡ option_map (λ waiter. waiter.thread) (takes_next self.old id false).0 }
         ensures left { self.new ≡ (takes_next self.old id false).1 }
@@ -208,7 +209,8 @@ impl EventFlags {
         self.objects.drop_waiter(id, thread);
     }
 
-    /// Changes the priority of a thread that waits for an event flag, if it does. It keeps its place.
+    /// Changes the priority of a thread that waits for an event flag, if it does. It keeps its
+    /// place.
     pub fn requeue(&mut self, id: u32, thread: u32, priority: u8)
         ensures { self.new ≡ requeues self.old id false thread priority }
     {

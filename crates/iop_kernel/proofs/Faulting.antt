@@ -7,6 +7,8 @@ use Rattle.iop_libs.specs.Calls.{Sight, serves as library_serves, calls_row, row
 use Rattle.iop_libs.specs.Calls.{After as Called}
 use Rattle.irx_tables.specs.Exports.{header_of}
 use Rattle.iop_base.specs.declared.code.TheConstants.Code.{ILLEGAL_CONTEXT}
+use Rattle.iop_mbx.specs.Mailboxes as mailboxes
+use Rattle.iop_objects.specs.Objects.{object_of}
 use Rattle.iop_services.specs.Table.{row_of, allows}
 use Rattle.iop_services.specs.declared.row.Row.{Row}
 use Rattle.iop_services.specs.declared.service.Service.{Service}
@@ -21,14 +23,22 @@ use Rattle.iop_kernel.specs.Creating.{creates_at, creates_with, creates_from}
 use Rattle.iop_kernel.specs.Deleting.{Owner, owner_of, on_owner}
 use Rattle.iop_kernel.specs.Naming.{named}
 use Rattle.iop_kernel.specs.Status.{refers_it, refers_to, refers_at}
-use Rattle.iop_kernel.specs.Serving.{call_of, serves, answers_by, calls_library, calls, services}
-use Rattle.iop_kernel.specs.System.{Core, Left, System, Served, argument, caller, answers_result, silent, after_pieces, on_core, words_place}
+use Rattle.iop_kernel.specs.Boards.{Board, board_of, on_board, optional_place}
+use Rattle.iop_kernel.specs.Semaphores.{LiveSemaphore, refers_sema_to, refers_sema_at}
+use Rattle.iop_kernel.specs.Serving.{call_of, wanted, serves_board, serves, answers_by, calls_library, calls, services}
+use Rattle.iop_kernel.specs.System.{Core, Left, System, Done, Served, argument, caller, silent, after_pieces, on_core, words_place}
 use Rattle.iop_kernel.specs.declared.after.After.TheVariants.{Resume, Fault}
 use Rattle.iop_kernel.specs.declared.call.Call.{Call}
 use Rattle.iop_kernel.specs.declared.call.Call.TheVariants.{Library, ThreadReturn, ModuleReturn}
+use Rattle.iop_kernel.specs.declared.event_flags.TheConstants.{FLAG_WORDS, FLAG_STATUS_WORDS}
+use Rattle.iop_kernel.specs.declared.mailboxes.TheConstants.{MAILBOX_WORDS, MAILBOX_STATUS_WORDS}
+use Rattle.iop_kernel.specs.declared.semaphores.TheConstants.{SEMAPHORE_WORDS, SEMAPHORE_STATUS_WORDS}
 use Rattle.iop_kernel.specs.declared.status.TheConstants.{STATUS_WORDS}
 use Rattle.iop_kernel.specs.declared.creating.TheConstants.{PARAM_WORDS, FROM_ABOVE}
-use Rattle.iop_kernel.proofs.FaultingThreads.{FaultsAlone, resumed, both, exits_alone, returns_alone, serves_core_alone, deletes_alone, exits_by_alone}
+use Rattle.iop_kernel.proofs.FaultingAlone.{FaultsAlone, resumed, both, BoardAlone}
+use Rattle.iop_kernel.proofs.FaultingEventFlags.{creates_flag_alone, sets_flag_alone, waits_flag_alone, polls_flag_alone, refers_flag_alone}
+use Rattle.iop_kernel.proofs.FaultingMailboxes.{creates_mbx_alone, sends_alone, waits_mbx_alone, polls_mbx_alone, refers_mbx_alone}
+use Rattle.iop_kernel.proofs.FaultingThreads.{exits_alone, returns_alone, serves_core_alone, creates_sema_alone, deletes_alone, exits_by_alone}
 
 -- where a service faults, it leaves all as it was, and gives nothing
 abbrev pub ServedAlone : System → Served → Type 0
@@ -46,7 +56,7 @@ module _ (s : System) where
   either_alone true x y g h = g
   either_alone false x y g h = h
 
-  -- a call that looks at threads alone
+  -- a call that looks at the kernel alone
   on_core_alone : (left : Left Core) → FaultsAlone s.core left
       → ServedAlone s (silent (on_core s left))
   on_core_alone left h kind e = (ap (λ c. record s { core = c }) (h kind e), refl)
@@ -57,16 +67,17 @@ module _ (s : System) where
   on_owner_alone left h kind e =
       (ap (λ (o : Owner). record s { core = o.core; blocks = o.blocks }) (h kind e), refl)
 
-  -- the caller that is answered goes on
-  answered_result : (c : Core) (r : Result ℕ Code) → (answers_result c r).after ≡ Resume
-  answered_result c (Ok word) = refl
-  answered_result c (Err code) = refl
+  -- or at memory
+  on_board_alone : (d : Done Board) → BoardAlone (board_of s) d → ServedAlone s (on_board s d)
+  on_board_alone d h kind e =
+      let made : Board → System = λ b. record s { core = b.core; memory = b.memory } in
+      (ap made (h kind e).0, (h kind e).1)
 
   -- a thread is made, by what the allocation gave
   creates_at_alone : (param : Param) (r : ℕ × BlockMap) → ServedAlone s (creates_at s param r)
   creates_at_alone param (stack, blocks) =
       either_alone (stack == 0) _ _ (resumes_alone _ refl)
-      (resumes_alone _ (answered_result _ _))
+      (resumes_alone _ refl)
 
   -- by what the words ask for
   creates_with_alone : (r : Result Param Code) → ServedAlone s (creates_with s r)
@@ -95,6 +106,64 @@ module _ (s : System) where
   refers_alone id None = λ kind e. (refl, refl)
   refers_alone id (Some place) = refers_to_alone place (named (caller s.core) id)
 
+  -- the status of a semaphore is written, if it is found
+  refers_sema_to_alone : (place : ℕ) (o : Option LiveSemaphore)
+      → ServedAlone s (on_board s (refers_sema_to (board_of s) place o))
+  refers_sema_to_alone place None = resumes_alone _ refl
+  refers_sema_to_alone place (Some o) = resumes_alone _ refl
+
+  -- by the place of the words, if they have one
+  refers_sema_alone : (id : ℕ) (o : Option ℕ)
+      → ServedAlone s (on_board s (refers_sema_at (board_of s) id o))
+  refers_sema_alone id None = λ kind e. (refl, refl)
+  refers_sema_alone id (Some place) =
+      refers_sema_to_alone place (object_of s.core.kernel.semaphores.live id)
+
+  -- a service that looks at the kernel and at memory
+  board_alone : (x : Service) → ServedAlone s (on_board s (serves_board (board_of s) x))
+  unfolding serves_board
+  board_alone service.CreateSema =
+      let place = words_place s.memory (argument s.core 0) SEMAPHORE_WORDS in
+      on_core_alone _ (creates_sema_alone s.core s.memory place)
+  board_alone service.ReferSemaStatus =
+      let at = argument s.core 1 in
+      refers_sema_alone (argument s.core 0) (words_place s.memory at SEMAPHORE_STATUS_WORDS)
+  board_alone service.CreateEventFlag =
+      let place = words_place s.memory (argument s.core 0) FLAG_WORDS in
+      on_core_alone _ (creates_flag_alone s.core s.memory place)
+  board_alone service.SetEventFlag =
+      let o = object_of s.core.kernel.event_flags.live (argument s.core 0) in
+      on_board_alone _ (sets_flag_alone (board_of s) (argument s.core 1) o)
+  board_alone service.WaitEventFlag =
+      let w = wanted s.core in
+      let place = optional_place s.memory w.place in
+      on_board_alone _ (waits_flag_alone (board_of s) (argument s.core 0) w place)
+  board_alone service.PollEventFlag =
+      let w = wanted s.core in
+      let place = optional_place s.memory w.place in
+      on_board_alone _ (polls_flag_alone (board_of s) (argument s.core 0) w place)
+  board_alone service.ReferEventFlagStatus =
+      let place = words_place s.memory (argument s.core 1) FLAG_STATUS_WORDS in
+      on_board_alone _ (refers_flag_alone (board_of s) (argument s.core 0) place)
+  board_alone service.CreateMbx =
+      let place = words_place s.memory (argument s.core 0) MAILBOX_WORDS in
+      on_core_alone _ (creates_mbx_alone s.core s.memory place)
+  board_alone service.SendMbx =
+      let id = argument s.core 0 in
+      on_board_alone _ (sends_alone (board_of s) id (argument s.core 1)
+      (mailboxes.takes_waiter_of s.core.kernel.mailboxes id))
+  board_alone service.ReceiveMbx =
+      let at = argument s.core 0 in
+      on_board_alone _
+      (waits_mbx_alone (board_of s) at (argument s.core 1) (words_place s.memory at 1))
+  board_alone service.PollMbx =
+      let place = words_place s.memory (argument s.core 0) 1 in
+      on_board_alone _ (polls_mbx_alone (board_of s) (argument s.core 1) place)
+  board_alone service.ReferMbxStatus =
+      let place = words_place s.memory (argument s.core 1) MAILBOX_STATUS_WORDS in
+      on_board_alone _ (refers_mbx_alone (board_of s) (argument s.core 0) place)
+  board_alone other = on_core_alone _ (serves_core_alone s.core other)
+
   -- a service that the libraries do not have
   serves_alone : (x : Service) → ServedAlone s (serves s x)
   unfolding serves
@@ -105,7 +174,7 @@ module _ (s : System) where
       on_owner_alone _ (both (owner_of s) _ _ _ (resumed (owner_of s) _)
       (deletes_alone (owner_of s) (threads.deletes s.core.kernel.threads (argument s.core 0))))
   serves_alone service.ExitDeleteThread = on_owner_alone _ (exits_by_alone (owner_of s) (caller s.core))
-  serves_alone other = on_core_alone _ (serves_core_alone s.core other)
+  serves_alone other = board_alone other
 
   module _ (library number : ℕ) where
     -- what the libraries look at

@@ -1,10 +1,14 @@
--- A service that looks at threads, and faults, leaves them as they were.
-use Rattle.std.proofs.Common.{◌≡◌, ℕ, ◌==◌, ◌&&◌, not, Bool, true, false, cond, Option, Some, None, Result, Ok, Err, refl}
+-- A service that looks at the kernel alone, and faults, leaves it as it was.
+use Rattle.std.proofs.Common.{ℕ, ◌==◌, ◌&&◌, not, Bool, true, false, Option, Some, None, Result, Ok, Err}
 use Rattle.iop_base.specs.declared.code.Code.{Code}
-use Rattle.iop_base.specs.declared.guest_fault.GuestFault.{GuestFault}
+use Rattle.iop_base.specs.declared.code.TheConstants.Code.{SEMAPHORE_ZERO}
 use Rattle.iop_services.specs.declared.service.Service.{Service}
 use Rattle.iop_services.specs.declared.service.Service.TheVariants as service
+use Rattle.iop_objects.specs.Objects.{object_of}
 use Rattle.iop_ready.specs.Priorities.{priority_of as priority_of_word}
+use Rattle.iop_sema.specs.Semaphores as semaphores
+use Rattle.iop_sema.specs.Semaphores.{Semaphores}
+use Rattle.iop_stubs.specs.Stubs.{Memory}
 use Rattle.iop_thread.specs.Operations as threads
 use Rattle.iop_thread.specs.States.{wait_in}
 use Rattle.iop_thread.specs.ThreadTable.{ThreadTable, thread_of, priority_of, is_it}
@@ -15,37 +19,14 @@ use Rattle.iop_kernel.specs.Deleting.{Owner, deletes_by, exits_deleted, exits_de
 use Rattle.iop_kernel.specs.Naming.{named, is_nobody_else}
 use Rattle.iop_kernel.specs.Ordering.{answers_change, changes_named, changes_if_priority, after_leaving, rotates_to, rotates_own, rotates_by}
 use Rattle.iop_kernel.specs.Running.{exits_by, returns_by, terminates_by}
+use Rattle.iop_kernel.specs.Semaphores.{LiveSemaphore, creates_sema_at, deletes_sema, signals_by, waits_for_sema, takes_or_waits}
+use Rattle.iop_kernel.specs.Waits.{is_code}
 use Rattle.iop_kernel.specs.Waiting.{releases_from, releases_it, sleeps_by, cancels_of}
 use Rattle.iop_kernel.specs.Serving.{serves_core}
-use Rattle.iop_kernel.specs.System.{Core, Left, argument, caller, may_switch, answers_result, faults}
-use Rattle.iop_kernel.specs.declared.after.After.TheVariants.{Resume, Switch, ModuleReturned, Fault}
-
--- where a call faults, it leaves all as it was
-abbrev pub FaultsAlone : {S : Type 0} → S → Left S → Type 0
-FaultsAlone s left = (kind : GuestFault) → left.after ≡ Fault kind → left.state ≡ s
-
-module _ {S : Type 0} (s : S) where
-  -- its caller goes on
-  pub resumed : (t : S) → FaultsAlone s (record { state = t; after = Resume })
-  resumed t kind e = absurd (cc e)
-
-  -- or does not
-  switched : (t : S) → FaultsAlone s (record { state = t; after = Switch })
-  switched t kind e = absurd (cc e)
-
-  -- or its module returns
-  returned : (t : S) (word : ℕ) → FaultsAlone s (record { state = t; after = ModuleReturned word })
-  returned t word kind e = absurd (cc e)
-
-  -- or it faults
-  faulted : (kind : GuestFault) → FaultsAlone s (faults s kind)
-  faulted kind other e = refl
-
-  -- of two ways, both are such
-  pub both : (b : Bool) (x y : Left S) → FaultsAlone s x → FaultsAlone s y
-      → FaultsAlone s (cond b x y)
-  both true x y g h = g
-  both false x y g h = h
+use Rattle.iop_kernel.specs.System.{Core, argument, caller, may_switch}
+use Rattle.iop_kernel.proofs.FaultingAlone.{FaultsAlone, resumed, switched, returned, faulted, both}
+use Rattle.iop_kernel.proofs.FaultingEventFlags.{deletes_flag_alone}
+use Rattle.iop_kernel.proofs.FaultingMailboxes.{deletes_mbx_alone}
 
 module _ (c : Core) where
   -- the thread that calls ends
@@ -58,11 +39,6 @@ module _ (c : Core) where
   returns_alone None = faulted c _
   returns_alone (Some id) = both c (id == LOADER) _ _ (returned c _ _) (faulted c _)
 
-  -- a word or a code is answered
-  result_alone : (d : Core) (r : Result ℕ Code) → FaultsAlone c (answers_result d r)
-  result_alone d (Ok word) = resumed c _
-  result_alone d (Err code) = resumed c _
-
   -- a thread is ended, by what that answers
   terminates_alone : (id : ℕ) (r : Result (Option Wait) Code × ThreadTable)
       → FaultsAlone c (terminates_by c id r)
@@ -70,15 +46,16 @@ module _ (c : Core) where
   terminates_alone id (Err code, t) = resumed c _
 
   -- a priority changes, by what that answers
-  answers_change_alone : (r : Result (Option Wait) Code × ThreadTable) → FaultsAlone c (answers_change c r)
-  answers_change_alone (Ok wait, t) = resumed c _
-  answers_change_alone (Err code, t) = resumed c _
+  answers_change_alone : (id priority : ℕ) (r : Result (Option Wait) Code × ThreadTable)
+      → FaultsAlone c (answers_change c id priority r)
+  answers_change_alone id priority (Ok wait, t) = resumed c _
+  answers_change_alone id priority (Err code, t) = resumed c _
 
   -- by the thread that is named
   changes_named_alone : (priority : ℕ) (o : Option ℕ) → FaultsAlone c (changes_named c priority o)
   changes_named_alone priority None = resumed c _
   changes_named_alone priority (Some id) =
-      answers_change_alone (threads.changes c.kernel.threads id priority)
+      answers_change_alone id priority (threads.changes c.kernel.threads id priority)
 
   -- by whether the word is a priority
   changes_if_priority_alone : (id : ℕ) (o : Option ℕ) → FaultsAlone c (changes_if_priority c id o)
@@ -124,9 +101,36 @@ module _ (c : Core) where
   -- wakeups are forgotten
   cancels_alone : (o : Option ℕ) → FaultsAlone c (cancels_of c o)
   cancels_alone None = resumed c _
-  cancels_alone (Some id) = result_alone _ (threads.cancels c.kernel.threads id).0
+  cancels_alone (Some id) = resumed c _
 
-  -- a service that looks at threads alone
+  -- a semaphore is made, by the place of the words
+  pub creates_sema_alone : (memory : Memory) (o : Option ℕ)
+      → FaultsAlone c (creates_sema_at c memory o)
+  creates_sema_alone memory None = faulted c _
+  creates_sema_alone memory (Some place) = resumed c _
+
+  -- one is deleted, if it is found
+  deletes_sema_alone : (o : Option LiveSemaphore) → FaultsAlone c (deletes_sema c o)
+  deletes_sema_alone None = resumed c _
+  deletes_sema_alone (Some o) = resumed c _
+
+  -- one is signalled, by what that answers
+  signals_alone : (r : Result (Option ℕ) Code × Semaphores) → FaultsAlone c (signals_by c r)
+  signals_alone (Err code, left) = resumed c _
+  signals_alone (Ok None, left) = resumed c _
+  signals_alone (Ok (Some thread), left) = resumed c _
+
+  -- the thread that calls waits for one
+  waits_for_alone : (id : ℕ) (o : Option ℕ) → FaultsAlone c (waits_for_sema c id o)
+  waits_for_alone id None = faulted c _
+  waits_for_alone id (Some thread) = switched c _
+
+  -- where the count is 0
+  takes_or_waits_alone : (id : ℕ) (r : Code × Semaphores) → FaultsAlone c (takes_or_waits c id r)
+  takes_or_waits_alone id (code, left) =
+      both c (is_code code SEMAPHORE_ZERO) _ _ (waits_for_alone id (caller c)) (resumed c _)
+
+  -- a service that looks at the kernel alone
   pub serves_core_alone : (x : Service) → FaultsAlone c (serves_core c x)
   unfolding serves_core
   serves_core_alone service.StartThread = both c _ _ _ (resumed c _) (resumed c _)
@@ -151,6 +155,20 @@ module _ (c : Core) where
       (both c (is_it (caller c) (argument c 0) && not c.kernel.dispatching) _ _ (resumed c _)
       (resumed c _))
   serves_core_alone service.ResumeThread = both c _ _ _ (resumed c _) (resumed c _)
+  serves_core_alone service.DeleteSema =
+      deletes_sema_alone (object_of c.kernel.semaphores.live (argument c 0))
+  serves_core_alone service.SignalSema =
+      signals_alone (semaphores.signals c.kernel.semaphores (argument c 0))
+  serves_core_alone service.WaitSema =
+      both c (may_switch c.kernel) _ _
+      (takes_or_waits_alone (argument c 0) (semaphores.takes c.kernel.semaphores (argument c 0)))
+      (resumed c _)
+  serves_core_alone service.PollSema = resumed c _
+  serves_core_alone service.DeleteEventFlag =
+      deletes_flag_alone c (object_of c.kernel.event_flags.live (argument c 0))
+  serves_core_alone service.ClearEventFlag = resumed c _
+  serves_core_alone service.DeleteMbx =
+      deletes_mbx_alone c (object_of c.kernel.mailboxes.live (argument c 0))
   serves_core_alone other = faulted c _
 
 module _ (o : Owner) where

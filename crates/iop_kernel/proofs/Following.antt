@@ -6,6 +6,8 @@ use Rattle.iop_base.specs.declared.code.TheConstants.Code.{ILLEGAL_CONTEXT}
 use Rattle.iop_base.specs.declared.guest_fault.GuestFault.{GuestFault}
 use Rattle.iop_exec.specs.Row.{reg}
 use Rattle.iop_libs.specs.Calls.{Sight, After as Called, serves as library_serves, answers as library_answers, calls_row, row_pieces, service_pieces, table_place, registers_header, registers_at, code_value, argument as library_argument}
+use Rattle.iop_mbx.specs.Mailboxes as mailboxes
+use Rattle.iop_objects.specs.Objects.{object_of}
 use Rattle.iop_services.specs.Table.{row_of, allows}
 use Rattle.iop_services.specs.declared.row.Row.{Row}
 use Rattle.iop_services.specs.declared.service.Service.{Service}
@@ -13,9 +15,8 @@ use Rattle.iop_services.specs.declared.service.Service.TheVariants as service
 use Rattle.irx_tables.specs.Exports.{header_of}
 use Rattle.iop_sysmem.specs.Allocating.{allocating}
 use Rattle.iop_sysmem.specs.BlockMap.{BlockMap}
-use Rattle.iop_thread.specs.Operations as threads
 use Rattle.iop_thread.specs.Placing.{IsPlaced}
-use Rattle.iop_thread.specs.ThreadTable.{ThreadTable, thread_of, has_room}
+use Rattle.iop_thread.specs.ThreadTable.{thread_of, has_room}
 use Rattle.iop_thread.specs.declared.param.Param.{Param}
 use Rattle.iop_thread.specs.declared.thread.Thread.{Thread}
 use Rattle.iop_kernel.specs.Laws.{Follows}
@@ -23,16 +24,24 @@ use Rattle.iop_kernel.specs.Creating.{creates_on, creates_at, creates_with, crea
 use Rattle.iop_kernel.specs.Deleting.{owner_of, on_owner, Owner}
 use Rattle.iop_kernel.specs.Naming.{named}
 use Rattle.iop_kernel.specs.Status.{refers_it, refers_to, refers_at}
-use Rattle.iop_kernel.specs.Serving.{call_of, serves, answers_by, calls_library, calls, services}
-use Rattle.iop_kernel.specs.System.{Core, Left, System, Served, argument, caller, opened, with_threads, silent, after_pieces, on_core, words_place}
+use Rattle.iop_kernel.specs.Boards.{Board, board_of, on_board, optional_place}
+use Rattle.iop_kernel.specs.Serving.{call_of, wanted, serves_board, serves, answers_by, calls_library, calls, services}
+use Rattle.iop_kernel.specs.System.{Core, Left, System, Done, Served, argument, caller, opened, silent, after_pieces, on_core, words_place}
 use Rattle.iop_kernel.specs.declared.after.After.{After}
 use Rattle.iop_kernel.specs.declared.after.After.TheVariants.{Resume, Switch, ModuleReturned, Fault}
 use Rattle.iop_kernel.specs.declared.call.Call.{Call}
 use Rattle.iop_kernel.specs.declared.call.Call.TheVariants.{Library, ThreadReturn, ModuleReturn}
+use Rattle.iop_kernel.specs.declared.event_flags.TheConstants.{FLAG_WORDS, FLAG_STATUS_WORDS}
+use Rattle.iop_kernel.specs.declared.mailboxes.TheConstants.{MAILBOX_WORDS, MAILBOX_STATUS_WORDS}
+use Rattle.iop_kernel.specs.declared.semaphores.TheConstants.{SEMAPHORE_WORDS, SEMAPHORE_STATUS_WORDS}
 use Rattle.iop_kernel.specs.declared.status.TheConstants.{STATUS_WORDS}
 use Rattle.iop_kernel.specs.declared.creating.TheConstants.{PARAM_WORDS, FROM_ABOVE}
 use Rattle.iop_kernel.proofs.Faulting.{services_alone}
-use Rattle.iop_kernel.proofs.FollowingThreads.{Becomes, CoreBecomes, OwnerBecomes, exits_become, returns_become, result_becomes, serves_core_becomes, delete_becomes, exits_deleted_by_become}
+use Rattle.iop_kernel.proofs.Becoming.{Becomes, CoreBecomes, OwnerBecomes, BoardBecomes, becomes_of}
+use Rattle.iop_kernel.proofs.FollowingEventFlags.{creates_flag_becomes, sets_flag_becomes, waits_flag_becomes, polls_flag_becomes, refers_flag_becomes}
+use Rattle.iop_kernel.proofs.FollowingMailboxes.{creates_mbx_becomes, sends_become, waits_mbx_become, polls_mbx_become, refers_mbx_become}
+use Rattle.iop_kernel.proofs.FollowingSemaphores.{creates_sema_become, refers_sema_become}
+use Rattle.iop_kernel.proofs.FollowingThreads.{exits_become, returns_become, serves_core_becomes, delete_becomes, exits_deleted_by_become}
 use Rattle.iop_thread.proofs.Waits.{moves_waits}
 
 -- what a call leaves where a module returned: interrupts on and dispatch enabled, and nothing given
@@ -43,14 +52,6 @@ returned s = (record s { core = opened s.core }, [])
 abbrev ServedBecomes : System → ℕ → Served → Type 0
 ServedBecomes s id d =
     Becomes d.left.after id d.left.state.core.kernel.threads (returned s) (d.left.state, d.pieces)
-
--- it is the same of what is made of what a call leaves
-becomes_of : {S T : Type 0} (f : S → T) (after : After) (id : ℕ) (left : ThreadTable) (x y : S)
-    → Becomes after id left x y → Becomes after id left (f x) (f y)
-becomes_of f Resume id left x y h = h
-becomes_of f Switch id left x y h = h
-becomes_of f (ModuleReturned word) id left x y h = (h.0, ap f h.1)
-becomes_of f (Fault kind) id left x y h = tt
 
 -- with what a fault leaves it is what the law says
 follows_by : (s : System) (id : ℕ) (after : After) (left : System) (pieces : List Piece)
@@ -71,7 +72,7 @@ module _ (s : System) (id : ℕ) (runs : caller s.core ≡ Some id)
   either true x y first second = first
   either false x y first second = second
 
-  -- a call that looks at threads alone
+  -- a call that looks at the kernel alone
   on_core_becomes : (left : Left Core) → CoreBecomes s.core id left
       → ServedBecomes s id (silent (on_core s left))
   on_core_becomes left h =
@@ -87,14 +88,21 @@ module _ (s : System) (id : ℕ) (runs : caller s.core ≡ Some id)
       becomes_of made left.after id left.state.core.kernel.threads
       (record (owner_of s) { core = opened s.core }) left.state h
 
+  -- or at memory
+  on_board_becomes : (d : Done Board) → BoardBecomes (board_of s) id d
+      → ServedBecomes s id (on_board s d)
+  on_board_becomes d h =
+      let made : Board × List Piece → System × List Piece =
+      λ p. (record s { core = p.0.core; memory = p.0.memory }, p.1) in
+      becomes_of made d.left.after id d.left.state.core.kernel.threads
+      (record (board_of s) { core = opened s.core }, []) (d.left.state, d.pieces) h
+
   -- a thread is made on a stack
   creates_on_become : (param : Param) (stack : ℕ) (blocks : BlockMap)
       → ServedBecomes s id (creates_on s param stack blocks)
   creates_on_become param stack blocks =
       let gp = reg s.core.cpu 28 in
-      let made = threads.creates s.core.kernel.threads param stack gp in
-      result_becomes id (with_threads s.core made.1) made.0 _ _
-      (((moves_waits s.core.kernel.threads placed).creates param stack gp).running ∙ runs)
+      ((moves_waits s.core.kernel.threads placed).creates param stack gp).running ∙ runs
 
   -- by what the allocation gave
   creates_at_become : (param : Param) (r : ℕ × BlockMap) → ServedBecomes s id (creates_at s param r)
@@ -128,6 +136,58 @@ module _ (s : System) (id : ℕ) (runs : caller s.core ≡ Some id)
   refers_become at None = tt
   refers_become at (Some place) = refers_to_become place (named (caller s.core) at)
 
+  -- a service that looks at the kernel and at memory
+  board_becomes : (x : Service) → ServedBecomes s id (on_board s (serves_board (board_of s) x))
+  unfolding serves_board
+  board_becomes service.CreateSema =
+      let at = argument s.core 0 in
+      on_core_becomes _
+      (creates_sema_become s.core id runs placed s.memory (words_place s.memory at SEMAPHORE_WORDS))
+  board_becomes service.ReferSemaStatus =
+      let place = words_place s.memory (argument s.core 1) SEMAPHORE_STATUS_WORDS in
+      on_board_becomes _ (refers_sema_become (board_of s) id runs (argument s.core 0) place)
+  board_becomes service.CreateEventFlag =
+      let place = words_place s.memory (argument s.core 0) FLAG_WORDS in
+      on_core_becomes _ (creates_flag_becomes s.core id runs placed s.memory place)
+  board_becomes service.SetEventFlag =
+      let o = object_of s.core.kernel.event_flags.live (argument s.core 0) in
+      on_board_becomes _
+      (sets_flag_becomes (board_of s) id runs placed (argument s.core 1) o)
+  board_becomes service.WaitEventFlag =
+      let w = wanted s.core in
+      let place = optional_place s.memory w.place in
+      on_board_becomes _
+      (waits_flag_becomes (board_of s) id runs placed (argument s.core 0) w place)
+  board_becomes service.PollEventFlag =
+      let w = wanted s.core in
+      let place = optional_place s.memory w.place in
+      on_board_becomes _
+      (polls_flag_becomes (board_of s) id runs placed (argument s.core 0) w place)
+  board_becomes service.ReferEventFlagStatus =
+      let place = words_place s.memory (argument s.core 1) FLAG_STATUS_WORDS in
+      on_board_becomes _
+      (refers_flag_becomes (board_of s) id runs placed (argument s.core 0) place)
+  board_becomes service.CreateMbx =
+      let place = words_place s.memory (argument s.core 0) MAILBOX_WORDS in
+      on_core_becomes _ (creates_mbx_becomes s.core id runs placed s.memory place)
+  board_becomes service.SendMbx =
+      let one = argument s.core 0 in
+      on_board_becomes _ (sends_become (board_of s) id runs placed one (argument s.core 1)
+      (mailboxes.takes_waiter_of s.core.kernel.mailboxes one))
+  board_becomes service.ReceiveMbx =
+      let at = argument s.core 0 in
+      on_board_becomes _ (waits_mbx_become (board_of s) id runs placed at (argument s.core 1)
+      (words_place s.memory at 1))
+  board_becomes service.PollMbx =
+      let place = words_place s.memory (argument s.core 0) 1 in
+      on_board_becomes _
+      (polls_mbx_become (board_of s) id runs placed (argument s.core 1) place)
+  board_becomes service.ReferMbxStatus =
+      let place = words_place s.memory (argument s.core 1) MAILBOX_STATUS_WORDS in
+      on_board_becomes _
+      (refers_mbx_become (board_of s) id runs placed (argument s.core 0) place)
+  board_becomes other = on_core_becomes _ (serves_core_becomes s.core id runs placed other)
+
   -- a service that the libraries do not have
   serves_becomes : (x : Service) → ServedBecomes s id (serves s x)
   unfolding serves
@@ -139,7 +199,7 @@ module _ (s : System) (id : ℕ) (runs : caller s.core ≡ Some id)
   serves_becomes service.ExitDeleteThread =
       on_owner_becomes _
       (exits_deleted_by_become (owner_of s) id runs placed (caller s.core) refl)
-  serves_becomes other = on_core_becomes _ (serves_core_becomes s.core id runs placed other)
+  serves_becomes other = board_becomes other
 
   -- what the libraries look at
   abbrev sight : Sight

@@ -1,11 +1,13 @@
--- What becomes of the thread that calls a service which looks at threads: it runs on, or none runs.
-use Rattle.std.proofs.Common.{◌≡◌, ℕ, ◌==◌, ◌||◌, ◌&&◌, not, Bool, true, false, if◌then◌else◌, Option, Some, None, Result, Ok, Err, refl, ◌∙◌, arith}
-use Rattle.std.specs.Prelude.{⊤}
+-- What becomes of the thread that calls a service which looks at the kernel alone: it runs on, or
+-- none runs.
+use Rattle.std.proofs.Common.{◌≡◌, ℕ, ◌==◌, ◌||◌, ◌&&◌, not, Bool, true, false, if◌then◌else◌, Option, Some, None, Result, Ok, Err, refl, ap, ◌∙◌, arith}
 use Rattle.std.proofs.lemmas.Bool.{cond_both}
 use Rattle.std.proofs.lemmas.Bool.Decides.{nat_tests}
 use Rattle.iop_base.specs.declared.code.Code.{Code}
 use Rattle.iop_base.specs.declared.code.TheConstants.Code.{WAIT_RELEASED}
+use Rattle.iop_objects.specs.Objects.{object_of}
 use Rattle.iop_ready.specs.Priorities.{priority_of as priority_of_word}
+use Rattle.iop_sema.specs.Semaphores as semaphores
 use Rattle.iop_services.specs.declared.service.Service.{Service}
 use Rattle.iop_services.specs.declared.service.Service.TheVariants as service
 use Rattle.iop_thread.specs.Operations as threads
@@ -23,37 +25,16 @@ use Rattle.iop_kernel.specs.Deleting.{Owner, deletes_by, delete_thread, exits_de
 use Rattle.iop_kernel.specs.Naming.{is_nobody_else, named}
 use Rattle.iop_kernel.specs.Ordering.{set_dispatch, answers_change, changes_named, changes_if_priority, after_leaving, rotates_to, rotates_own, rotates_by}
 use Rattle.iop_kernel.specs.Running.{ended, exits_by, returns_by, start_thread, terminates_by, terminate_thread}
+use Rattle.iop_kernel.specs.Waits.{wakes_with}
 use Rattle.iop_kernel.specs.Waiting.{releases_from, releases_it, release_wait, sleeps_by, sleep_thread, wakeup_thread, cancels_of, suspend_thread, resume_thread}
 use Rattle.iop_kernel.specs.Serving.{serves_core}
-use Rattle.iop_kernel.specs.System.{Core, Left, may_switch, caller, opened, answered, answers_result, argument, code_word}
-use Rattle.iop_kernel.specs.declared.after.After.{After}
-use Rattle.iop_kernel.specs.declared.after.After.TheVariants.{Resume, Switch, ModuleReturned, Fault}
+use Rattle.iop_kernel.specs.System.{Core, Left, may_switch, caller, opened, answered, with_threads, argument, code_word}
+use Rattle.iop_kernel.proofs.Becoming.{CoreBecomes, OwnerBecomes, runner}
+use Rattle.iop_kernel.proofs.FollowingEventFlags.{deletes_flag_becomes}
+use Rattle.iop_kernel.proofs.FollowingMailboxes.{deletes_mbx_become}
+use Rattle.iop_kernel.proofs.FollowingSemaphores.{deletes_sema_become, signals_become, wait_sema_becomes}
+use Rattle.iop_kernel.proofs.WaitsEnding.{leaves_threads, requeues_threads}
 use Rattle.iop_kernel.proofs.RunningThread.{RunsOn, running_terminates, running_rotates, none_rotates, running_suspends}
-
--- what has become of the thread of an id, by the threads that are left, and by what is left where a
--- module returned; of a fault nothing is said here
-abbrev pub Becomes : {S : Type 0} → After → (id : ℕ) → ThreadTable → (returned left : S) → Type 0
-Becomes Resume id left returned state = left.running ≡ Some id
-Becomes Switch id left returned state = left.running ≡ None
-Becomes (ModuleReturned word) id left returned state = (id ≡ LOADER) × (state ≡ returned)
-Becomes (Fault kind) id left returned state = ⊤
-
--- by what a call that looks at threads alone leaves
-abbrev pub CoreBecomes : Core → ℕ → Left Core → Type 0
-CoreBecomes c id left = Becomes left.after id left.state.kernel.threads (opened c) left.state
-
--- and by what one leaves that looks at blocks too
-abbrev pub OwnerBecomes : Owner → ℕ → Left Owner → Type 0
-OwnerBecomes o id left =
-    Becomes left.after id left.state.core.kernel.threads (record o { core = opened o.core })
-    left.state
-
--- the same one runs, and is answered a word or a code
-pub result_becomes : {S : Type 0} (id : ℕ) (c : Core) (r : Result ℕ Code) (returned left : S)
-    → caller c ≡ Some id → let done = answers_result c r in
-    Becomes done.after id done.state.kernel.threads returned left
-result_becomes id c (Ok word) returned left on = on
-result_becomes id c (Err code) returned left on = on
 
 module _ (c : Core) (id : ℕ) (runs : caller c ≡ Some id) (placed : IsPlaced c.kernel.threads) where
   abbrev table : ThreadTable
@@ -95,7 +76,9 @@ module _ (c : Core) (id : ℕ) (runs : caller c ≡ Some id) (placed : IsPlaced 
   terminates_become : (at : ℕ) (r : Result (Option Wait) Code × ThreadTable) → RunsOn table r.1
       → CoreBecomes c id (terminates_by c at r)
   terminates_become at (Err code, t) on = runs
-  terminates_become at (Ok wait, t) on = on ∙ runs
+  terminates_become at (Ok wait, t) on =
+      let left : Core = if is_it (caller c) at then opened c else c in
+      ap runner (leaves_threads (with_threads left t).kernel at wait) ∙ on ∙ runs
 
   -- a thread is ended, unless it is the one that calls
   terminate_becomes : (at : ℕ) → CoreBecomes c id (terminate_thread c at)
@@ -109,16 +92,18 @@ module _ (c : Core) (id : ℕ) (runs : caller c ≡ Some id) (placed : IsPlaced 
   set_becomes enabled = either c.kernel.interrupts _ _ (λ on. runs) (λ off. runs)
 
   -- a priority changes, by what the change answers
-  answers_change_become : (r : Result (Option Wait) Code × ThreadTable) → RunsOn table r.1
-      → CoreBecomes c id (answers_change c r)
-  answers_change_become (Err code, t) on = runs
-  answers_change_become (Ok wait, t) on = on ∙ runs
+  answers_change_become : (at priority : ℕ) (r : Result (Option Wait) Code × ThreadTable)
+      → RunsOn table r.1 → CoreBecomes c id (answers_change c at priority r)
+  answers_change_become at priority (Err code, t) on = runs
+  answers_change_become at priority (Ok wait, t) on =
+      ap runner (requeues_threads (with_threads c t).kernel at priority wait) ∙ on ∙ runs
 
   -- by the thread that is named
   changes_named_become : (priority : ℕ) (o : Option ℕ) → CoreBecomes c id (changes_named c priority o)
   changes_named_become priority None = runs
   changes_named_become priority (Some at) =
-      answers_change_become (threads.changes table at priority) (moves.changes at priority).running
+      answers_change_become at priority (threads.changes table at priority)
+      (moves.changes at priority).running
 
   -- by whether the word is a priority
   changes_if_priority_become : (at : ℕ) (o : Option ℕ) → CoreBecomes c id (changes_if_priority c at o)
@@ -157,7 +142,9 @@ module _ (c : Core) (id : ℕ) (runs : caller c ≡ Some id) (placed : IsPlaced 
   -- a wait ends, if there is one
   releases_from_become : (at : ℕ) (o : Option Wait) → CoreBecomes c id (releases_from c at o)
   releases_from_become at None = runs
-  releases_from_become at (Some wait) = (moves.wakes at (code_word WAIT_RELEASED)).running ∙ runs
+  releases_from_become at (Some wait) =
+      ap runner (leaves_threads (wakes_with c at WAIT_RELEASED).kernel at (Some wait))
+      ∙ (moves.wakes at (code_word WAIT_RELEASED)).running ∙ runs
 
   -- by the thread that is found
   releases_it_become : (o : Option Thread) → CoreBecomes c id (releases_it c o)
@@ -191,8 +178,7 @@ module _ (c : Core) (id : ℕ) (runs : caller c ≡ Some id) (placed : IsPlaced 
   -- wakeups are forgotten
   cancels_become : (o : Option ℕ) → CoreBecomes c id (cancels_of c o)
   cancels_become None = runs
-  cancels_become (Some at) =
-      result_becomes id _ (threads.cancels table at).0 _ _ ((moves.cancels at).running ∙ runs)
+  cancels_become (Some at) = (moves.cancels at).running ∙ runs
 
   -- a thread is suspended, unless it is the one that calls
   suspend_becomes : (at : ℕ) → CoreBecomes c id (suspend_thread c at)
@@ -208,7 +194,7 @@ module _ (c : Core) (id : ℕ) (runs : caller c ≡ Some id) (placed : IsPlaced 
       either (is_nobody_else c at) _ _ (λ refused. runs)
       (λ other. (moves.resumes at).running ∙ runs)
 
-  -- each service that looks at threads alone
+  -- each service that looks at the kernel alone
   pub serves_core_becomes : (x : Service) → CoreBecomes c id (serves_core c x)
   unfolding serves_core
   serves_core_becomes service.StartThread = start_becomes (argument c 0) (argument c 1)
@@ -227,6 +213,17 @@ module _ (c : Core) (id : ℕ) (runs : caller c ≡ Some id) (placed : IsPlaced 
   serves_core_becomes service.CancelWakeupThread = cancels_become (named (caller c) (argument c 0))
   serves_core_becomes service.SuspendThread = suspend_becomes (argument c 0)
   serves_core_becomes service.ResumeThread = resume_becomes (argument c 0)
+  serves_core_becomes service.DeleteSema =
+      deletes_sema_become c id runs placed (object_of c.kernel.semaphores.live (argument c 0))
+  serves_core_becomes service.SignalSema =
+      signals_become c id runs placed (semaphores.signals c.kernel.semaphores (argument c 0))
+  serves_core_becomes service.WaitSema = wait_sema_becomes c id runs placed (argument c 0)
+  serves_core_becomes service.PollSema = runs
+  serves_core_becomes service.DeleteEventFlag =
+      deletes_flag_becomes c id runs placed (object_of c.kernel.event_flags.live (argument c 0))
+  serves_core_becomes service.ClearEventFlag = runs
+  serves_core_becomes service.DeleteMbx =
+      deletes_mbx_become c id runs placed (object_of c.kernel.mailboxes.live (argument c 0))
   serves_core_becomes other = tt
 
 module _ (o : Owner) (id : ℕ) (runs : caller o.core ≡ Some id)

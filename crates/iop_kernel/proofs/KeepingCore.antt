@@ -1,22 +1,68 @@
 -- What a service keeps of the kernel and its processor, and small changes that keep it.
-use Rattle.std.proofs.Common.{◌≡◌, ℕ, Bool, true, false, if◌then◌else◌, Some, None, Result, Ok, Err, refl, ◌∙◌}
+use Rattle.std.proofs.Common.{◌≡◌, ℕ, Bool, true, false, if◌then◌else◌, Option, Some, None, refl, ◌∙◌}
 use Rattle.std.proofs.lemmas.Bool.{cond_both}
-use Rattle.iop_base.specs.declared.code.Code.{Code}
-use Rattle.iop_thread.specs.Laws.{AreStraight, KeepsPlaces, KeepsStraight}
+use Rattle.iop_event.specs.EventFlags.{EventFlags}
+use Rattle.iop_mbx.specs.Mailboxes.{Mailboxes}
+use Rattle.iop_sema.specs.Semaphores.{Semaphores}
+use Rattle.iop_thread.specs.Laws.{KeepsPlaces}
+use Rattle.iop_thread.specs.Operations as threads
 use Rattle.iop_thread.specs.Waits.{MovesWaits}
 use Rattle.iop_thread.specs.Placing.{IsPlaced}
 use Rattle.iop_thread.specs.ThreadTable.{ThreadTable}
+use Rattle.iop_thread.specs.declared.wait.Wait.{Wait}
+use Rattle.iop_thread.specs.declared.wait.Wait.TheVariants.{Semaphore, EventFlag, Mailbox}
 use Rattle.iop_thread.proofs.Placed.{keeps_places}
 use Rattle.iop_kernel.specs.Laws.{IsCore}
-use Rattle.iop_kernel.specs.System.{Core, Left, may_switch, caller, with_threads, opened, answered, answers_result, code_word}
+use Rattle.iop_kernel.specs.Overdue.{NoneOverdue}
+use Rattle.iop_kernel.specs.Placing as whole
+use Rattle.iop_kernel.specs.System.{Kernel, Core, Left, may_switch, caller, with_threads, with_semaphores, opened, answered}
 use Rattle.iop_kernel.specs.Running.{ended}
+use Rattle.iop_kernel.specs.Waiting.{waits}
+use Rattle.iop_kernel.specs.Waits.{core_leaves, core_requeues}
 use Rattle.iop_kernel.proofs.RunningThread.{RunsOn}
-use Rattle.iop_thread.proofs.Straight.{keeps_straight}
 use Rattle.iop_thread.proofs.Waits.{moves_waits}
+use Rattle.iop_kernel.proofs.Steady.{IsSteady, AreSteady, KeepsSteady, keeps_steady, steady_with_reg, are_steady, are_straight, keep_registers}
+
+-- what holds of the kernel and its processor, but for those that wait for objects
+pub record HoldsAlone (c : Core) : Type 0 where
+  pub placed : IsPlaced c.kernel.threads
+  pub awake : c.kernel.threads.running ≡ None → may_switch c.kernel ≡ true
+  pub straight : IsSteady c.cpu
+  pub threads : AreSteady c.kernel.threads
+
+-- it is part of what holds at all times
+pub holds_alone : {c : Core} → IsCore c → HoldsAlone c
+holds_alone {c} h = record {
+  placed = h.placed.threads;
+  awake = h.awake;
+  straight = (h.straight, h.registers);
+  threads = are_steady c.kernel.threads h.threads h.kept;
+}
+
+-- what holds of those that wait
+pub record WaitsHold (k : Kernel) : Type 0 where
+  pub placed : whole.IsPlaced k
+  pub overdue : NoneOverdue k
+
+-- it is the rest of it
+pub waits_of : {c : Core} → IsCore c → WaitsHold c.kernel
+waits_of h = record { placed = h.placed; overdue = h.overdue }
+
+-- both together are all of it
+pub holds_whole : {c : Core} → WaitsHold c.kernel → HoldsAlone c → IsCore c
+holds_whole {c} waits h = record {
+  placed = waits.placed;
+  overdue = waits.overdue;
+  awake = h.awake;
+  straight = h.straight.0;
+  threads = are_straight c.kernel.threads h.threads;
+  registers = h.straight.1;
+  kept = keep_registers c.kernel.threads h.threads;
+}
 
 -- what a service keeps of the kernel and its processor
 pub record CoreKeeps (c d : Core) : Type 0 where
-  pub core : IsCore c → IsCore d
+  pub core : HoldsAlone c → HoldsAlone d
   pub clock : d.kernel.clock ≡ c.kernel.clock
 
 -- a call leaves what it is to keep
@@ -42,7 +88,7 @@ only_answered c word = record {
   core = λ h. record {
     placed = h.placed;
     awake = h.awake;
-    straight = h.straight;
+    straight = steady_with_reg c.cpu 2 word h.straight;
     threads = h.threads;
   };
   clock = refl;
@@ -60,14 +106,58 @@ opened_keeps c = record {
   clock = refl;
 }
 
+-- the objects that threads wait for change
+pub objects_change : (c : Core) (semaphores : Semaphores) (flags : EventFlags)
+    (mailboxes : Mailboxes) → CoreKeeps c (record c {
+      kernel = record c.kernel {
+        semaphores = semaphores;
+        event_flags = flags;
+        mailboxes = mailboxes;
+      };
+    })
+objects_change c semaphores flags mailboxes = record {
+  core = λ h. record {
+    placed = h.placed;
+    awake = h.awake;
+    straight = h.straight;
+    threads = h.threads;
+  };
+  clock = refl;
+}
+
+-- so do the semaphores, and a word is answered
+pub semaphores_change : (c : Core) (left : Semaphores) → CoreKeeps c (with_semaphores c left)
+semaphores_change c left = objects_change c left c.kernel.event_flags c.kernel.mailboxes
+
+pub answers_semaphores : (c : Core) (left : Semaphores) (word : ℕ)
+    → CoreKeeps c (answered (with_semaphores c left) word)
+answers_semaphores c left word =
+    keeps_then (semaphores_change c left) (only_answered (with_semaphores c left) word)
+
+-- a thread no longer waits for an object
+pub leaving_keeps : (c : Core) (thread : ℕ) (wait : Option Wait)
+    → CoreKeeps c (core_leaves c thread wait)
+leaving_keeps c thread (Some (Semaphore id)) = objects_change c _ _ _
+leaving_keeps c thread (Some (EventFlag id)) = objects_change c _ _ _
+leaving_keeps c thread (Some (Mailbox id)) = objects_change c _ _ _
+leaving_keeps c thread other = nothing_changes c
+
+-- or has another priority among those that wait for it
+pub requeueing_keeps : (c : Core) (thread priority : ℕ) (wait : Option Wait)
+    → CoreKeeps c (core_requeues c thread priority wait)
+requeueing_keeps c thread priority (Some (Semaphore id)) = objects_change c _ _ _
+requeueing_keeps c thread priority (Some (EventFlag id)) = objects_change c _ _ _
+requeueing_keeps c thread priority (Some (Mailbox id)) = objects_change c _ _ _
+requeueing_keeps c thread priority other = nothing_changes c
+
 -- threads that can stand in place of the kernel's
 pub record CanStand (c : Core) (t : ThreadTable) : Type 0 where
   pub placed : IsPlaced t
-  pub straight : AreStraight t
+  pub straight : AreSteady t
   pub awake : t.running ≡ None → may_switch c.kernel ≡ true
 
 -- they keep it
-pub with_them : (c : Core) (t : ThreadTable) → (IsCore c → CanStand c t)
+pub with_them : (c : Core) (t : ThreadTable) → (HoldsAlone c → CanStand c t)
     → CoreKeeps c (with_threads c t)
 with_them c t can = record {
   core = λ h. record {
@@ -80,15 +170,15 @@ with_them c t can = record {
 }
 
 -- the kernel's threads stay placed
-abbrev pub places : (c : Core) → IsCore c → KeepsPlaces c.kernel.threads
+abbrev pub places : (c : Core) → HoldsAlone c → KeepsPlaces c.kernel.threads
 places c h = keeps_places c.kernel.threads h.placed
 
 -- and straight
-abbrev pub straights : (c : Core) → IsCore c → KeepsStraight c.kernel.threads
-straights c h = keeps_straight c.kernel.threads h.threads
+abbrev pub straights : (c : Core) → HoldsAlone c → KeepsSteady c.kernel.threads
+straights c h = keeps_steady c.kernel.threads h.threads
 
 -- what an operation does to their waits, and which one runs
-abbrev pub moves : (c : Core) → IsCore c → MovesWaits c.kernel.threads
+abbrev pub moves : (c : Core) → HoldsAlone c → MovesWaits c.kernel.threads
 moves c h = moves_waits c.kernel.threads h.placed
 
 -- the thread that runs ends
@@ -99,15 +189,18 @@ ended_keeps c = keeps_then (opened_keeps c) (with_them (opened c) _ (λ h. recor
   awake = λ none. refl;
 }))
 
--- a word or a code is answered
-pub answers_keep : (c d : Core) (r : Result ℕ Code) → CoreKeeps c d → Keeps c (answers_result d r)
-answers_keep c d (Ok word) keeps = keeps_then keeps (only_answered d word)
-answers_keep c d (Err code) keeps = keeps_then keeps (only_answered d (code_word code))
+-- the thread that calls waits, where another may run
+pub waits_keep : (c : Core) (wait : Wait) → may_switch c.kernel ≡ true → Keeps c (waits c wait)
+waits_keep c wait may = with_them c (threads.blocks c.kernel.threads wait c.cpu) (λ h. record {
+  placed = (places c h).blocks wait c.cpu tt tt;
+  straight = (straights c h).blocks wait c.cpu h.straight tt;
+  awake = λ none. may;
+})
 
 -- threads that can stand there, of which the same one runs
 pub record GoOn (c : Core) (t : ThreadTable) : Type 0 where
   pub placed : IsPlaced t
-  pub straight : AreStraight t
+  pub straight : AreSteady t
   pub on : RunsOn c.kernel.threads t
 
 module _ (c : Core) (id : ℕ) (runs : caller c ≡ Some id) where
@@ -117,7 +210,7 @@ module _ (c : Core) (id : ℕ) (runs : caller c ≡ Some id) where
   awake_on t on none = absurd (cc (runs, on, none))
 
   -- such threads keep what holds
-  pub goes_on : (t : ThreadTable) → (IsCore c → GoOn c t) → CoreKeeps c (with_threads c t)
+  pub goes_on : (t : ThreadTable) → (HoldsAlone c → GoOn c t) → CoreKeeps c (with_threads c t)
   goes_on t go = with_them c t (λ h. record {
     placed = (go h).placed;
     straight = (go h).straight;
@@ -125,6 +218,22 @@ module _ (c : Core) (id : ℕ) (runs : caller c ≡ Some id) where
   })
 
   -- and a word is answered
-  pub answers_on : (t : ThreadTable) (word : ℕ) → (IsCore c → GoOn c t)
+  pub answers_on : (t : ThreadTable) (word : ℕ) → (HoldsAlone c → GoOn c t)
       → CoreKeeps c (answered (with_threads c t) word)
   answers_on t word go = keeps_then (goes_on t go) (only_answered (with_threads c t) word)
+
+  -- a thread no longer waits for an object, before that
+  pub answers_left : (t : ThreadTable) (thread : ℕ) (wait : Option Wait) (word : ℕ)
+      → (HoldsAlone c → GoOn c t)
+      → CoreKeeps c (answered (core_leaves (with_threads c t) thread wait) word)
+  answers_left t thread wait word go =
+      keeps_then (goes_on t go)
+      (keeps_then (leaving_keeps (with_threads c t) thread wait) (only_answered _ word))
+
+  -- or has another priority among those that wait for it
+  pub answers_requeued : (t : ThreadTable) (thread priority : ℕ) (wait : Option Wait) (word : ℕ)
+      → (HoldsAlone c → GoOn c t)
+      → CoreKeeps c (answered (core_requeues (with_threads c t) thread priority wait) word)
+  answers_requeued t thread priority wait word go =
+      keeps_then (goes_on t go)
+      (keeps_then (requeueing_keeps (with_threads c t) thread priority wait) (only_answered _ word))

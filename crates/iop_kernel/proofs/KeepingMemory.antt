@@ -1,40 +1,77 @@
 -- What the services store in memory.
-use Rattle.std.proofs.Common.{◌≡◌, ℕ, ◌+◌, ◌*◌, ◌%◌, ◌==◌, ◌≤◌, nat_le, Bool, true, false, if◌then◌else◌, Option, Some, None, List, [], ◌∷◌, length, refl, sym, ◌∙◌, arith}
+use Rattle.std.proofs.Common.{◌≡◌, ℕ, ◌+◌, ◌*◌, ◌%◌, ◌==◌, ◌≤◌, nat_le, Bool, true, false, if◌then◌else◌, Option, Some, None, List, [], ◌∷◌, length, All, Contains, refl, sym, ◌∙◌, subst, arith}
 use Rattle.std.proofs.lemmas.Bool.Decides.{nat_tests}
-use Rattle.std.proofs.lemmas.List.{length-append}
-use Rattle.iop_base.proofs.Lists.{length-bytes_of}
-use Rattle.iop_base.specs.Numbers.{bytes_of}
+use Rattle.std.proofs.lemmas.List.{length-append, append-nil}
 use Rattle.iop_base.specs.Piece.{Piece}
 use Rattle.iop_base.specs.Places.{phys, range_at}
-use Rattle.iop_stubs.specs.Stubs.{Memory, after_store, range_place}
+use Rattle.iop_base.proofs.Memory.{length-with_bytes}
+use Rattle.iop_stubs.specs.Stubs.{Memory, after_store, store_lines, range_place}
 use Rattle.iop_thread.specs.States.{wait_in}
 use Rattle.iop_thread.specs.declared.thread.Thread.{Thread}
 use Rattle.iop_thread.specs.declared.wait.Wait.{Wait}
-use Rattle.iop_kernel.specs.Laws.{Writes}
-use Rattle.iop_kernel.specs.Status.{bytes_of_words, status_bytes, status_words, wait_words}
+use Rattle.iop_kernel.specs.Laws.{Store, Writes, after_stores, stores_lines}
+use Rattle.iop_kernel.specs.Status.{status_bytes, status_words, wait_words}
 use Rattle.iop_kernel.specs.System.{System, storing_lines, words_place}
+use Rattle.iop_kernel.proofs.WordBytes.{length-bytes_of_words}
+
+-- what several stores leave, and tell
+pub record Stored (clock : ℕ) (old new : Memory) (pieces : List Piece) : Type 0 where
+  pub stores : List Store
+  pub inside : All (λ x. x.place + length x.bytes ≤ length old.ram) stores
+  pub left : new ≡ after_stores old stores
+  pub told : pieces ≡ stores_lines clock old stores
+  pub size : length new.ram ≡ length old.ram
 
 -- nothing is stored
+pub none_stored : (clock : ℕ) (memory : Memory) → Stored clock memory memory []
+none_stored clock memory = record {
+  stores = [];
+  inside = λ k d below. absurd (omega (arith, below));
+  left = refl;
+  told = refl;
+  size = refl;
+}
+
+-- bytes are stored at a place, if there is one
+pub one_stored : (clock : ℕ) (memory : Memory) (place : Option ℕ) (bytes : List ℕ)
+    → ((p : ℕ) → place ≡ Some p → p + length bytes ≤ length memory.ram)
+    → Stored clock memory (after_store memory place bytes)
+    (store_lines clock memory place (length bytes))
+one_stored clock memory None bytes inside = none_stored clock memory
+one_stored clock memory (Some p) bytes inside = record {
+  stores = record { place = p; bytes = bytes } ∷ [];
+  inside = λ k d below.
+      let first : k ≡ 0 = omega (arith, below) in rw first (inside p refl);
+  left = refl;
+  told = sym (append-nil _);
+  size = length-with_bytes memory.ram p bytes (inside p refl);
+}
+
+-- they are what the law asks for
+pub stores_written : (s : System) (memory : Memory) (pieces : List Piece)
+    → Stored s.core.kernel.clock s.memory memory pieces → Writes s memory pieces
+stores_written s memory pieces h = record {
+  stores = h.stores;
+  inside = h.inside;
+  left = h.left;
+  told = λ piece x. subst (λ (all : List Piece). Contains all piece) (sym h.told) x;
+}
+
+-- so is nothing
 pub nothing_stored : (s : System) (pieces : List Piece) → Writes s s.memory pieces
 nothing_stored s pieces = record {
-  place = None;
-  bytes = [];
-  inside = λ p e. absurd (cc e);
+  stores = [];
+  inside = λ k d below. absurd (omega (arith, below));
   left = refl;
   told = λ piece x. absurd (omega (arith, x.1));
 }
 
--- bytes are stored at a place, if there is one
+-- and bytes at a place, if there is one
 pub bytes_stored : (s : System) (place : Option ℕ) (bytes : List ℕ)
     → ((p : ℕ) → place ≡ Some p → p + length bytes ≤ length s.memory.ram)
     → Writes s (after_store s.memory place bytes) (storing_lines s place bytes)
-bytes_stored s place bytes inside = record {
-  place = place;
-  bytes = bytes;
-  inside = inside;
-  left = refl;
-  told = λ piece x. x;
-}
+bytes_stored s place bytes inside =
+    stores_written s _ _ (one_stored s.core.kernel.clock s.memory place bytes inside)
 
 -- a place that passes the test
 in_range : (b : Bool) (p size len q : ℕ) → nat_le (p + len) size ≡ b
@@ -70,13 +107,6 @@ words_by false memory at count q e = absurd (cc e)
 pub words_inside : (memory : Memory) (at count q : ℕ) → words_place memory at count ≡ Some q
     → q + 4 * count ≤ length memory.ram
 words_inside memory at count q e = words_by (at % 4 == 0) memory at count q e
-
--- a word is of four bytes
-length-bytes_of_words : (words : List ℕ) → length (bytes_of_words words) ≡ 4 * length words
-length-bytes_of_words [] = refl
-length-bytes_of_words (word ∷ words) =
-    length-append (bytes_of 4 word) (bytes_of_words words)
-    ∙ omega (arith, length-bytes_of 4 word, length-bytes_of_words words)
 
 -- a wait is told in two words
 length-wait_words : (o : Option Wait) → length (wait_words o) ≡ 2

@@ -1,19 +1,19 @@
 -- What holds of the kernel at all times is kept by each service that a thread calls.
-use Rattle.std.proofs.Common.{◌≡◌, ℕ, ◌+◌, ◌≤◌, ◌==◌, ◌||◌, false, Option, Some, None, Result, Ok, Err, List, [], ◌∷◌, length, replicate, refl, arith}
+use Rattle.std.proofs.Common.{◌≡◌, ℕ, ◌+◌, ◌≤◌, ◌==◌, false, Option, Some, None, Result, Ok, Err, List, [], ◌∷◌, length, replicate, refl, arith}
 use Rattle.std.proofs.lemmas.Bool.{cond_both}
 use Rattle.std.proofs.lemmas.List.{length-replicate}
-use Rattle.std.proofs.lemmas.List.Elements.{Contains-append_right}
 use Rattle.iop_base.specs.BlockSizes.{block_len}
-use Rattle.iop_base.specs.Piece.{Piece, Traced}
+use Rattle.iop_base.specs.Piece.{Traced}
 use Rattle.iop_base.specs.Text.{line_bytes}
 use Rattle.iop_base.specs.declared.code.Code.{Code}
 use Rattle.iop_base.specs.declared.code.TheConstants.Code.{OK, NO_MEMORY, ILLEGAL_THREAD, UNKNOWN_THREAD}
-use Rattle.iop_base.specs.declared.guest_fault.GuestFault.{GuestFault}
 use Rattle.iop_base.specs.declared.line.Line.TheVariants as lines
 use Rattle.iop_exec.specs.Row.{reg}
 use Rattle.iop_libs.specs.Calls.{Sight, calls_row, row_pieces}
 use Rattle.iop_libs.specs.declared.answer.Answer.{Answer}
 use Rattle.iop_libs.specs.declared.answer.Answer.TheVariants.{Value, Unlisted, Fault, Other}
+use Rattle.iop_mbx.specs.Mailboxes as mailboxes
+use Rattle.iop_objects.specs.Objects.{object_of}
 use Rattle.iop_registry.specs.declared.registry.Entry.{Entry}
 use Rattle.iop_services.specs.Table.{row_of}
 use Rattle.iop_services.specs.declared.service.Service.{Service}
@@ -22,130 +22,35 @@ use Rattle.iop_stubs.specs.Stubs.{range_place}
 use Rattle.iop_sysmem.specs.Allocating.{allocating}
 use Rattle.iop_sysmem.specs.BlockMap.{BlockMap}
 use Rattle.iop_thread.specs.Operations as threads
-use Rattle.iop_thread.specs.ThreadTable.{ThreadTable, thread_of, has_room}
+use Rattle.iop_thread.specs.ThreadTable.{thread_of, has_room}
 use Rattle.iop_thread.specs.declared.param.Param.{Param}
 use Rattle.iop_thread.specs.declared.thread.Thread.{Thread}
-use Rattle.iop_thread.specs.declared.thread.TheConstants.{LOADER}
-use Rattle.iop_kernel.specs.Laws.{IsCore, AreKept, Writes, ServicesKeep}
-use Rattle.iop_kernel.specs.Answering.{only_answers}
+use Rattle.iop_kernel.specs.Laws.{AreKept, ServicesKeep}
+use Rattle.iop_kernel.specs.Boards.{board_of, on_board}
 use Rattle.iop_kernel.specs.Creating.{creates_on, creates_at, creates_with, creates_from}
-use Rattle.iop_kernel.specs.Deleting.{Owner, owner_of, on_owner, with_blocks, deletes_by, delete_thread, exits_deleted, exits_deleted_by}
+use Rattle.iop_kernel.specs.Deleting.{owner_of}
 use Rattle.iop_kernel.specs.Naming.{named}
-use Rattle.iop_kernel.specs.Running.{ended}
 use Rattle.iop_kernel.specs.Status.{refers_it, refers_to, refers_at, status_bytes}
-use Rattle.iop_kernel.specs.Serving.{call_of, serves, answers_by, calls_library, calls}
-use Rattle.iop_kernel.specs.System.{Core, Left, System, Served, argument, caller, code_word, with_threads, faults, silent, after_pieces, on_core, words_place}
+use Rattle.iop_kernel.specs.Serving.{call_of, wanted, serves_board, serves, answers_by, calls_library, calls}
+use Rattle.iop_kernel.specs.System.{System, Served, argument, caller, code_word, result_word, words_place}
 use Rattle.iop_kernel.specs.declared.call.Call.{Call}
 use Rattle.iop_kernel.specs.declared.call.Call.TheVariants.{Library, ThreadReturn, ModuleReturn}
+use Rattle.iop_kernel.specs.declared.event_flags.TheConstants.{FLAG_WORDS}
+use Rattle.iop_kernel.specs.declared.mailboxes.TheConstants.{MAILBOX_WORDS}
+use Rattle.iop_kernel.specs.declared.semaphores.TheConstants.{SEMAPHORE_WORDS}
 use Rattle.iop_kernel.specs.declared.status.TheConstants.{STATUS_WORDS}
 use Rattle.iop_kernel.specs.declared.creating.TheConstants.{PARAM_WORDS, FROM_ABOVE}
 use Rattle.iop_kernel.proofs.Following.{services_follow}
-use Rattle.iop_kernel.proofs.KeepingCore.{CoreKeeps, Keeps, keeps_then, nothing_changes, only_answered, opened_keeps, CanStand, with_them, places, straights, moves, ended_keeps, answers_keep, GoOn, goes_on, answers_on}
+use Rattle.iop_kernel.proofs.KeepingCore.{holds_alone, waits_of, holds_whole, only_answered, places, straights, moves, answers_on}
+use Rattle.iop_kernel.proofs.KeepingOwners.{delete_keeps, exits_by_keeps}
+use Rattle.iop_kernel.proofs.KeepingEventFlags.{creates_flag_keeps, sets_flag_keeps, waits_flag_keeps, polls_flag_keeps, refers_flag_keeps}
+use Rattle.iop_kernel.proofs.KeepingMailboxes.{creates_mbx_keeps, sends_keep, waits_mbx_keep, polls_mbx_keep, refers_mbx_keep}
+use Rattle.iop_kernel.proofs.KeepingSemaphores.{creates_sema_keeps, refers_sema_keep}
+use Rattle.iop_kernel.proofs.KeepingSystem.{SystemKeeps, on_core_keeps, on_owner_keeps, on_board_keeps, only_answers_keeps, faults_keep, after_pieces_keeps}
 use Rattle.iop_kernel.proofs.KeepingThreads.{exits_keep, returns_keep, serves_core_keeps}
-use Rattle.iop_kernel.proofs.KeepingBlocks.{same_blocks, kept_then, allocating_keeps, freeing_keeps, row_keeps}
-use Rattle.iop_kernel.proofs.KeepingMemory.{nothing_stored, bytes_stored, range_inside, words_inside, length-status_bytes}
-
--- what a call that looks at threads and blocks keeps
-record OwnerKeeps (o : Owner) (left : Left Owner) : Type 0 where
-  core : CoreKeeps o.core left.state.core
-  blocks : AreKept o.blocks left.state.blocks
-
--- what a call keeps, but for what becomes of its caller
-record SystemKeeps (s : System) (d : Served) : Type 0 where
-  core : IsCore s.core → IsCore d.left.state.core
-  clock : d.left.state.core.kernel.clock ≡ s.core.kernel.clock
-  memory : Writes s d.left.state.memory d.pieces
-  blocks : AreKept s.blocks d.left.state.blocks
-
--- the blocks stay
-only_core : (o : Owner) (left : Left Core) → Keeps o.core left
-    → OwnerKeeps o (with_blocks o.blocks left)
-only_core o left h = record { core = h; blocks = same_blocks o.blocks }
-
-module _ (o : Owner) (id : ℕ) (runs : caller o.core ≡ Some id) where
-  -- a dormant thread is deleted
-  deletes_by_keeps : (r : Result ℕ Code × ThreadTable) → (IsCore o.core → GoOn o.core r.1)
-      → OwnerKeeps o (deletes_by o r)
-  deletes_by_keeps (Ok stack, t) go =
-      record { core = answers_on o.core id runs t _ go; blocks = freeing_keeps o.blocks stack }
-  deletes_by_keeps (Err code, t) go = only_core o _ (only_answered o.core _)
-
-  -- the thread of an id is deleted
-  delete_keeps : (at : ℕ) → OwnerKeeps o (delete_thread o at)
-  delete_keeps at =
-      cond_both (at == 0 || at == LOADER) _ _ (OwnerKeeps o)
-      (λ refused. only_core o _ (only_answered o.core _))
-      (λ other. deletes_by_keeps (threads.deletes o.core.kernel.threads at) (λ h. record {
-        placed = (places o.core h).deletes at;
-        straight = (straights o.core h).deletes at;
-        on = ((moves o.core h).deletes at).running;
-      }))
-
-  -- the thread that calls has ended, and is deleted
-  exits_deleted_keeps : (r : Result ℕ Code × ThreadTable)
-      → (IsCore (ended o.core) → CanStand (ended o.core) r.1) → OwnerKeeps o (exits_deleted o r)
-  exits_deleted_keeps (Ok stack, t) can = record {
-    core = keeps_then (ended_keeps o.core) (with_them (ended o.core) t can);
-    blocks = freeing_keeps o.blocks stack;
-  }
-  exits_deleted_keeps (Err code, t) can = only_core o _ (ended_keeps o.core)
-
-  -- by the thread that calls
-  exits_by_keeps : (who : Option ℕ) → OwnerKeeps o (exits_deleted_by o who)
-  exits_by_keeps None = only_core o _ (nothing_changes o.core)
-  exits_by_keeps (Some at) =
-      cond_both (at == LOADER) _ _ (OwnerKeeps o)
-      (λ loader. only_core o _ (opened_keeps o.core))
-      (λ other. exits_deleted_keeps (threads.deletes (ended o.core).kernel.threads at) (λ h. record {
-        placed = (places (ended o.core) h).deletes at;
-        straight = (straights (ended o.core) h).deletes at;
-        awake = λ none. refl;
-      }))
-
-module _ (s : System) where
-  -- a call that looks at threads alone
-  on_core_keeps : (left : Left Core) → CoreKeeps s.core left.state
-      → SystemKeeps s (silent (on_core s left))
-  on_core_keeps left h = record {
-    core = h.core;
-    clock = h.clock;
-    memory = nothing_stored s _;
-    blocks = same_blocks s.blocks;
-  }
-
-  -- a call that looks at blocks too
-  on_owner_keeps : (left : Left Owner) → OwnerKeeps (owner_of s) left
-      → SystemKeeps s (silent (on_owner s left))
-  on_owner_keeps left h = record {
-    core = h.core.core;
-    clock = h.core.clock;
-    memory = nothing_stored s _;
-    blocks = h.blocks;
-  }
-
-  -- only a code is answered
-  only_answers_keeps : (code : Code) → SystemKeeps s (only_answers s code)
-  only_answers_keeps code = on_core_keeps _ (only_answered s.core _)
-
-  -- a fault
-  faults_keep : (kind : GuestFault) → SystemKeeps s (silent (faults s kind))
-  faults_keep kind = on_core_keeps (faults s.core kind) (nothing_changes s.core)
-
-  -- pieces are given first
-  after_pieces_keeps : (pieces : List Piece) (d : Served) → SystemKeeps s d
-      → SystemKeeps s (after_pieces pieces d)
-  after_pieces_keeps pieces d h = record {
-    core = h.core;
-    clock = h.clock;
-    memory = record {
-      place = h.memory.place;
-      bytes = h.memory.bytes;
-      inside = h.memory.inside;
-      left = h.memory.left;
-      told = λ piece x. Contains-append_right pieces d.pieces piece (h.memory.told piece x);
-    };
-    blocks = h.blocks;
-  }
+use Rattle.iop_kernel.proofs.KeepingBlocks.{same_blocks, kept_then, allocating_keeps, row_keeps}
+use Rattle.iop_kernel.proofs.KeepingMemory.{bytes_stored, range_inside, words_inside, length-status_bytes}
+use Rattle.iop_kernel.proofs.WaitsHolding.{waits_served}
 
 module _ (s : System) (id : ℕ) (runs : caller s.core ≡ Some id) where
   -- a thread is made on a stack
@@ -155,12 +60,11 @@ module _ (s : System) (id : ℕ) (runs : caller s.core ≡ Some id) where
       let size = param.stack_size in
       let gp = reg s.core.cpu 28 in
       let made = threads.creates s.core.kernel.threads param stack gp in
-      let core = answers_keep s.core (with_threads s.core made.1) made.0
-      (goes_on s.core id runs made.1 (λ h. record {
+      let core = answers_on s.core id runs made.1 (result_word made.0) (λ h. record {
         placed = (places s.core h).creates param stack gp;
         straight = (straights s.core h).creates param stack gp;
         on = ((moves s.core h).creates param stack gp).running;
-      })) in
+      }) in
       record {
         core = core.core;
         clock = core.clock;
@@ -219,6 +123,41 @@ module _ (s : System) (id : ℕ) (runs : caller s.core ≡ Some id) where
   refers_keep at (Some place) fits =
       refers_to_keeps place (fits place refl) (named (caller s.core) at)
 
+  -- a service that looks at the kernel and at memory
+  board_keeps : (x : Service) → SystemKeeps s (on_board s (serves_board (board_of s) x))
+  unfolding serves_board
+  board_keeps service.CreateSema =
+      let place = words_place s.memory (argument s.core 0) SEMAPHORE_WORDS in
+      on_core_keeps s _ (creates_sema_keeps s.core s.memory place)
+  board_keeps service.ReferSemaStatus =
+      on_board_keeps s _ (refers_sema_keep s (argument s.core 1) (argument s.core 0))
+  board_keeps service.CreateEventFlag =
+      let place = words_place s.memory (argument s.core 0) FLAG_WORDS in
+      on_core_keeps s _ (creates_flag_keeps s.core s.memory place)
+  board_keeps service.SetEventFlag =
+      let o = object_of s.core.kernel.event_flags.live (argument s.core 0) in
+      on_board_keeps s _ (sets_flag_keeps s id runs (argument s.core 1) o)
+  board_keeps service.WaitEventFlag =
+      on_board_keeps s _ (waits_flag_keeps s (argument s.core 0) (wanted s.core))
+  board_keeps service.PollEventFlag =
+      on_board_keeps s _ (polls_flag_keeps s (argument s.core 0) (wanted s.core))
+  board_keeps service.ReferEventFlagStatus =
+      on_board_keeps s _ (refers_flag_keeps s (argument s.core 1) (argument s.core 0))
+  board_keeps service.CreateMbx =
+      let place = words_place s.memory (argument s.core 0) MAILBOX_WORDS in
+      on_core_keeps s _ (creates_mbx_keeps s.core s.memory place)
+  board_keeps service.SendMbx =
+      let one = argument s.core 0 in
+      on_board_keeps s _ (sends_keep s id runs one (argument s.core 1)
+      (mailboxes.takes_waiter_of s.core.kernel.mailboxes one))
+  board_keeps service.ReceiveMbx =
+      on_board_keeps s _ (waits_mbx_keep s (argument s.core 0) (argument s.core 1))
+  board_keeps service.PollMbx =
+      on_board_keeps s _ (polls_mbx_keep s (argument s.core 0) (argument s.core 1))
+  board_keeps service.ReferMbxStatus =
+      on_board_keeps s _ (refers_mbx_keep s (argument s.core 1) (argument s.core 0))
+  board_keeps other = on_core_keeps s _ (serves_core_keeps s.core id runs other)
+
   -- a service that the libraries do not have
   serves_keep : (x : Service) → SystemKeeps s (serves s x)
   unfolding serves
@@ -230,7 +169,7 @@ module _ (s : System) (id : ℕ) (runs : caller s.core ≡ Some id) where
       on_owner_keeps s _ (delete_keeps (owner_of s) id runs (argument s.core 0))
   serves_keep service.ExitDeleteThread =
       on_owner_keeps s _ (exits_by_keeps (owner_of s) id runs (caller s.core))
-  serves_keep other = on_core_keeps s _ (serves_core_keeps s.core id runs other)
+  serves_keep other = board_keeps other
 
   -- by the answer of the libraries
   answers_by_keeps : (library number : ℕ) (answer : Answer)
@@ -251,8 +190,7 @@ from_between s blocks libraries d kept h = record {
   core = h.core;
   clock = h.clock;
   memory = record {
-    place = h.memory.place;
-    bytes = h.memory.bytes;
+    stores = h.memory.stores;
     inside = h.memory.inside;
     left = h.memory.left;
     told = h.memory.told;
@@ -288,8 +226,9 @@ pub services_keep : ServicesKeep
 services_keep s code id runs =
     let h = calls_keep s id runs (call_of code) in
     record {
-      follows = λ one placed is. services_follow s code one placed is;
-      core = h.core;
+      follows = λ one placed is. services_follow s code one placed.threads is;
+      core = λ whole.
+          holds_whole (waits_served s code (waits_of whole)) (h.core (holds_alone whole));
       clock = h.clock;
       memory = h.memory;
       blocks = h.blocks;

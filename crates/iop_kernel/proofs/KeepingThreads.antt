@@ -1,10 +1,12 @@
--- What the services that look at threads alone keep of the kernel and its processor.
+-- What the services that look at the kernel alone keep of it and its processor.
 use Rattle.std.proofs.Common.{◌≡◌, ℕ, ◌==◌, ◌||◌, ◌&&◌, not, Bool, true, false, Option, Some, None, Result, Ok, Err, refl, arith}
 use Rattle.std.proofs.lemmas.Bool.{cond_both}
 use Rattle.std.proofs.lemmas.Bool.Decides.{nat_tests}
 use Rattle.iop_base.specs.declared.code.Code.{Code}
 use Rattle.iop_base.specs.declared.code.TheConstants.Code.{OK, WAIT_RELEASED}
+use Rattle.iop_objects.specs.Objects.{object_of}
 use Rattle.iop_ready.specs.Priorities.{priority_of as priority_of_word}
+use Rattle.iop_sema.specs.Semaphores as semaphores
 use Rattle.iop_services.specs.declared.service.Service.{Service}
 use Rattle.iop_services.specs.declared.service.Service.TheVariants as service
 use Rattle.iop_thread.specs.Operations as threads
@@ -15,15 +17,19 @@ use Rattle.iop_thread.specs.declared.thread.Thread.{Thread}
 use Rattle.iop_thread.specs.declared.thread.TheConstants.{LOADER}
 use Rattle.iop_thread.specs.declared.wait.Wait.{Wait}
 use Rattle.iop_thread.specs.declared.wait.Wait.TheVariants.{Sleep}
-use Rattle.iop_kernel.specs.Laws.{IsCore}
 use Rattle.iop_kernel.specs.Serving.{serves_core}
 use Rattle.iop_kernel.specs.System.{Core, may_switch, caller, with_threads, opened, answered, argument, code_word}
 use Rattle.iop_kernel.specs.Naming.{is_nobody_else, named}
 use Rattle.iop_kernel.specs.Ordering.{set_dispatch, answers_change, changes_named, changes_if_priority, change_priority, rotates_to, rotates_own, rotates_by}
 use Rattle.iop_kernel.specs.Running.{exits_by, returns_by, start_thread, terminates_by, terminate_thread}
-use Rattle.iop_kernel.specs.Waiting.{releases_from, releases_it, release_wait, sleeps_by, sleep_thread, wakeup_thread, cancels_of, suspend_thread, resume_thread, waits}
+use Rattle.iop_kernel.specs.Waiting.{releases_from, releases_it, release_wait, sleeps_by, sleep_thread, wakeup_thread, cancels_of, suspend_thread, resume_thread}
+use Rattle.iop_kernel.specs.Waits.{core_leaves}
 use Rattle.iop_kernel.proofs.RunningThread.{running_terminates, running_rotates, running_suspends}
-use Rattle.iop_kernel.proofs.KeepingCore.{CoreKeeps, Keeps, keeps_both, nothing_changes, keeps_then, only_answered, opened_keeps, with_them, places, straights, moves, ended_keeps, answers_keep, GoOn, awake_on, goes_on, answers_on}
+use Rattle.iop_kernel.proofs.KeepingCore.{HoldsAlone, CoreKeeps, Keeps, keeps_both, nothing_changes, keeps_then, only_answered, opened_keeps, answers_semaphores, with_them, places, straights, moves, ended_keeps, waits_keep, GoOn, awake_on, answers_on, answers_left, answers_requeued}
+use Rattle.iop_kernel.proofs.Steady.{steady_with_reg}
+use Rattle.iop_kernel.proofs.KeepingEventFlags.{deletes_flag_keeps, clears_flag_keeps}
+use Rattle.iop_kernel.proofs.KeepingMailboxes.{deletes_mbx_keeps}
+use Rattle.iop_kernel.proofs.KeepingSemaphores.{deletes_sema_keeps, signals_keep, wait_sema_keeps}
 
 -- the thread that calls ends
 pub exits_keep : (c : Core) (o : Option ℕ) → Keeps c (exits_by c o)
@@ -50,13 +56,13 @@ module _ (c : Core) (id : ℕ) (runs : caller c ≡ Some id) where
 
   -- the thread of another id ends
   terminates_keep : (at : ℕ) → is_it (caller c) at ≡ false
-      → (r : Result (Option Wait) Code × ThreadTable) → (IsCore c → GoOn c r.1)
+      → (r : Result (Option Wait) Code × ThreadTable) → (HoldsAlone c → GoOn c r.1)
       → Keeps c (terminates_by c at r)
   terminates_keep at other (Err code, t) go = only_answered c _
   terminates_keep at other (Ok wait, t) go =
       cond_both (is_it (caller c) at) (opened c) c
-      (λ left. CoreKeeps c (answered (with_threads left t) (code_word OK)))
-      (λ it. absurd (cc (it, other))) (λ it. answers_on c id runs t _ go)
+      (λ left. CoreKeeps c (answered (core_leaves (with_threads left t) at wait) (code_word OK)))
+      (λ it. absurd (cc (it, other))) (λ it. answers_left c id runs t at wait _ go)
 
   -- a thread is ended, unless it is the one that calls
   terminate_keeps : (at : ℕ) → Keeps c (terminate_thread c at)
@@ -77,7 +83,7 @@ module _ (c : Core) (id : ℕ) (runs : caller c ≡ Some id) where
         core = λ h. record {
           placed = h.placed;
           awake = λ none. absurd (cc (runs, none));
-          straight = h.straight;
+          straight = steady_with_reg c.cpu 2 (code_word OK) h.straight;
           threads = h.threads;
         };
         clock = refl;
@@ -85,16 +91,17 @@ module _ (c : Core) (id : ℕ) (runs : caller c ≡ Some id) where
       (λ off. only_answered c _)
 
   -- a priority changes, by what the change answers
-  answers_change_keeps : (r : Result (Option Wait) Code × ThreadTable) → (IsCore c → GoOn c r.1)
-      → Keeps c (answers_change c r)
-  answers_change_keeps (Err code, t) go = only_answered c _
-  answers_change_keeps (Ok wait, t) go = answers_on c id runs t _ go
+  answers_change_keeps : (at priority : ℕ) (r : Result (Option Wait) Code × ThreadTable)
+      → (HoldsAlone c → GoOn c r.1) → Keeps c (answers_change c at priority r)
+  answers_change_keeps at priority (Err code, t) go = only_answered c _
+  answers_change_keeps at priority (Ok wait, t) go =
+      answers_requeued c id runs t at priority wait _ go
 
   -- by the thread that is named
   changes_named_keeps : (priority : ℕ) (o : Option ℕ) → Keeps c (changes_named c priority o)
   changes_named_keeps priority None = only_answered c _
   changes_named_keeps priority (Some at) =
-      answers_change_keeps (threads.changes c.kernel.threads at priority) (λ h. record {
+      answers_change_keeps at priority (threads.changes c.kernel.threads at priority) (λ h. record {
         placed = (places c h).changes at priority;
         straight = (straights c h).changes at priority;
         on = ((moves c h).changes at priority).running;
@@ -150,7 +157,7 @@ module _ (c : Core) (id : ℕ) (runs : caller c ≡ Some id) where
   releases_from_keeps : (at : ℕ) (o : Option Wait) → Keeps c (releases_from c at o)
   releases_from_keeps at None = only_answered c _
   releases_from_keeps at (Some wait) =
-      answers_on c id runs _ _ (λ h. record {
+      answers_left c id runs _ at (Some wait) _ (λ h. record {
         placed = (places c h).wakes at (code_word WAIT_RELEASED);
         straight = (straights c h).wakes at (code_word WAIT_RELEASED);
         on = ((moves c h).wakes at (code_word WAIT_RELEASED)).running;
@@ -167,19 +174,11 @@ module _ (c : Core) (id : ℕ) (runs : caller c ≡ Some id) where
       keeps_both c (is_nobody_else c at) _ _ (λ refused. only_answered c _)
       (λ other. releases_it_keeps (thread_of c.kernel.threads.live at))
 
-  -- the thread that calls waits, where another may run
-  waits_keep : (wait : Wait) → may_switch c.kernel ≡ true → Keeps c (waits c wait)
-  waits_keep wait may = with_them c (threads.blocks c.kernel.threads wait c.cpu) (λ h. record {
-    placed = (places c h).blocks wait c.cpu tt tt;
-    straight = (straights c h).blocks wait c.cpu h.straight tt;
-    awake = λ none. may;
-  })
-
   -- by whether there is a wakeup
-  sleeps_keep : may_switch c.kernel ≡ true → (r : Bool × ThreadTable) → (IsCore c → GoOn c r.1)
+  sleeps_keep : may_switch c.kernel ≡ true → (r : Bool × ThreadTable) → (HoldsAlone c → GoOn c r.1)
       → Keeps c (sleeps_by c r)
   sleeps_keep may (true, t) go = answers_on c id runs t _ go
-  sleeps_keep may (false, t) go = waits_keep Sleep may
+  sleeps_keep may (false, t) go = waits_keep c Sleep may
 
   -- the thread that calls sleeps
   sleep_keeps : Keeps c (sleep_thread c)
@@ -206,12 +205,11 @@ module _ (c : Core) (id : ℕ) (runs : caller c ≡ Some id) where
   cancels_keep : (o : Option ℕ) → Keeps c (cancels_of c o)
   cancels_keep None = only_answered c _
   cancels_keep (Some at) =
-      let done = threads.cancels c.kernel.threads at in
-      answers_keep c (with_threads c done.1) done.0 (goes_on c id runs done.1 (λ h. record {
+      answers_on c id runs (threads.cancels c.kernel.threads at).1 _ (λ h. record {
         placed = (places c h).cancels at;
         straight = (straights c h).cancels at;
         on = ((moves c h).cancels at).running;
-      }))
+      })
 
   -- a thread is suspended, unless it is the one that calls
   suspend_keeps : (at : ℕ) → Keeps c (suspend_thread c at)
@@ -236,7 +234,7 @@ module _ (c : Core) (id : ℕ) (runs : caller c ≡ Some id) where
         on = ((moves c h).resumes at).running;
       }))
 
-  -- each service that looks at threads alone
+  -- each service that looks at the kernel alone
   pub serves_core_keeps : (x : Service) → Keeps c (serves_core c x)
   unfolding serves_core
   serves_core_keeps service.StartThread = start_keeps (argument c 0) (argument c 1)
@@ -254,4 +252,15 @@ module _ (c : Core) (id : ℕ) (runs : caller c ≡ Some id) where
   serves_core_keeps service.CancelWakeupThread = cancels_keep (named (caller c) (argument c 0))
   serves_core_keeps service.SuspendThread = suspend_keeps (argument c 0)
   serves_core_keeps service.ResumeThread = resume_keeps (argument c 0)
+  serves_core_keeps service.DeleteSema =
+      deletes_sema_keeps c id runs (object_of c.kernel.semaphores.live (argument c 0))
+  serves_core_keeps service.SignalSema =
+      signals_keep c id runs (semaphores.signals c.kernel.semaphores (argument c 0))
+  serves_core_keeps service.WaitSema = wait_sema_keeps c (argument c 0)
+  serves_core_keeps service.PollSema = answers_semaphores c _ _
+  serves_core_keeps service.DeleteEventFlag =
+      deletes_flag_keeps c id runs (object_of c.kernel.event_flags.live (argument c 0))
+  serves_core_keeps service.ClearEventFlag = clears_flag_keeps c (argument c 0) (argument c 1)
+  serves_core_keeps service.DeleteMbx =
+      deletes_mbx_keeps c id runs (object_of c.kernel.mailboxes.live (argument c 0))
   serves_core_keeps other = nothing_changes c

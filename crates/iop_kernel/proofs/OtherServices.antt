@@ -1,15 +1,49 @@
--- Services that look at threads alone.
+-- Services that look at less than all.
 use Rattle.std.proofs.Common.{◌≡◌, refl}
 use Rattle.iop_services.specs.declared.service.Service.{Service}
 use Rattle.iop_services.specs.declared.service.Service.TheVariants as service
-use Rattle.iop_kernel.specs.Serving.{serves, serves_core}
-use Rattle.iop_kernel.specs.System.{System, silent, on_core}
+use Rattle.iop_kernel.specs.Boards.{Board, board_of, on_board, quiet}
+use Rattle.iop_kernel.specs.Serving.{serves, serves_board, serves_core}
+use Rattle.iop_kernel.specs.System.{System}
 
--- memory and its blocks stay as they are
+-- a service that does not look at memory
+pub record LooksAway (x : Service) : Type 0 where
+  pub create_sema : x ≡ service.CreateSema → ⊥
+  pub refer_sema_status : x ≡ service.ReferSemaStatus → ⊥
+  pub create_event_flag : x ≡ service.CreateEventFlag → ⊥
+  pub set_event_flag : x ≡ service.SetEventFlag → ⊥
+  pub wait_event_flag : x ≡ service.WaitEventFlag → ⊥
+  pub poll_event_flag : x ≡ service.PollEventFlag → ⊥
+  pub refer_event_flag_status : x ≡ service.ReferEventFlagStatus → ⊥
+  pub create_mbx : x ≡ service.CreateMbx → ⊥
+  pub send_mbx : x ≡ service.SendMbx → ⊥
+  pub receive_mbx : x ≡ service.ReceiveMbx → ⊥
+  pub poll_mbx : x ≡ service.PollMbx → ⊥
+  pub refer_mbx_status : x ≡ service.ReferMbxStatus → ⊥
+
+-- memory stays as it is
+pub board_other : (b : Board) (x : Service) → LooksAway x
+    → serves_board b x ≡ quiet b.memory (serves_core b.core x)
+unfolding serves_board
+board_other b service.CreateSema other = absurd (other.create_sema refl)
+board_other b service.ReferSemaStatus other = absurd (other.refer_sema_status refl)
+board_other b service.CreateEventFlag other = absurd (other.create_event_flag refl)
+board_other b service.SetEventFlag other = absurd (other.set_event_flag refl)
+board_other b service.WaitEventFlag other = absurd (other.wait_event_flag refl)
+board_other b service.PollEventFlag other = absurd (other.poll_event_flag refl)
+board_other b service.ReferEventFlagStatus other = absurd (other.refer_event_flag_status refl)
+board_other b service.CreateMbx other = absurd (other.create_mbx refl)
+board_other b service.SendMbx other = absurd (other.send_mbx refl)
+board_other b service.ReceiveMbx other = absurd (other.receive_mbx refl)
+board_other b service.PollMbx other = absurd (other.poll_mbx refl)
+board_other b service.ReferMbxStatus other = absurd (other.refer_mbx_status refl)
+board_other b x other = refl
+
+-- the blocks of memory and the libraries stay as they are
 pub serves_other : (s : System) (x : Service) → (x ≡ service.CreateThread → ⊥)
     → (x ≡ service.ReferThreadStatus → ⊥) → (x ≡ service.DeleteThread → ⊥)
     → (x ≡ service.ExitDeleteThread → ⊥)
-    → serves s x ≡ silent (on_core s (serves_core s.core x))
+    → serves s x ≡ on_board s (serves_board (board_of s) x)
 unfolding serves
 serves_other s service.CreateThread a b c d = absurd (a refl)
 serves_other s service.ReferThreadStatus a b c d = absurd (b refl)

@@ -2,20 +2,9 @@
 use Rattle.std.proofs.Common.{◌≡◌, ℕ, false, Option, Some, None, refl, arith}
 use Rattle.std.specs.Prelude.{Err}
 use Rattle.iop_base.specs.declared.code.Code.{Code}
-use Rattle.iop_thread.specs.Operations.{terminates, terminates_it, changes, changes_it, takes_wakeup, takes_wakeup_it}
+use Rattle.iop_thread.specs.Operations.{changes, changes_it, takes_wakeup, takes_wakeup_it}
 use Rattle.iop_thread.specs.ThreadTable.{ThreadTable, thread_of, running_thread}
 use Rattle.iop_thread.specs.declared.thread.Thread.{Thread}
-
--- by the thread of the id
-terminate_refused_for : (s : ThreadTable) (t : Option Thread) (code : Code)
-    → Err code ≡ (terminates_it s t).0 → terminates_it s t ≡ (Err code, s)
-terminate_refused_for s None code e = grind (arith, e)
-terminate_refused_for s (Some t) code e = grind (arith, e)
-
--- the end of a thread
-pub terminate_refused : (s : ThreadTable) (id : ℕ) (code : Code)
-    → Err code ≡ (terminates s id).0 → terminates s id ≡ (Err code, s)
-terminate_refused s id code e = terminate_refused_for s (thread_of s.live id) code e
 
 -- by the thread of the id
 change_refused_for : (s : ThreadTable) (priority : ℕ) (t : Option Thread) (code : Code)

@@ -6,13 +6,14 @@ use Rattle.iop_libs.specs.declared.answer.Answer.TheVariants.{Value, Unlisted, F
 use Rattle.iop_services.specs.Table.{row_of}
 use Rattle.iop_services.specs.declared.service.Service.{Service}
 use Rattle.iop_services.specs.declared.service.Service.TheVariants as service
-use Rattle.iop_kernel.specs.Serving.{call_of, serves_core, serves, answers_by, calls_library, calls, services}
+use Rattle.iop_kernel.specs.Serving.{call_of, serves_core, serves_board, serves, answers_by, calls_library, calls, services}
+use Rattle.iop_kernel.specs.Boards.{Board, board_of}
 use Rattle.iop_kernel.specs.System.{Core, System, may_switch}
 use Rattle.iop_kernel.specs.declared.after.After.TheVariants.{ModuleReturned}
 use Rattle.iop_kernel.specs.declared.call.Call.{Call}
 use Rattle.iop_kernel.specs.declared.call.Call.TheVariants.{Library, ThreadReturn, ModuleReturn}
 
--- a service that looks at threads alone
+-- a service that looks at the kernel alone
 core_opens : (c : Core) (x : Service) (value : ℕ) → (serves_core c x).after ≡ ModuleReturned value
     → may_switch (serves_core c x).state.kernel ≡ true
 unfolding serves_core
@@ -30,7 +31,33 @@ core_opens c service.WakeupThread value e = grind (arith, e)
 core_opens c service.CancelWakeupThread value e = grind (arith, e)
 core_opens c service.SuspendThread value e = grind (arith, e)
 core_opens c service.ResumeThread value e = grind (arith, e)
+core_opens c service.DeleteSema value e = grind (arith, e)
+core_opens c service.SignalSema value e = grind (arith, e)
+core_opens c service.WaitSema value e = grind (arith, e)
+core_opens c service.PollSema value e = absurd (cc e)
+core_opens c service.DeleteEventFlag value e = grind (arith, e)
+core_opens c service.ClearEventFlag value e = absurd (cc e)
+core_opens c service.DeleteMbx value e = grind (arith, e)
 core_opens c other value e = absurd (cc e)
+
+-- a service that looks at the kernel and at memory
+board_opens : (b : Board) (x : Service) (value : ℕ)
+    → (serves_board b x).left.after ≡ ModuleReturned value
+    → may_switch (serves_board b x).left.state.core.kernel ≡ true
+unfolding serves_board
+board_opens b service.CreateSema value e = grind (arith, e)
+board_opens b service.ReferSemaStatus value e = grind (arith, e)
+board_opens b service.CreateEventFlag value e = grind (arith, e)
+board_opens b service.SetEventFlag value e = grind (arith, e)
+board_opens b service.WaitEventFlag value e = grind (arith, e)
+board_opens b service.PollEventFlag value e = grind (arith, e)
+board_opens b service.ReferEventFlagStatus value e = grind (arith, e)
+board_opens b service.CreateMbx value e = grind (arith, e)
+board_opens b service.SendMbx value e = grind (arith, e)
+board_opens b service.ReceiveMbx value e = grind (arith, e)
+board_opens b service.PollMbx value e = grind (arith, e)
+board_opens b service.ReferMbxStatus value e = grind (arith, e)
+board_opens b other value e = core_opens b.core other value e
 
 -- a service that the libraries do not have
 serves_opens : (s : System) (x : Service) (value : ℕ)
@@ -41,7 +68,7 @@ serves_opens s service.CreateThread value e = grind (arith, e)
 serves_opens s service.ReferThreadStatus value e = grind (arith, e)
 serves_opens s service.DeleteThread value e = grind (arith, e)
 serves_opens s service.ExitDeleteThread value e = grind (arith, e)
-serves_opens s other value e = core_opens s.core other value e
+serves_opens s other value e = board_opens (board_of s) other value e
 
 -- by the answer of the libraries
 answers_open : (library number : ℕ) (s : System) (answer : Answer) (value : ℕ)

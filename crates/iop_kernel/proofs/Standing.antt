@@ -1,32 +1,64 @@
--- Kernels that stand for others.
+-- Kernels that hold what others have, and what calls take.
 use Rattle.std.proofs.Common.{◌≡◌, Bool, Option, Some, None, List, refl, subst}
 use Rattle.iop_base.proofs.Giving.{gives_none, gives_then}
 use Rattle.iop_base.specs.Output.{Output, Gives}
 use Rattle.iop_base.specs.Piece.{Piece}
+use Rattle.iop_event.specs.EventFlags.{EventFlags}
 use Rattle.iop_exec.specs.declared.cpu.Cpu.{Cpu}
 use Rattle.iop_ready.specs.declared.entry.Entry.{Entry}
 use Rattle.iop_registry.specs.declared.registry.Entry.{Entry as Library}
+use Rattle.iop_sema.specs.Semaphores.{Semaphores}
 use Rattle.iop_stubs.specs.Stubs.{Memory}
 use Rattle.iop_sysmem.specs.BlockMap.{BlockMap}
 use Rattle.iop_thread.specs.Standing as threads
 use Rattle.iop_thread.specs.ThreadTable.{ThreadTable}
 use Rattle.iop_thread.specs.declared.threads.Threads.{Threads}
+use Rattle.iop_kernel.specs.Boards.{Board, on_board, quiet}
 use Rattle.iop_kernel.specs.Dispatching.{Dispatched}
-use Rattle.iop_kernel.specs.System.{Kernel, Core, System, Left, Served, silent, after_pieces, on_core}
-use Rattle.iop_kernel.specs.Standing.{Stands, IsSound, TakesCore, Serves, Dispatches}
+use Rattle.iop_kernel.specs.System.{Kernel, System, Left, Done, Core, Served, after_pieces}
+use Rattle.iop_kernel.specs.Standing.{Holds, IsSound, TakesCore, TakesBoard, Serves, Dispatches}
 use Rattle.iop_kernel.specs.declared.after.After.{After}
 use Rattle.iop_kernel.specs.declared.kernel.Kernel.{Kernel as Program}
 
-module _ {R : Type 0} (stands_for : R → List Entry → Type 0) {p : Program R} {k : Kernel}
-    {t : Threads R} {s : ThreadTable} where
-  -- other threads stand in the kernel
-  pub stands_with : Stands stands_for p k → threads.Stands stands_for t s
-      → Stands stands_for (record p { threads = t }) (record k { threads = s })
-  stands_with h now = record {
+module _ {R : Type 0} (stands_for : R → List Entry → Type 0) {p : Program R} {k : Kernel} where
+  -- the kernel has other threads
+  pub holds_with : {t : Threads R} {s : ThreadTable} → Holds stands_for p k
+      → threads.Stands stands_for t s
+      → Holds stands_for (record p { threads = t }) (record k { threads = s })
+  holds_with h now = record {
     clock = h.clock;
     interrupts = h.interrupts;
     dispatching = h.dispatching;
     threads = now;
+    semaphores = h.semaphores;
+    event_flags = h.event_flags;
+    mailboxes = h.mailboxes;
+  }
+
+  -- it has other semaphores
+  pub holds_semaphores : {t s : Semaphores} → Holds stands_for p k → s ≡ t
+      → Holds stands_for (record p { semaphores = t }) (record k { semaphores = s })
+  holds_semaphores h now = record {
+    clock = h.clock;
+    interrupts = h.interrupts;
+    dispatching = h.dispatching;
+    threads = h.threads;
+    semaphores = now;
+    event_flags = h.event_flags;
+    mailboxes = h.mailboxes;
+  }
+
+  -- it has other event flags
+  pub holds_flags : {t s : EventFlags} → Holds stands_for p k → s ≡ t
+      → Holds stands_for (record p { event_flags = t }) (record k { event_flags = s })
+  holds_flags h now = record {
+    clock = h.clock;
+    interrupts = h.interrupts;
+    dispatching = h.dispatching;
+    threads = h.threads;
+    semaphores = h.semaphores;
+    event_flags = now;
+    mailboxes = h.mailboxes;
   }
 
 -- after a dispatch, made or not, it stands for some kernel
@@ -36,13 +68,20 @@ pub sound_after_dispatch : {R : Type 0} (stands_for : R → List Entry → Type 
 sound_after_dispatch stands_for c None made cpu a b left = (c.kernel, left.1)
 sound_after_dispatch stands_for c (Some d) made cpu a b left = (d.core.kernel, left.1)
 
--- a call that looks at threads alone gives nothing
-pub serves_threads : {R : Type 0} {stands_for : R → List Entry → Type 0} (s : System)
+-- a call that looks at the kernel alone leaves memory and gives nothing
+pub takes_quiet : {R : Type 0} {stands_for : R → List Entry → Type 0} (memory : Memory)
     {left : Left Core} {after : After} {p : Program R} {cpu : Cpu} (a : Output)
     → TakesCore stands_for left after p cpu
-    → Serves stands_for (silent (on_core s left)) after p cpu s.memory s.blocks s.libraries a a
-serves_threads s a h =
-    record { core = h; ram = refl; map = refl; registry = refl; gives = gives_none a }
+    → TakesBoard stands_for (quiet memory left) after p cpu memory a a
+takes_quiet memory a h = record { core = h; ram = refl; gives = gives_none a }
+
+-- a call that looks at the kernel and memory alone leaves all the rest
+pub serves_board : {R : Type 0} {stands_for : R → List Entry → Type 0} (s : System)
+    {done : Done Board} {after : After} {p : Program R} {cpu : Cpu} {memory : Memory}
+    {a b : Output} → TakesBoard stands_for done after p cpu memory a b
+    → Serves stands_for (on_board s done) after p cpu memory s.blocks s.libraries a b
+serves_board s h =
+    record { core = h.core; ram = h.ram; map = refl; registry = refl; gives = h.gives }
 
 module _ {R : Type 0} {stands_for : R → List Entry → Type 0} {d : Served} {after : After}
     {p : Program R} {cpu : Cpu} {memory : Memory} {blocks : BlockMap} {libraries : List Library}

@@ -3,9 +3,10 @@ use Rattle.std.proofs.Common.{◌≡◌, ℕ, Some, List, refl, ap, ◌∙◌}
 use Rattle.iop_base.specs.declared.code.TheConstants.Code.{OK}
 use Rattle.iop_thread.specs.ThreadTable.{thread_of}
 use Rattle.iop_thread.specs.declared.thread.Thread.{Thread}
+use Rattle.iop_kernel.specs.Boards.{bytes_of_words}
 use Rattle.iop_kernel.specs.System.{System, Served, caller, answers, on_core, words_place, stores, storing_lines}
 use Rattle.iop_kernel.specs.Naming.{named}
-use Rattle.iop_kernel.specs.Status.{status_words, bytes_of_words, refers_it, refers_to, refers_at, refer_thread_status}
+use Rattle.iop_kernel.specs.Status.{status_words, refers_it, refers_to, refers_at, refer_thread_status}
 use Rattle.iop_kernel.specs.declared.status.TheConstants.{STATUS_WORDS}
 
 -- bytes are written at a place, and the call is answered
@@ -16,10 +17,10 @@ writes_bytes s place bytes = record {
 }
 
 module _ (s : System) (place : ℕ) (t : Thread) where
-  -- the status is written as these bytes
-  pub refers_by_bytes : (words bytes : List ℕ) → words ≡ status_words t
-      → bytes ≡ bytes_of_words words → refers_it s place (Some t) ≡ writes_bytes s place bytes
-  refers_by_bytes words bytes told is = rw (is, told) refl
+  -- the status is written as these words
+  pub refers_by_words : (words : List ℕ) → words ≡ status_words t
+      → refers_it s place (Some t) ≡ writes_bytes s place (bytes_of_words words)
+  refers_by_words words told = rw told refl
 
   -- it is that of the thread which the id names
   pub refers_named : (id at one : ℕ) → Some place ≡ words_place s.memory at STATUS_WORDS

@@ -1,4 +1,4 @@
--- The status of a thread, read where it was written.
+-- The statuses of threads and of what they wait for, read where they were written.
 use Rattle.std.proofs.Common.{◌≡◌, ℕ, zero, suc, ◌+◌, ◌*◌, ◌^◌, ◌<◌, ◌≤◌, Option, Some, None, option_map, unwrap_or, List, [], ◌∷◌, ◌++◌, length, take, drop, get_or, All, refl, ap, sym, ◌∙◌, subst, arith}
 use Rattle.std.proofs.Math.Seq.{drop-append-add, take-append_seam}
 use Rattle.iop_base.specs.Numbers.{number_at, bytes_of, with_bytes}
@@ -7,9 +7,16 @@ use Rattle.iop_base.proofs.Memory.{number_at_inside}
 use Rattle.iop_thread.specs.States.{wait_in, kind_number, object_of}
 use Rattle.iop_thread.specs.declared.thread.Thread.{Thread}
 use Rattle.iop_thread.specs.declared.wait.Wait.{Wait}
-use Rattle.iop_kernel.specs.Laws.{HasStatus, StatusIsRead}
-use Rattle.iop_kernel.specs.Status.{bytes_of_words, wait_words, status_words, status_bytes}
-use Rattle.iop_kernel.specs.System.{Served}
+use Rattle.iop_kernel.specs.StatusLaws.{HasStatus, StatusIsRead, HasSemaphoreStatus, SemaphoreStatusIsRead, HasFlagStatus, FlagStatusIsRead, HasMailboxStatus, MailboxStatusIsRead}
+use Rattle.iop_kernel.specs.Boards.{Board, bytes_of_words}
+use Rattle.iop_kernel.specs.EventFlags.{LiveFlag, flag_words, refers_flag_to, refers_flag_at}
+use Rattle.iop_kernel.specs.Mailboxes.{LiveMailbox, mailbox_words, refers_mbx_to, refers_mbx_at}
+use Rattle.iop_kernel.specs.Semaphores.{LiveSemaphore, semaphore_words, refers_sema_to, refers_sema_at}
+use Rattle.iop_kernel.specs.Status.{wait_words, status_words}
+use Rattle.iop_kernel.specs.System.{Done, Served}
+use Rattle.iop_kernel.specs.declared.event_flags.TheConstants.{FLAG_STATUS_WORDS}
+use Rattle.iop_kernel.specs.declared.mailboxes.TheConstants.{MAILBOX_STATUS_WORDS}
+use Rattle.iop_kernel.specs.declared.semaphores.TheConstants.{SEMAPHORE_STATUS_WORDS}
 use Rattle.iop_kernel.specs.declared.status.TheConstants.{STATUS_WORDS}
 use Rattle.iop_kernel.proofs.KeepingMemory.{words_inside, length-status_bytes}
 use Rattle.iop_kernel.proofs.StatusLemmas.{refers_named}
@@ -34,7 +41,8 @@ word_read : (memory : List ℕ) (p : ℕ) (words : List ℕ) (k : ℕ)
     → number_at (with_bytes memory p (bytes_of_words words)) (p + 4 * k) 4 ≡ get_or words k 0
 word_read memory p words k inside small below =
     let bytes = bytes_of_words words in
-    number_at_inside memory p bytes inside (4 * k) 4 (omega (arith, below, length-bytes_of_words words))
+    let within : 4 * k + 4 ≤ length bytes = omega (arith, below, length-bytes_of_words words) in
+    number_at_inside memory p bytes inside (4 * k) 4 within
     ∙ number_at-word bytes (4 * k) (get_or words k 0) (small k 0 below) (word_bytes words k below)
 
 -- the first word of a wait is its kind
@@ -54,40 +62,53 @@ behind_wait : (o : Option Wait) (word : ℕ) → get_or (wait_words o ++ word �
 behind_wait None word = refl
 behind_wait (Some wait) word = refl
 
-module _ (memory : List ℕ) (place : ℕ) (t : Thread) (fits : place + 48 ≤ length memory)
-    (small : All (λ word. word < 2 ^ 32) (status_words t)) where
-  abbrev written : List ℕ
-  written = with_bytes memory place (status_bytes t)
+-- words that were put into memory
+abbrev written : (memory : List ℕ) (place : ℕ) (words : List ℕ) → List ℕ
+written memory place words = with_bytes memory place (bytes_of_words words)
 
-  -- each of the twelve words
-  status_word : (k : ℕ) → k < 12
-      → number_at written (place + 4 * k) 4 ≡ get_or (status_words t) k 0
-  status_word k below =
-      let bytes = length-status_bytes t in
-      let words = length-bytes_of_words (status_words t) in
-      word_read memory place (status_words t) k (omega (arith, fits, bytes)) small
-      (omega (arith, below, bytes, words))
+-- each is read at its place
+module _ (memory : List ℕ) (place : ℕ) (words : List ℕ)
+    (fits : place + 4 * length words ≤ length memory)
+    (small : All (λ word. word < 2 ^ 32) words) where
+  word_at : (k : ℕ) → k < length words
+      → number_at (written memory place words) (place + 4 * k) 4 ≡ get_or words k 0
+  word_at k below =
+      word_read memory place words k (omega (arith, fits, length-bytes_of_words words)) small below
 
-  -- all of them
-  status_stands : HasStatus written place t
-  status_stands =
+  -- the first one, at the place itself
+  first_at : 0 < length words → number_at (written memory place words) place 4 ≡ get_or words 0 0
+  first_at some =
       let first : place ≡ place + 4 * 0 = omega arith in
-      let wait = wait_in t.state in
-      let rest = t.wakeups ∷ [] in
-      record {
-        attr = ap (λ p. number_at written p 4) first ∙ status_word 0 (omega arith);
-        option = status_word 1 (omega arith);
-        status = status_word 2 (omega arith);
-        entry = status_word 3 (omega arith);
-        stack = status_word 4 (omega arith);
-        stack_size = status_word 5 (omega arith);
-        gp = status_word 6 (omega arith);
-        first_priority = status_word 7 (omega arith);
-        priority = status_word 8 (omega arith);
-        wait_kind = status_word 9 (omega arith) ∙ wait_kind_is wait rest;
-        wait_id = status_word 10 (omega arith) ∙ wait_id_is wait rest;
-        wakeups = status_word 11 (omega arith) ∙ behind_wait wait t.wakeups;
-      }
+      ap (λ p. number_at (written memory place words) p 4) first ∙ word_at 0 some
+
+-- those of a thread's status
+status_stands : (memory : List ℕ) (place : ℕ) (t : Thread) → place + 48 ≤ length memory
+    → All (λ word. word < 2 ^ 32) (status_words t)
+    → HasStatus (written memory place (status_words t)) place t
+status_stands memory place t fits small =
+    let words = status_words t in
+    let twelve : length words ≡ 12 =
+    omega (arith, length-status_bytes t, length-bytes_of_words words) in
+    let room : place + 4 * length words ≤ length memory = omega (arith, fits, twelve) in
+    let wait = wait_in t.state in
+    let rest = t.wakeups ∷ [] in
+    let at : (k : ℕ) → k < 12 → number_at (written memory place words) (place + 4 * k) 4
+    ≡ get_or words k 0 =
+    λ k below. word_at memory place words room small k (omega (arith, below, twelve)) in
+    record {
+      attr = first_at memory place words room small (omega (arith, twelve));
+      option = at 1 (omega arith);
+      status = at 2 (omega arith);
+      entry = at 3 (omega arith);
+      stack = at 4 (omega arith);
+      stack_size = at 5 (omega arith);
+      gp = at 6 (omega arith);
+      first_priority = at 7 (omega arith);
+      priority = at 8 (omega arith);
+      wait_kind = at 9 (omega arith) ∙ wait_kind_is wait rest;
+      wait_id = at 10 (omega arith) ∙ wait_id_is wait rest;
+      wakeups = at 11 (omega arith) ∙ behind_wait wait t.wakeups;
+    }
 
 -- the status that is written of the thread that is named
 pub status_is_read : StatusIsRead
@@ -95,3 +116,73 @@ status_is_read s id at place one t stands names lives small =
     subst (λ (d : Served). HasStatus d.left.state.memory.ram place t)
     (refers_named s place t id at one (sym stands) (sym names) (sym lives))
     (status_stands s.memory.ram place t (words_inside s.memory at STATUS_WORDS place stands) small)
+
+-- those of a semaphore's status
+semaphore_stands : (memory : List ℕ) (place : ℕ) (o : LiveSemaphore)
+    → place + 24 ≤ length memory → All (λ word. word < 2 ^ 32) (semaphore_words o)
+    → HasSemaphoreStatus (written memory place (semaphore_words o)) place o
+semaphore_stands memory place o fits small =
+    let words = semaphore_words o in
+    let at = word_at memory place words fits small in
+    record {
+      attr = first_at memory place words fits small (omega arith);
+      option = at 1 (omega arith);
+      initial = at 2 (omega arith);
+      max = at 3 (omega arith);
+      current = at 4 (omega arith);
+      waiting = at 5 (omega arith);
+    }
+
+-- the status that is written of the semaphore of the id
+pub semaphore_status_is_read : SemaphoreStatusIsRead
+semaphore_status_is_read b id at place o stands lives small =
+    subst (λ (d : Done Board). HasSemaphoreStatus d.left.state.memory.ram place o)
+    (ap (refers_sema_to b place) (sym lives) ∙ ap (refers_sema_at b id) (sym stands))
+    (semaphore_stands b.memory.ram place o
+    (words_inside b.memory at SEMAPHORE_STATUS_WORDS place stands) small)
+
+-- those of an event flag's status
+flag_stands : (memory : List ℕ) (place : ℕ) (o : LiveFlag)
+    → place + 20 ≤ length memory → All (λ word. word < 2 ^ 32) (flag_words o)
+    → HasFlagStatus (written memory place (flag_words o)) place o
+flag_stands memory place o fits small =
+    let words = flag_words o in
+    let at = word_at memory place words fits small in
+    record {
+      attr = first_at memory place words fits small (omega arith);
+      option = at 1 (omega arith);
+      first_bits = at 2 (omega arith);
+      current_bits = at 3 (omega arith);
+      waiting = at 4 (omega arith);
+    }
+
+-- the status that is written of the event flag of the id
+pub flag_status_is_read : FlagStatusIsRead
+flag_status_is_read b id at place o stands lives small =
+    subst (λ (d : Done Board). HasFlagStatus d.left.state.memory.ram place o)
+    (ap (refers_flag_to b place) (sym lives) ∙ ap (refers_flag_at b id) (sym stands))
+    (flag_stands b.memory.ram place o
+    (words_inside b.memory at FLAG_STATUS_WORDS place stands) small)
+
+-- those of a mailbox's status
+mailbox_stands : (memory : List ℕ) (place : ℕ) (o : LiveMailbox)
+    → place + 20 ≤ length memory → All (λ word. word < 2 ^ 32) (mailbox_words o)
+    → HasMailboxStatus (written memory place (mailbox_words o)) place o
+mailbox_stands memory place o fits small =
+    let words = mailbox_words o in
+    let at = word_at memory place words fits small in
+    record {
+      attr = first_at memory place words fits small (omega arith);
+      option = at 1 (omega arith);
+      waiting = at 2 (omega arith);
+      messages = at 3 (omega arith);
+      next = at 4 (omega arith);
+    }
+
+-- the status that is written of the mailbox of the id
+pub mailbox_status_is_read : MailboxStatusIsRead
+mailbox_status_is_read b id at place o stands lives small =
+    subst (λ (d : Done Board). HasMailboxStatus d.left.state.memory.ram place o)
+    (ap (refers_mbx_to b place) (sym lives) ∙ ap (refers_mbx_at b id) (sym stands))
+    (mailbox_stands b.memory.ram place o
+    (words_inside b.memory at MAILBOX_STATUS_WORDS place stands) small)

@@ -1,16 +1,17 @@
 -- Each dispatch takes the first ready thread of the best priority.
-use Rattle.std.proofs.Common.{◌≡◌, Bool, true, false, if◌then◌else◌, option_map, Option, Some, None, refl, subst, ap}
+use Rattle.std.proofs.Common.{◌≡◌, Bool, true, false, if◌then◌else◌, option_map, Option, Some, None, refl, sym, subst, ap}
 use Rattle.iop_base.specs.Piece.{Traced}
 use Rattle.iop_base.specs.Text.{line_bytes}
 use Rattle.iop_base.specs.declared.line.Line.TheVariants.{Run}
 use Rattle.iop_thread.specs.Laws.{IsSettled}
 use Rattle.iop_thread.specs.Operations as threads
-use Rattle.iop_thread.proofs.Placed.{keeps_places}
-use Rattle.iop_thread.proofs.Straight.{keeps_straight}
 use Rattle.iop_thread.proofs.Strict.{dispatched_is, settled_is}
 use Rattle.iop_kernel.specs.Dispatching.{Dispatched, dispatched, dispatches}
 use Rattle.iop_kernel.specs.Laws.{IsCore, IsSwitch, DispatchKeeps, DispatchesAreStrict}
 use Rattle.iop_kernel.specs.System.{Kernel, Core, may_switch}
+use Rattle.iop_kernel.proofs.KeepingCore.{WaitsHold, holds_alone, waits_of, holds_whole}
+use Rattle.iop_kernel.proofs.Steady.{keeps_steady}
+use Rattle.iop_kernel.proofs.WaitsHolding.{waits_dispatched}
 
 -- no thread is dispatched, where none is to be
 none_by : (k : Kernel) (b : Bool) (o : Option threads.Dispatch) → o ≡ None
@@ -24,7 +25,7 @@ module _ (c : Core) (core : IsCore c) (d : threads.Dispatch)
   switches_so : IsSwitch c (dispatched c.kernel d)
   unfolding dispatches
   switches_so =
-      let so = dispatched_is c.kernel.threads c.cpu d core.placed is in
+      let so = dispatched_is c.kernel.threads c.cpu d core.placed.threads is in
       let next = (dispatched c.kernel d).core in
       record {
         thread = so.thread;
@@ -36,37 +37,41 @@ module _ (c : Core) (core : IsCore c) (d : threads.Dispatch)
       }
 
   -- and keeps what holds
-  dispatch_keeps : DispatchKeeps c (dispatched c.kernel d)
-  dispatch_keeps =
-      let keeps = keeps_straight c.kernel.threads core.threads in
-      let straight = keeps.dispatches c.cpu d core.straight is in
+  dispatch_keeps : WaitsHold (dispatched c.kernel d).core.kernel
+      → DispatchKeeps c (dispatched c.kernel d)
+  dispatch_keeps waits =
+      let alone = holds_alone core in
+      let keeps = keeps_steady c.kernel.threads alone.threads in
+      let steady = keeps.dispatches c.cpu d alone.straight is in
       record {
-        core = record {
-          placed = ((keeps_places c.kernel.threads core.placed).dispatches c.cpu d tt is).0;
+        core = holds_whole waits (record {
+          placed = waits.placed.threads;
           awake = λ none. absurd (cc (switches_so.runs, none));
-          straight = straight.1;
-          threads = straight.0;
-        };
+          straight = steady.1;
+          threads = steady.0;
+        });
         clock = refl;
         switch = switches_so;
+        kernel = refl;
       }
 
 -- by whether another thread may run, and what is dispatched
-keeps_by : (c : Core) (d : Dispatched) → IsCore c → (b : Bool) (o : Option threads.Dispatch)
-    → threads.dispatches c.kernel.threads c.cpu ≡ o
+keeps_by : (c : Core) (d : Dispatched) → IsCore c → WaitsHold d.core.kernel → (b : Bool)
+    (o : Option threads.Dispatch) → threads.dispatches c.kernel.threads c.cpu ≡ o
     → (if b then option_map (dispatched c.kernel) o else None) ≡ Some d → DispatchKeeps c d
-keeps_by c d core true (Some did) is e =
+keeps_by c d core waits true (Some did) is e =
     let same : dispatched c.kernel did ≡ d = cc e in
-    subst (DispatchKeeps c) same (dispatch_keeps c core did is)
-keeps_by c d core true None is e = absurd (cc e)
-keeps_by c d core false o is e = absurd (cc e)
+    subst (DispatchKeeps c) same (dispatch_keeps c core did is
+    (subst (λ (x : Dispatched). WaitsHold x.core.kernel) (sym same) waits))
+keeps_by c d core waits true None is e = absurd (cc e)
+keeps_by c d core waits false o is e = absurd (cc e)
 
 -- where none is dispatched, none of the threads is
 settled_by : (c : Core) → IsCore c → (b : Bool) (o : Option threads.Dispatch)
     → threads.dispatches c.kernel.threads c.cpu ≡ o
     → (if b then option_map (dispatched c.kernel) o else None) ≡ None → b ≡ true
     → IsSettled c.kernel.threads
-settled_by c core b None is e may = settled_is c.kernel.threads c.cpu core.placed is
+settled_by c core b None is e may = settled_is c.kernel.threads c.cpu core.placed.threads is
 settled_by c core true (Some did) is e may = absurd (cc e)
 settled_by c core false (Some did) is e may = absurd (cc may)
 
@@ -74,7 +79,8 @@ settled_by c core false (Some did) is e may = absurd (cc may)
 pub dispatches_are_strict : DispatchesAreStrict
 unfolding dispatches
 dispatches_are_strict = record {
-  dispatched = λ c d core e. keeps_by c d core (may_switch c.kernel)
+  dispatched = λ c d core e.
+      keeps_by c d core (waits_dispatched c d (waits_of core) e) (may_switch c.kernel)
       (threads.dispatches c.kernel.threads c.cpu) refl e;
   settled = λ c core e may. settled_by c core (may_switch c.kernel)
       (threads.dispatches c.kernel.threads c.cpu) refl e may;

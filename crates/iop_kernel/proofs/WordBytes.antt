@@ -5,7 +5,7 @@ use Rattle.std.proofs.lemmas.List.{length-append, length-take-le, take_more, dro
 use Rattle.std.proofs.Math.Seq.{take-append_seam, drop-append-add}
 use Rattle.iop_base.specs.Numbers.{bytes_of, with_bytes}
 use Rattle.iop_base.proofs.Lists.{length-bytes_of}
-use Rattle.iop_kernel.specs.Status.{bytes_of_words}
+use Rattle.iop_kernel.specs.Boards.{bytes_of_words}
 
 -- the bytes of words behind others
 pub bytes_of_words-append : (words more : List ℕ)

@@ -11,3 +11,13 @@ pub mod Serving
 pub mod Dispatching
 pub mod Standing
 pub mod Laws
+pub mod StatusLaws
+pub mod WakingLaws
+pub mod Boards
+pub mod EventFlags
+pub mod Mailboxes
+pub mod Placing
+pub mod Semaphores
+pub mod Waits
+pub mod Overdue
+pub mod Histories

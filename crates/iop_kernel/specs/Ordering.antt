@@ -10,6 +10,7 @@ use Rattle.iop_thread.specs.ThreadTable.{ThreadTable, priority_of, has_priority,
 use Rattle.iop_thread.specs.declared.wait.Wait.{Wait}
 use Rattle.iop_kernel.specs.Naming.{named}
 use Rattle.iop_kernel.specs.System.{Core, Left, may_switch, caller, running_registers, with_threads, answered, answers}
+use Rattle.iop_kernel.specs.Waits.{core_requeues}
 use Rattle.iop_kernel.specs.declared.after.After.{After}
 use Rattle.iop_kernel.specs.declared.after.After.TheVariants.{Resume, Switch}
 
@@ -22,15 +23,17 @@ module _ (c : Core) where
       else answers c INTERRUPTS_DISABLED
 
   -- by what the change of the priority came to
-  abbrev pub answers_change : Result (Option Wait) Code × ThreadTable → Left Core
-  answers_change (Err code, threads) = answers c code
-  answers_change (Ok wait, threads) = answers (with_threads c threads) OK
+  abbrev pub answers_change : (id priority : ℕ) → Result (Option Wait) Code × ThreadTable
+      → Left Core
+  answers_change id priority (Err code, threads) = answers c code
+  answers_change id priority (Ok wait, threads) =
+      answers (core_requeues (with_threads c threads) id priority wait) OK
 
   -- by the thread that is named
   abbrev pub changes_named : (priority : ℕ) → Option ℕ → Left Core
   changes_named priority None = answers c ILLEGAL_THREAD
   changes_named priority (Some id) =
-      answers_change (threads.changes c.kernel.threads id priority)
+      answers_change id priority (threads.changes c.kernel.threads id priority)
 
   -- by the priority that the word is
   abbrev pub changes_if_priority : (id : ℕ) → Option ℕ → Left Core

@@ -12,6 +12,7 @@ use Rattle.iop_thread.specs.declared.wait.Wait.{Wait}
 use Rattle.iop_kernel.specs.Answering.{leaves_code}
 use Rattle.iop_kernel.specs.Naming.{is_nobody_else}
 use Rattle.iop_kernel.specs.System.{Core, Left, caller, with_threads, opened, answers, switches, faults}
+use Rattle.iop_kernel.specs.Waits.{core_leaves}
 use Rattle.iop_kernel.specs.declared.after.After.TheVariants.{ModuleReturned}
 
 -- StartThread
@@ -47,13 +48,13 @@ abbrev pub return_module : Core → Left Core
 return_module c = returns_by c (caller c)
 
 module _ (c : Core) where
-  -- by what the end of the thread came to; if it was the one that ran, interrupts are on and
-  -- dispatch is enabled
+  -- by what the end of the thread came to: it waits for no object any more; if it was the one that
+  -- ran, interrupts are on and dispatch is enabled
   abbrev pub terminates_by : (id : ℕ) → Result (Option Wait) Code × ThreadTable → Left Core
   terminates_by id (Err code, threads) = answers c code
   terminates_by id (Ok wait, threads) =
       let left = if is_it c.kernel.threads.running id then opened c else c in
-      answers (with_threads left threads) OK
+      answers (core_leaves (with_threads left threads) id wait) OK
 
   -- TerminateThread
   abbrev pub terminate_thread : (id : ℕ) → Left Core

@@ -5,6 +5,7 @@ use Rattle.iop_base.specs.Text.{line_bytes}
 use Rattle.iop_base.specs.declared.libraries.TheConstants.{KERNEL_LIBRARIES}
 use Rattle.iop_base.specs.declared.guest_fault.GuestFault.TheVariants as faults_of
 use Rattle.iop_base.specs.declared.line.Line.TheVariants as lines
+use Rattle.iop_event.specs.declared.wanted.Wanted.{Wanted}
 use Rattle.iop_libs.specs.Calls.{Sight, calls_row, row_pieces}
 use Rattle.iop_libs.specs.declared.answer.Answer.{Answer}
 use Rattle.iop_libs.specs.declared.answer.Answer.TheVariants.{Value, Unlisted, Fault, Other}
@@ -14,12 +15,16 @@ use Rattle.iop_services.specs.Table.{row_of}
 use Rattle.iop_kernel.specs.declared.call.Call.{Call}
 use Rattle.iop_kernel.specs.declared.call.Call.TheVariants.{Library, ThreadReturn, ModuleReturn}
 use Rattle.iop_kernel.specs.declared.call.TheConstants.{THREAD_RETURN_CALL, MODULE_RETURN_CALL, SERVICES}
-use Rattle.iop_kernel.specs.System.{Core, Left, System, Served, argument, resumes, faults, silent, after_pieces, on_core}
+use Rattle.iop_kernel.specs.System.{Core, Left, System, Done, Served, argument, resumes, faults, silent, after_pieces, on_core}
+use Rattle.iop_kernel.specs.Boards.{Board, board_of, on_board, quiet}
 use Rattle.iop_kernel.specs.Creating.{create_thread}
 use Rattle.iop_kernel.specs.Deleting.{delete_thread, exit_delete_thread, owner_of, on_owner}
+use Rattle.iop_kernel.specs.EventFlags.{create_event_flag, delete_event_flag, set_event_flag, clear_event_flag, wait_event_flag, poll_event_flag, refer_event_flag_status}
+use Rattle.iop_kernel.specs.Mailboxes.{create_mbx, delete_mbx, send_mbx, receive_mbx, poll_mbx, refer_mbx_status}
 use Rattle.iop_kernel.specs.Naming.{get_thread_id}
 use Rattle.iop_kernel.specs.Ordering.{set_dispatch, change_priority, rotate_ready_queue}
 use Rattle.iop_kernel.specs.Running.{start_thread, exit_thread, return_module, terminate_thread}
+use Rattle.iop_kernel.specs.Semaphores.{create_sema, delete_sema, signal_sema, wait_sema, poll_sema, refer_sema_status}
 use Rattle.iop_kernel.specs.Status.{refer_thread_status}
 use Rattle.iop_kernel.specs.Waiting.{release_wait, sleep_thread, wakeup_thread, cancel_wakeups, suspend_thread, resume_thread}
 
@@ -32,7 +37,7 @@ call_of code =
     then Some (Library (code / 256) (code % 256))
     else None
 
--- a service that looks at threads alone; one that is not built faults
+-- a service that looks at the kernel alone; one that is not built faults
 unfoldable pub serves_core : Core → Service → Left Core
 serves_core c service.StartThread = start_thread c (argument c 0) (argument c 1)
 serves_core c service.ExitThread = exit_thread c
@@ -48,7 +53,40 @@ serves_core c service.WakeupThread = wakeup_thread c (argument c 0)
 serves_core c service.CancelWakeupThread = cancel_wakeups c (argument c 0)
 serves_core c service.SuspendThread = suspend_thread c (argument c 0)
 serves_core c service.ResumeThread = resume_thread c (argument c 0)
+serves_core c service.DeleteSema = delete_sema c (argument c 0)
+serves_core c service.SignalSema = signal_sema c (argument c 0)
+serves_core c service.WaitSema = wait_sema c (argument c 0)
+serves_core c service.PollSema = poll_sema c (argument c 0)
+serves_core c service.DeleteEventFlag = delete_event_flag c (argument c 0)
+serves_core c service.ClearEventFlag = clear_event_flag c (argument c 0) (argument c 1)
+serves_core c service.DeleteMbx = delete_mbx c (argument c 0)
 serves_core c other = faults c faults_of.Service
+
+-- what a thread asks of an event flag by the arguments of WaitEventFlag and PollEventFlag
+abbrev pub wanted : Core → Wanted
+wanted c = record { bits = argument c 1; mode = argument c 2; place = argument c 3 }
+
+-- a service that looks at the kernel and at memory
+unfoldable pub serves_board : Board → Service → Done Board
+serves_board b service.CreateSema =
+    quiet b.memory (create_sema b.core b.memory (argument b.core 0))
+serves_board b service.ReferSemaStatus =
+    refer_sema_status b (argument b.core 0) (argument b.core 1)
+serves_board b service.CreateEventFlag =
+    quiet b.memory (create_event_flag b.core b.memory (argument b.core 0))
+serves_board b service.SetEventFlag = set_event_flag b (argument b.core 0) (argument b.core 1)
+serves_board b service.WaitEventFlag = wait_event_flag b (argument b.core 0) (wanted b.core)
+serves_board b service.PollEventFlag = poll_event_flag b (argument b.core 0) (wanted b.core)
+serves_board b service.ReferEventFlagStatus =
+    refer_event_flag_status b (argument b.core 0) (argument b.core 1)
+serves_board b service.CreateMbx =
+    quiet b.memory (create_mbx b.core b.memory (argument b.core 0))
+serves_board b service.SendMbx = send_mbx b (argument b.core 0) (argument b.core 1)
+serves_board b service.ReceiveMbx = receive_mbx b (argument b.core 0) (argument b.core 1)
+serves_board b service.PollMbx = poll_mbx b (argument b.core 0) (argument b.core 1)
+serves_board b service.ReferMbxStatus =
+    refer_mbx_status b (argument b.core 0) (argument b.core 1)
+serves_board b other = quiet b.memory (serves_core b.core other)
 
 -- a service of a library that iop_libs does not have
 unfoldable pub serves : System → Service → Served
@@ -58,7 +96,7 @@ serves s service.ReferThreadStatus =
 serves s service.DeleteThread =
     silent (on_owner s (delete_thread (owner_of s) (argument s.core 0)))
 serves s service.ExitDeleteThread = silent (on_owner s (exit_delete_thread (owner_of s)))
-serves s other = silent (on_core s (serves_core s.core other))
+serves s other = on_board s (serves_board (board_of s) other)
 
 -- by the answer of the libraries; a number that is not listed answers -1 and is told
 module _ (library number : ℕ) where

@@ -1,7 +1,9 @@
 -- How the program's kernel stands for the kernel.
-use Rattle.std.specs.Prelude.{◌≡◌, Bool, true, false, Option, Some, None, List, [], ◌∷◌, length}
+use Rattle.std.specs.Prelude.{◌≡◌, ◌<◌, Bool, true, false, Option, Some, None, is_some, List, [], ◌∷◌, length}
 use Rattle.iop_base.specs.Output.{Output, Gives}
 use Rattle.iop_exec.specs.declared.cpu.Cpu.{Cpu}
+use Rattle.iop_objects.specs.Objects.{waiting}
+use Rattle.iop_objects.specs.declared.objects.TheConstants.{MOST_WAITERS}
 use Rattle.iop_ready.specs.declared.entry.Entry.{Entry}
 use Rattle.iop_registry.specs.declared.registry.Entry.{Entry as Library}
 use Rattle.iop_stubs.specs.Stubs.{Memory}
@@ -9,25 +11,44 @@ use Rattle.iop_sysmem.specs.BlockMap.{BlockMap}
 use Rattle.iop_thread.specs.Standing as threads
 use Rattle.iop_kernel.specs.Dispatching.{Dispatched}
 use Rattle.iop_kernel.specs.Deleting.{Owner}
-use Rattle.iop_kernel.specs.System.{Kernel, Core, System, Left, Served}
+use Rattle.iop_kernel.specs.Boards.{Board}
+use Rattle.iop_kernel.specs.Placing.{IsPlaced}
+use Rattle.iop_kernel.specs.System.{Kernel, Core, System, Left, Done, Served}
 use Rattle.iop_kernel.specs.declared.after.After.{After}
 use Rattle.iop_kernel.specs.declared.kernel.Kernel.{Kernel as Program}
 
 module _ {R : Type 0} (stands_for : R → List Entry → Type 0) where
-  pub record Stands (k : Program R) (s : Kernel) : Type 0 where
+  -- it holds what the kernel has
+  pub record Holds (k : Program R) (s : Kernel) : Type 0 where
     pub clock : s.clock ≡ k.clock
     pub interrupts : s.interrupts ≡ k.interrupts
     pub dispatching : s.dispatching ≡ k.dispatching
     pub threads : threads.Stands stands_for k.threads s.threads
+    pub semaphores : s.semaphores ≡ k.semaphores
+    pub event_flags : s.event_flags ≡ k.event_flags
+    pub mailboxes : s.mailboxes ≡ k.mailboxes
+
+  -- it holds what some kernel has
+  abbrev pub IsHeld : Program R → Type 0
+  IsHeld k = (s : Kernel) × Holds k s
+
+  -- it stands for the kernel, in which threads and waiters are placed
+  pub record Stands (k : Program R) (s : Kernel) : Type 0 where
+    pub holds : Holds k s
+    pub placed : IsPlaced s
 
   -- it stands for some kernel
   abbrev pub IsSound : Program R → Type 0
   IsSound k = (s : Kernel) × Stands k s
 
+  -- it stands for some kernel, in which a thread runs
+  abbrev pub IsActive : Program R → Type 0
+  IsActive k = (s : Kernel) × Stands k s × (is_some s.threads.running ≡ true)
+
   -- the kernel and its processor after a call which answered what becomes of its caller
   pub record TakesCore (left : Left Core) (after : After) (k : Program R) (cpu : Cpu) : Type 0 where
     pub answer : after ≡ left.after
-    pub kernel : Stands k left.state.kernel
+    pub kernel : Holds k left.state.kernel
     pub processor : cpu ≡ left.state.cpu
 
   -- the same, and the blocks
@@ -35,6 +56,14 @@ module _ {R : Type 0} (stands_for : R → List Entry → Type 0) where
       (blocks : BlockMap) : Type 0 where
     pub core : TakesCore (record { state = left.state.core; after = left.after }) after k cpu
     pub map : blocks ≡ left.state.blocks
+
+  -- the same, and memory, after a call which gave the pieces
+  pub record TakesBoard (done : Done Board) (after : After) (k : Program R) (cpu : Cpu)
+      (memory : Memory) (old new : Output) : Type 0 where
+    pub core : TakesCore (record { state = done.left.state.core; after = done.left.after }) after k
+        cpu
+    pub ram : memory ≡ done.left.state.memory
+    pub gives : Gives old new done.pieces
 
   -- the same, and all the rest, after a call which gave the pieces
   pub record Serves (d : Served) (after : After) (k : Program R) (cpu : Cpu) (memory : Memory)
@@ -44,6 +73,13 @@ module _ {R : Type 0} (stands_for : R → List Entry → Type 0) where
     pub map : blocks ≡ d.left.state.blocks
     pub registry : libraries ≡ d.left.state.libraries
     pub gives : Gives old new d.pieces
+
+  -- the same, and threads and waiters are placed
+  pub record ServesPlaced (d : Served) (after : After) (k : Program R) (cpu : Cpu)
+      (memory : Memory) (blocks : BlockMap) (libraries : List Library) (old new : Output)
+      : Type 0 where
+    pub served : Serves d after k cpu memory blocks libraries old new
+    pub placed : IsPlaced d.left.state.core.kernel
 
   -- whether a dispatch was made, what it left, and its line
   abbrev pub Dispatches : Core → Option Dispatched → Bool → Program R → Cpu
@@ -56,6 +92,9 @@ module _ {R : Type 0} (stands_for : R → List Entry → Type 0) where
 abbrev pub core : Kernel → Cpu → Core
 core kernel cpu = record { kernel = kernel; cpu = cpu }
 
+abbrev pub board : Kernel → Cpu → Memory → Board
+board kernel cpu memory = record { core = core kernel cpu; memory = memory }
+
 abbrev pub owner : Kernel → Cpu → BlockMap → Owner
 owner kernel cpu blocks = record { core = core kernel cpu; blocks = blocks }
 
@@ -66,3 +105,9 @@ system kernel cpu memory blocks libraries =
 -- they are the blocks of a memory as large as this
 abbrev pub HasSizeOf : BlockMap → Memory → Type 0
 HasSizeOf blocks memory = blocks.size ≡ length memory.ram
+
+-- there is room for one more thread that waits
+pub record HasRoomToWait {R : Type 0} (k : Program R) : Type 0 where
+  pub semaphores : waiting k.semaphores < MOST_WAITERS
+  pub event_flags : waiting k.event_flags < MOST_WAITERS
+  pub mailboxes : waiting k.mailboxes < MOST_WAITERS

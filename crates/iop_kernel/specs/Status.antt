@@ -2,7 +2,6 @@
 -- ReferThreadStatus writes, and the conditions and the order of the refusals, are this project's
 -- own profile.
 use Rattle.std.specs.Prelude.{ℕ, Option, Some, None, List, [], ◌∷◌, ◌++◌}
-use Rattle.iop_base.specs.Numbers.{bytes_of}
 use Rattle.iop_base.specs.declared.code.TheConstants.Code.{OK, ILLEGAL_THREAD, UNKNOWN_THREAD}
 use Rattle.iop_base.specs.declared.guest_fault.GuestFault.TheVariants.{Address}
 use Rattle.iop_thread.specs.States.{wait_in, state_number, kind_number, object_of}
@@ -10,6 +9,7 @@ use Rattle.iop_thread.specs.ThreadTable.{thread_of}
 use Rattle.iop_thread.specs.declared.thread.Thread.{Thread}
 use Rattle.iop_thread.specs.declared.wait.Wait.{Wait}
 use Rattle.iop_kernel.specs.Answering.{only_answers}
+use Rattle.iop_kernel.specs.Boards.{bytes_of_words}
 use Rattle.iop_kernel.specs.Naming.{named}
 use Rattle.iop_kernel.specs.System.{caller, answers, faults, System, Served, silent, on_core, words_place, stores, storing_lines}
 use Rattle.iop_kernel.specs.declared.status.TheConstants.{STATUS_WORDS}
@@ -25,10 +25,6 @@ status_words t =
     t.param.attr ∷ t.param.option ∷ state_number t.state ∷ t.param.entry
     ∷ t.stack ∷ t.param.stack_size ∷ t.gp ∷ t.param.priority ∷ t.priority
     ∷ (wait_words (wait_in t.state) ++ t.wakeups ∷ [])
-
-abbrev pub bytes_of_words : List ℕ → List ℕ
-bytes_of_words [] = []
-bytes_of_words (word ∷ words) = bytes_of 4 word ++ bytes_of_words words
 
 abbrev pub status_bytes : Thread → List ℕ
 status_bytes t = bytes_of_words (status_words t)

@@ -5,9 +5,13 @@ use Rattle.std.specs.Int.{cast_unsigned, w32}
 use Rattle.iop_base.specs.Piece.{Piece}
 use Rattle.iop_base.specs.declared.code.Code.{Code}
 use Rattle.iop_base.specs.declared.guest_fault.GuestFault.{GuestFault}
+use Rattle.iop_event.specs.EventFlags.{EventFlags}
 use Rattle.iop_exec.specs.declared.cpu.Cpu.{Cpu}
 use Rattle.iop_exec.specs.Row.{reg, with_reg}
+use Rattle.iop_mbx.specs.Mailboxes.{Mailboxes}
+use Rattle.iop_objects.specs.Objects.{no_objects}
 use Rattle.iop_registry.specs.declared.registry.Entry.{Entry}
+use Rattle.iop_sema.specs.Semaphores.{Semaphores}
 use Rattle.iop_stubs.specs.Stubs.{Memory, after_store, range_place, store_lines}
 use Rattle.iop_sysmem.specs.BlockMap.{BlockMap}
 use Rattle.iop_thread.specs.Operations.{opening}
@@ -23,10 +27,22 @@ pub record Kernel : Type 0 where
   -- whether dispatch is enabled
   pub dispatching : Bool
   pub threads : ThreadTable
+  -- what threads can wait for
+  pub semaphores : Semaphores
+  pub event_flags : EventFlags
+  pub mailboxes : Mailboxes
 
--- the kernel at first: the loader's thread alone, dormant
+-- the kernel at first: the loader's thread alone, dormant, and no object
 abbrev pub beginning : Kernel
-beginning = record { clock = 0; interrupts = true; dispatching = true; threads = opening }
+beginning = record {
+  clock = 0;
+  interrupts = true;
+  dispatching = true;
+  threads = opening;
+  semaphores = no_objects;
+  event_flags = no_objects;
+  mailboxes = no_objects;
+}
 
 -- whether another thread may run, so that the one that runs may wait
 abbrev pub may_switch : Kernel → Bool
@@ -39,6 +55,15 @@ pub record Core : Type 0 where
 
 abbrev pub with_threads : Core → ThreadTable → Core
 with_threads c threads = record c { kernel = record c.kernel { threads = threads } }
+
+abbrev pub with_semaphores : Core → Semaphores → Core
+with_semaphores c semaphores = record c { kernel = record c.kernel { semaphores = semaphores } }
+
+abbrev pub with_event_flags : Core → EventFlags → Core
+with_event_flags c flags = record c { kernel = record c.kernel { event_flags = flags } }
+
+abbrev pub with_mailboxes : Core → Mailboxes → Core
+with_mailboxes c mailboxes = record c { kernel = record c.kernel { mailboxes = mailboxes } }
 
 -- interrupts are on and dispatch is enabled
 abbrev pub opened : Core → Core
@@ -86,9 +111,12 @@ abbrev pub answers : Core → Code → Left Core
 answers c code = resumes c (code_word code)
 
 -- the same, with a word or a code answered
+abbrev pub result_word : Result ℕ Code → ℕ
+result_word (Ok word) = word
+result_word (Err code) = code_word code
+
 abbrev pub answers_result : Core → Result ℕ Code → Left Core
-answers_result c (Ok word) = resumes c word
-answers_result c (Err code) = answers c code
+answers_result c result = resumes c (result_word result)
 
 -- the caller does not go on
 abbrev pub switches : Core → Left Core
@@ -99,9 +127,12 @@ abbrev pub faults : {S : Type 0} → S → GuestFault → Left S
 faults s kind = record { state = s; after = Fault kind }
 
 -- what a call leaves and gives, and what becomes of its caller
-pub record Served : Type 0 where
-  pub left : Left System
+pub record Done (S : Type 0) : Type 0 where
+  pub left : Left S
   pub pieces : List Piece
+
+abbrev pub Served : Type 0
+Served = Done System
 
 -- nothing is given
 abbrev pub silent : Left System → Served

@@ -10,14 +10,15 @@ use Rattle.iop_thread.specs.declared.wait.Wait.{Wait}
 use Rattle.iop_thread.specs.declared.wait.Wait.TheVariants.{Sleep}
 use Rattle.iop_kernel.specs.Answering.{leaves_code}
 use Rattle.iop_kernel.specs.Naming.{named, is_nobody_else}
-use Rattle.iop_kernel.specs.System.{Core, Left, may_switch, caller, running_registers, with_threads, code_word, answers, answers_result, switches}
+use Rattle.iop_kernel.specs.System.{Core, Left, may_switch, caller, running_registers, with_threads, answers, answers_result, switches}
+use Rattle.iop_kernel.specs.Waits.{core_leaves, wakes_with}
 
 module _ (c : Core) where
   -- by the wait that the thread has
   abbrev pub releases_from : (id : ℕ) → Option Wait → Left Core
   releases_from id None = answers c NOT_WAITING
   releases_from id (Some wait) =
-      answers (with_threads c (threads.wakes c.kernel.threads id (code_word WAIT_RELEASED))) OK
+      answers (core_leaves (wakes_with c id WAIT_RELEASED) id (Some wait)) OK
 
   -- by the thread of the id
   abbrev pub releases_it : Option Thread → Left Core

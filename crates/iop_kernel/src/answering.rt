@@ -2,7 +2,7 @@
 
 ghost use Rattle.std.specs.Prelude.{◌≡◌};
 ghost use Rattle.iop_exec.specs.Row.{with_reg};
-ghost use Rattle.iop_kernel.specs.System.{code_word};
+ghost use Rattle.iop_kernel.specs.System.{code_word, result_word};
 
 use crate::after::After;
 use iop_base::Code;
@@ -23,4 +23,15 @@ pub(crate) fn answer(cpu: &mut Cpu, code: Code) -> After
     ensures processor { cpu.new ≡ with_reg cpu.old 2 (code_word code) }
 {
     answer_word(cpu, code.0.cast_unsigned())
+}
+
+/// Answers a word or a code.
+pub(crate) fn answer_result(cpu: &mut Cpu, answered: Result<u32, Code>) -> After
+    ensures after { result ≡ After.Resume }
+    ensures processor { cpu.new ≡ with_reg cpu.old 2 (result_word answered) }
+{
+    match answered {
+        Ok(word) => answer_word(cpu, word),
+        Err(code) => answer(cpu, code),
+    }
 }

@@ -15,6 +15,15 @@ pub const MODULE_RETURN_CALL: u32 = 0xF02;
 /// The number of `thbase` among `KERNEL_LIBRARIES`.
 pub(crate) const THBASE: u32 = 3;
 
+/// The number of `thsemap` among `KERNEL_LIBRARIES`.
+pub(crate) const THSEMAP: u32 = 4;
+
+/// The number of `thevent` among `KERNEL_LIBRARIES`.
+pub(crate) const THEVENT: u32 = 5;
+
+/// The number of `thmsgbx` among `KERNEL_LIBRARIES`.
+pub(crate) const THMSGBX: u32 = 6;
+
 /// How many services a kernel library has room for.
 pub const SERVICES: u32 = 64;
 
@@ -30,7 +39,8 @@ pub(crate) enum Call {
 }
 
 impl Call {
-    /// Finds what a code calls, if it has a meaning. Service n of library L has the code L * 256 + n.
+    /// Finds what a code calls, if it has a meaning. Service n of library L has the code
+    /// L * 256 + n.
     pub(crate) fn of_code(code: u32) -> Option<Self>
         ensures { result ≡ call_of code }
     {

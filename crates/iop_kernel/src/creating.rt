@@ -8,11 +8,11 @@ ghost use Rattle.iop_sysmem.specs.Allocating.{allocating};
 ghost use Rattle.iop_sysmem.specs.BlockMap.{BlockMap};
 ghost use Rattle.iop_kernel.specs.System.{Kernel as State};
 ghost use Rattle.iop_kernel.specs.Creating.{param_of, create_thread, creates_on, creates_at, creates_with};
-ghost use Rattle.iop_kernel.specs.Standing.{Stands, IsSound, HasSizeOf, Serves, system};
+ghost use Rattle.iop_kernel.specs.Standing.{Holds, IsHeld, HasSizeOf, Serves, system};
 ghost use Rattle.iop_kernel.specs.declared.creating.TheConstants.{PARAM_WORDS};
 
 use crate::after::After;
-use crate::answering::{answer, answer_word};
+use crate::answering::{answer, answer_result};
 use crate::kernel::Kernel;
 use crate::places::words_place;
 use iop_base::{Code, GuestFault, Lines, block_len};
@@ -88,19 +88,17 @@ impl<R: Ready> Kernel<R> {
         guest: &mut Guest,
         lines: &mut L,
     ) -> After
-        requires sound { IsSound R.stands self.old }
+        requires sound { IsHeld R.stands self.old }
         ensures { (k : State) (blocks : BlockMap) (libraries : List Entry)
-            → Stands R.stands self.old k
+            → Holds R.stands self.old k
             → let s = system k cpu.old guest.old blocks libraries in
             Serves R.stands (creates_on s param stack blocks) result self.new cpu.new guest.new
             blocks libraries (L.output lines.old) (L.output lines.new) }
     {
         // The block lies in RAM.
         let _ = guest.fill(stack, param.stack_size, 0xFF, self.clock, lines);
-        match self.threads.create(param, stack, cpu.regs[28]) {
-            Ok(id) => answer_word(cpu, id),
-            Err(code) => answer(cpu, code),
-        }
+        let made = self.threads.create(param, stack, cpu.regs[28]);
+        answer_result(cpu, made)
     }
 
     /// Takes a block for the stack of a thread, the last one of its size that is free, and makes
@@ -114,10 +112,10 @@ impl<R: Ready> Kernel<R> {
         blocks: &mut Blocks,
         lines: &mut L,
     ) -> After
-        requires sound { IsSound R.stands self.old }
+        requires sound { IsHeld R.stands self.old }
         requires same_size { HasSizeOf blocks.old guest.old }
         requires sized { IsRamSize (length guest.old.ram) }
-        ensures { (k : State) (libraries : List Entry) → Stands R.stands self.old k
+        ensures { (k : State) (libraries : List Entry) → Holds R.stands self.old k
             → let s = system k cpu.old guest.old blocks.old libraries in
             let taken = allocating blocks.old FROM_ABOVE param.stack_size 0 in
             Serves R.stands (creates_at s param taken) result self.new cpu.new guest.new blocks.new
@@ -151,10 +149,10 @@ impl<R: Ready> Kernel<R> {
         blocks: &mut Blocks,
         lines: &mut L,
     ) -> After
-        requires sound { IsSound R.stands self.old }
+        requires sound { IsHeld R.stands self.old }
         requires same_size { HasSizeOf blocks.old guest.old }
         requires sized { IsRamSize (length guest.old.ram) }
-        ensures { (k : State) (libraries : List Entry) → Stands R.stands self.old k
+        ensures { (k : State) (libraries : List Entry) → Holds R.stands self.old k
             → let s = system k cpu.old guest.old blocks.old libraries in
             Serves R.stands (creates_with s (Ok param)) result self.new cpu.new guest.new blocks.new
             libraries (L.output lines.old) (L.output lines.new) }
@@ -176,9 +174,9 @@ impl<R: Ready> Kernel<R> {
         blocks: &mut Blocks,
         lines: &mut L,
     ) -> After
-        requires sound { IsSound R.stands self.old }
+        requires sound { IsHeld R.stands self.old }
         requires same_size { HasSizeOf blocks.old guest.old }
-        ensures { (k : State) (libraries : List Entry) → Stands R.stands self.old k
+        ensures { (k : State) (libraries : List Entry) → Holds R.stands self.old k
             → let s = system k cpu.old guest.old blocks.old libraries in
             Serves R.stands (create_thread s at) result self.new cpu.new guest.new blocks.new
             libraries (L.output lines.old) (L.output lines.new) }

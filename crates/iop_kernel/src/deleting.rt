@@ -6,7 +6,7 @@ ghost use Rattle.iop_thread.specs.Operations.{deletes};
 ghost use Rattle.iop_kernel.specs.System.{Kernel as State};
 ghost use Rattle.iop_kernel.specs.Deleting.{deletes_by, delete_thread, exits_deleted, exit_delete_thread};
 ghost use Rattle.iop_kernel.specs.Running.{ended};
-ghost use Rattle.iop_kernel.specs.Standing.{Stands, IsSound, TakesOwner, core, owner};
+ghost use Rattle.iop_kernel.specs.Standing.{Holds, IsHeld, TakesOwner, core, owner};
 
 use crate::after::After;
 use crate::answering::answer;
@@ -20,8 +20,8 @@ use iop_thread::LOADER;
 impl<R: Ready> Kernel<R> {
     /// Deletes a dormant thread that is not the loader's, and frees its block.
     fn delete_other(&mut self, id: u32, cpu: &mut Cpu, blocks: &mut Blocks) -> After
-        requires sound { IsSound R.stands self.old }
-        ensures { (k : State) → Stands R.stands self.old k
+        requires sound { IsHeld R.stands self.old }
+        ensures { (k : State) → Holds R.stands self.old k
             → let o = owner k cpu.old blocks.old in
             TakesOwner R.stands (deletes_by o (deletes k.threads id)) result self.new cpu.new
             blocks.new }
@@ -37,9 +37,9 @@ impl<R: Ready> Kernel<R> {
 
     /// Deletes the thread that called, which has ended, and frees its block.
     fn delete_ended(&mut self, id: u32, blocks: &mut Blocks) -> After
-        requires sound { IsSound R.stands self.old }
+        requires sound { IsHeld R.stands self.old }
         ensures { (k : State) (cpu : Processor)
-            → Stands R.stands self.old (ended (core k cpu)).kernel
+            → Holds R.stands self.old (ended (core k cpu)).kernel
             → let o = owner k cpu blocks.old in
             TakesOwner R.stands (exits_deleted o (deletes (ended o.core).kernel.threads id)) result
             self.new cpu blocks.new }
@@ -55,8 +55,8 @@ impl<R: Ready> Kernel<R> {
 
     /// Deletes a dormant thread, and frees the block that begins at its stack, if one does.
     pub(crate) fn delete_thread(&mut self, id: u32, cpu: &mut Cpu, blocks: &mut Blocks) -> After
-        requires sound { IsSound R.stands self.old }
-        ensures { (k : State) → Stands R.stands self.old k
+        requires sound { IsHeld R.stands self.old }
+        ensures { (k : State) → Holds R.stands self.old k
             → TakesOwner R.stands (delete_thread (owner k cpu.old blocks.old) id) result
             self.new cpu.new blocks.new }
     {
@@ -69,8 +69,8 @@ impl<R: Ready> Kernel<R> {
     /// Ends the thread that calls, and deletes it as `delete_thread` does. In the loader's thread
     /// it is the return of its module.
     pub(crate) fn exit_delete_thread(&mut self, cpu: &mut Cpu, blocks: &mut Blocks) -> After
-        requires sound { IsSound R.stands self.old }
-        ensures { (k : State) → Stands R.stands self.old k
+        requires sound { IsHeld R.stands self.old }
+        ensures { (k : State) → Holds R.stands self.old k
             → TakesOwner R.stands (exit_delete_thread (owner k cpu.old blocks.old)) result
             self.new cpu.new blocks.new }
     {

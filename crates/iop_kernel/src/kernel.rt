@@ -6,24 +6,31 @@ ghost use Rattle.iop_kernel.specs.Dispatching.{dispatches};
 ghost use Rattle.iop_kernel.specs.Standing.{Stands, IsSound, Dispatches, core};
 
 use iop_base::{Line, Lines};
+use iop_event::EventFlags;
 use iop_exec::Cpu;
+use iop_mbx::Mailboxes;
 use iop_ready::Ready;
+use iop_sema::Semaphores;
 use iop_thread::Threads;
 use std::alloc::{AllocError, Global};
 
-/// The kernel: the moment, whether interrupts are on, whether dispatch is enabled, and the threads.
+/// The kernel: the moment, whether interrupts are on, whether dispatch is enabled, the threads, and
+/// the objects that threads wait for.
 #[derive(Drop)]
 pub struct Kernel<R> {
     pub(crate) clock: u64,
     pub(crate) interrupts: bool,
     pub(crate) dispatching: bool,
     pub(crate) threads: Threads<R>,
+    pub(crate) semaphores: Semaphores,
+    pub(crate) event_flags: EventFlags,
+    pub(crate) mailboxes: Mailboxes,
 }
 
 impl<R: Ready> Kernel<R> {
     /// Makes a kernel at moment 0 with the loader's thread alone, which is dormant, beside a list
-    /// of ready threads in which none is. Interrupts are on, dispatch is enabled. It takes all the
-    /// memory that it will need; `AllocError` where the host has less.
+    /// of ready threads in which none is, and with no object. Interrupts are on, dispatch is
+    /// enabled. It takes all the memory that it will need; `AllocError` where the host has less.
     pub fn new(alloc: Global, ready: R) -> Result<Self, AllocError>
     where
         R: Drop,
@@ -35,6 +42,9 @@ impl<R: Ready> Kernel<R> {
             interrupts: true,
             dispatching: true,
             threads: Threads::new(alloc, ready)?,
+            semaphores: Semaphores::new(alloc)?,
+            event_flags: EventFlags::new(alloc)?,
+            mailboxes: Mailboxes::new(alloc)?,
         })
     }
 

@@ -3,14 +3,15 @@
 ghost use Rattle.std.specs.Prelude.{◌≡◌, List, length};
 ghost use Rattle.iop_registry.specs.declared.registry.Entry.{Entry};
 ghost use Rattle.iop_kernel.specs.System.{Kernel as State};
-ghost use Rattle.iop_kernel.specs.Serving.{serves_core, answers_by, serves, calls_library, services};
-ghost use Rattle.iop_kernel.specs.Standing.{Stands, IsSound, HasSizeOf, TakesCore, Serves, core, system};
+ghost use Rattle.iop_kernel.specs.Serving.{wanted, serves_core, serves_board, answers_by, serves, calls_library, services};
+ghost use Rattle.iop_kernel.specs.Standing.{Holds, IsHeld, Stands, IsActive, HasRoomToWait, HasSizeOf, TakesCore, TakesBoard, Serves, ServesPlaced, core, board, system};
 
 use crate::after::After;
 use crate::answering::answer_word;
 use crate::call::Call;
 use crate::kernel::Kernel;
 use iop_base::{GuestFault, Line, Lines};
+use iop_event::Wanted;
 use iop_exec::Cpu;
 use iop_libs::{Answer, call};
 use iop_ready::Ready;
@@ -19,13 +20,24 @@ use iop_services::Service;
 use iop_stubs::Guest;
 use iop_sysmem::Blocks;
 
+/// Reads what the arguments of WaitEventFlag and PollEventFlag ask for.
+fn wanted(cpu: &Cpu) -> Wanted
+    ensures { (k : State) → result ≡ wanted (core k cpu.now) }
+{
+    Wanted {
+        bits: cpu.regs[5],
+        mode: cpu.regs[6],
+        place: cpu.regs[7],
+    }
+}
+
 impl<R: Ready> Kernel<R> {
-    /// Does what a service of `thbase` does that looks at threads alone. Any other is not built: it
-    /// faults.
+    /// Does what a service does that looks at the kernel alone. Any other is not built: it faults.
     #[tactic(auto, unfolding(crate::specs::Serving::serves_core))]
     fn serve_core(&mut self, service: Service, cpu: &mut Cpu) -> After
-        requires sound { IsSound R.stands self.old }
-        ensures { (k : State) → Stands R.stands self.old k
+        requires sound { IsHeld R.stands self.old }
+        requires room { HasRoomToWait self.old }
+        ensures { (k : State) → Holds R.stands self.old k
             → TakesCore R.stands (serves_core (core k cpu.old) service) result self.new cpu.new }
     {
         let [a0, a1] = [cpu.regs[4], cpu.regs[5]];
@@ -44,7 +56,49 @@ impl<R: Ready> Kernel<R> {
             Service::CancelWakeupThread => self.cancel_wakeups(a0, cpu),
             Service::SuspendThread => self.suspend_thread(a0, cpu),
             Service::ResumeThread => self.resume_thread(a0, cpu),
+            Service::DeleteSema => self.delete_sema(a0, cpu),
+            Service::SignalSema => self.signal_sema(a0, cpu),
+            Service::WaitSema => self.wait_sema(a0, cpu),
+            Service::PollSema => self.poll_sema(a0, cpu),
+            Service::DeleteEventFlag => self.delete_event_flag(a0, cpu),
+            Service::ClearEventFlag => self.clear_event_flag(a0, a1, cpu),
+            Service::DeleteMbx => self.delete_mbx(a0, cpu),
             _ => After::Fault(GuestFault::Service),
+        }
+    }
+
+    /// Does what a service does that looks at the kernel and at memory.
+    #[tactic(auto, using(iop_base::proofs::Giving::gives_none), unfolding(crate::specs::Serving::serves_board))]
+    fn serve_board<L: Lines>(
+        &mut self,
+        service: Service,
+        cpu: &mut Cpu,
+        guest: &mut Guest,
+        lines: &mut L,
+    ) -> After
+        requires sound { IsHeld R.stands self.old }
+        requires room { HasRoomToWait self.old }
+        ensures { (k : State) → Holds R.stands self.old k
+            → TakesBoard R.stands (serves_board (board k cpu.old guest.old) service) result
+            self.new cpu.new guest.new (L.output lines.old) (L.output lines.new) }
+    {
+        let [a0, a1] = [cpu.regs[4], cpu.regs[5]];
+        match service {
+            Service::CreateSema => self.create_sema(a0, cpu, guest),
+            Service::ReferSemaStatus => self.refer_sema_status(a0, a1, cpu, guest, lines),
+            Service::CreateEventFlag => self.create_event_flag(a0, cpu, guest),
+            Service::SetEventFlag => self.set_event_flag(a0, a1, cpu, guest, lines),
+            Service::WaitEventFlag => self.wait_event_flag(a0, wanted(cpu), cpu, guest, lines),
+            Service::PollEventFlag => self.poll_event_flag(a0, wanted(cpu), cpu, guest, lines),
+            Service::ReferEventFlagStatus => {
+                self.refer_event_flag_status(a0, a1, cpu, guest, lines)
+            }
+            Service::CreateMbx => self.create_mbx(a0, cpu, guest),
+            Service::SendMbx => self.send_mbx(a0, a1, cpu, guest, lines),
+            Service::ReceiveMbx => self.receive_mbx(a0, a1, cpu, guest, lines),
+            Service::PollMbx => self.poll_mbx(a0, a1, cpu, guest, lines),
+            Service::ReferMbxStatus => self.refer_mbx_status(a0, a1, cpu, guest, lines),
+            other => self.serve_core(other, cpu),
         }
     }
 
@@ -58,9 +112,10 @@ impl<R: Ready> Kernel<R> {
         blocks: &mut Blocks,
         lines: &mut L,
     ) -> After
-        requires sound { IsSound R.stands self.old }
+        requires sound { IsHeld R.stands self.old }
+        requires room { HasRoomToWait self.old }
         requires same_size { HasSizeOf blocks.old guest.old }
-        ensures { (k : State) (libraries : List Entry) → Stands R.stands self.old k
+        ensures { (k : State) (libraries : List Entry) → Holds R.stands self.old k
             → let s = system k cpu.old guest.old blocks.old libraries in
             Serves R.stands (serves s service) result self.new cpu.new guest.new blocks.new
             libraries (L.output lines.old) (L.output lines.new) }
@@ -71,7 +126,7 @@ impl<R: Ready> Kernel<R> {
             Service::ReferThreadStatus => self.refer_thread_status(a0, a1, cpu, guest, lines),
             Service::DeleteThread => self.delete_thread(a0, cpu, blocks),
             Service::ExitDeleteThread => self.exit_delete_thread(cpu, blocks),
-            other => self.serve_core(other, cpu),
+            other => self.serve_board(other, cpu, guest, lines),
         }
     }
 
@@ -88,9 +143,10 @@ impl<R: Ready> Kernel<R> {
         blocks: &mut Blocks,
         lines: &mut L,
     ) -> After
-        requires sound { IsSound R.stands self.old }
+        requires sound { IsHeld R.stands self.old }
+        requires room { HasRoomToWait self.old }
         requires same_size { HasSizeOf blocks.old guest.old }
-        ensures { (k : State) (libraries : List Entry) → Stands R.stands self.old k
+        ensures { (k : State) (libraries : List Entry) → Holds R.stands self.old k
             → let s = system k cpu.old guest.old blocks.old libraries in
             Serves R.stands (answers_by library number s answer) result self.new cpu.new guest.new
             blocks.new libraries (L.output lines.old) (L.output lines.new) }
@@ -123,9 +179,10 @@ impl<R: Ready> Kernel<R> {
         registry: &mut Registry,
         lines: &mut L,
     ) -> After
-        requires sound { IsSound R.stands self.old }
+        requires sound { IsHeld R.stands self.old }
+        requires room { HasRoomToWait self.old }
         requires same_size { HasSizeOf blocks.old guest.old }
-        ensures { (k : State) → Stands R.stands self.old k
+        ensures { (k : State) → Holds R.stands self.old k
             → let s = system k cpu.old guest.old blocks.old registry.old in
             Serves R.stands (calls_library library number s) result self.new cpu.new guest.new
             blocks.new registry.new (L.output lines.old) (L.output lines.new) }
@@ -134,16 +191,9 @@ impl<R: Ready> Kernel<R> {
         self.answer_call(library, number, answer, cpu, guest, blocks, lines)
     }
 
-    /// Does what a `syscall` of a code asks for. The processor stands behind it.
-    ///
-    /// It answers `Fault` exactly where the code has no meaning, where the service is not built,
-    /// where a place that it looks at is not in RAM or not aligned, and where a thread other than
-    /// the loader's returns as a module does: nothing has changed then. `ModuleReturned` comes
-    /// exactly where the call ends the loader's thread: interrupts are then on and dispatch is
-    /// enabled, and nothing else has changed. `Switch` comes exactly where the caller waits, has
-    /// ended or stands in the ready list.
+    /// Does what is called by a code.
     #[tactic(auto, using(iop_base::proofs::Giving::gives_none))]
-    pub fn service<L: Lines>(
+    fn serve_code<L: Lines>(
         &mut self,
         code: u32,
         cpu: &mut Cpu,
@@ -152,9 +202,10 @@ impl<R: Ready> Kernel<R> {
         registry: &mut Registry,
         lines: &mut L,
     ) -> After
-        requires sound { IsSound R.stands self.old }
+        requires sound { IsHeld R.stands self.old }
+        requires room { HasRoomToWait self.old }
         requires same_size { HasSizeOf blocks.old guest.old }
-        ensures { (k : State) → Stands R.stands self.old k
+        ensures { (k : State) → Holds R.stands self.old k
             → let s = system k cpu.old guest.old blocks.old registry.old in
             Serves R.stands (services s code) result self.new cpu.new guest.new blocks.new
             registry.new (L.output lines.old) (L.output lines.new) }
@@ -167,5 +218,33 @@ impl<R: Ready> Kernel<R> {
             Some(Call::ModuleReturn) => self.return_module(cpu),
             None => After::Fault(GuestFault::Service),
         }
+    }
+
+    /// Does what a `syscall` of a code asks for, where a thread runs. The processor stands behind
+    /// it.
+    ///
+    /// It answers `Fault` exactly where the code has no meaning, where the service is not built,
+    /// where a place that it looks at is not in RAM or not aligned, and where a thread other than
+    /// the loader's returns as a module does: nothing has changed then. `ModuleReturned` comes
+    /// exactly where the call ends the loader's thread: interrupts are then on and dispatch is
+    /// enabled, and nothing else has changed. `Switch` comes exactly where the caller waits, has
+    /// ended or stands in the ready list.
+    pub fn service<L: Lines>(
+        &mut self,
+        code: u32,
+        cpu: &mut Cpu,
+        guest: &mut Guest,
+        blocks: &mut Blocks,
+        registry: &mut Registry,
+        lines: &mut L,
+    ) -> After
+        requires active { IsActive R.stands self.old }
+        requires same_size { HasSizeOf blocks.old guest.old }
+        ensures { (k : State) → Stands R.stands self.old k
+            → let s = system k cpu.old guest.old blocks.old registry.old in
+            ServesPlaced R.stands (services s code) result self.new cpu.new guest.new blocks.new
+            registry.new (L.output lines.old) (L.output lines.new) }
+    {
+        self.serve_code(code, cpu, guest, blocks, registry, lines)
     }
 }

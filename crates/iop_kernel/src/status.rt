@@ -1,19 +1,19 @@
 //! The status of a thread.
 
-ghost use Rattle.std.specs.Prelude.{◌≡◌, ◌+◌, ◌≤◌, Some, List, length};
-ghost use Rattle.iop_base.specs.Numbers.{bytes_of, with_bytes};
+ghost use Rattle.std.specs.Prelude.{◌≡◌, ◌+◌, ◌*◌, ◌≤◌, Some, List, length};
 ghost use Rattle.iop_base.specs.Places.{IsRamSize};
 ghost use Rattle.iop_registry.specs.declared.registry.Entry.{Entry};
 ghost use Rattle.iop_sysmem.specs.BlockMap.{BlockMap};
 ghost use Rattle.iop_kernel.specs.System.{Kernel as State};
-ghost use Rattle.iop_kernel.specs.Status.{status_words, bytes_of_words, refers_it, refer_thread_status};
-ghost use Rattle.iop_kernel.specs.Standing.{Stands, IsSound, Serves, system};
-ghost use Rattle.iop_kernel.specs.declared.status.TheConstants.{STATUS_BYTES};
+ghost use Rattle.iop_kernel.specs.Status.{status_words, refers_it, refer_thread_status};
+ghost use Rattle.iop_kernel.specs.Standing.{Holds, IsHeld, Serves, system};
+ghost use Rattle.iop_kernel.specs.declared.status.TheConstants.{STATUS_WORDS};
 
 use crate::after::After;
 use crate::answering::answer;
 use crate::kernel::Kernel;
 use crate::places::words_place;
+use crate::words::store_words;
 use iop_base::{Code, GuestFault, Lines};
 use iop_exec::Cpu;
 use iop_ready::Ready;
@@ -22,9 +22,6 @@ use iop_thread::{Thread, Wait};
 
 /// How many words the status of a thread has.
 pub(crate) const STATUS_WORDS: usize = 12;
-
-/// How many bytes it has.
-const STATUS_BYTES: usize = 4 * STATUS_WORDS;
 
 /// Tells the words of a thread's status.
 fn status_words(thread: &Thread) -> [u32; STATUS_WORDS]
@@ -47,25 +44,6 @@ fn status_words(thread: &Thread) -> [u32; STATUS_WORDS]
     ]
 }
 
-/// Puts a word at a place of bytes, the lowest byte first.
-fn put_word(bytes: &mut [u8], place: usize, word: u32)
-    requires { place + 4 ≤ length bytes.old }
-    ensures { bytes.new ≡ with_bytes bytes.old place (bytes_of 4 word) }
-{
-    bytes[place..place + 4].copy_from_slice(&word.to_le_bytes());
-}
-
-/// Makes the bytes of words, the lowest of each first.
-fn bytes_of_words(words: &[u32; STATUS_WORDS]) -> [u8; STATUS_BYTES]
-    ensures { result ≡ bytes_of_words words.now }
-{
-    let mut bytes = [0; STATUS_BYTES];
-    for (index, &word) in words.iter().enumerate() {
-        put_word(&mut bytes, 4 * index, word);
-    }
-    bytes
-}
-
 impl<R: Ready> Kernel<R> {
     /// Writes the status of a thread at a physical place, where it has room.
     fn write_status<L: Lines>(
@@ -76,17 +54,15 @@ impl<R: Ready> Kernel<R> {
         guest: &mut Guest,
         lines: &mut L,
     ) -> After
-        requires inside { place + STATUS_BYTES ≤ length guest.old.ram }
+        requires inside { place + 4 * STATUS_WORDS ≤ length guest.old.ram }
         requires sized { IsRamSize (length guest.old.ram) }
         ensures { (k : State) (blocks : BlockMap) (libraries : List Entry)
-            → Stands R.stands self.now k
+            → Holds R.stands self.now k
             → let s = system k cpu.old guest.old blocks libraries in
             Serves R.stands (refers_it s place (Some thread.now)) result self.now cpu.new guest.new
             blocks libraries (L.output lines.old) (L.output lines.new) }
     {
-        let bytes = bytes_of_words(&status_words(thread));
-        // The bytes lie in RAM.
-        let _ = guest.store_bytes(place, &bytes, self.clock, lines);
+        store_words(guest, place, &status_words(thread), self.clock, lines);
         answer(cpu, Code::OK)
     }
 
@@ -102,9 +78,9 @@ impl<R: Ready> Kernel<R> {
         guest: &mut Guest,
         lines: &mut L,
     ) -> After
-        requires sound { IsSound R.stands self.old }
+        requires sound { IsHeld R.stands self.old }
         ensures { (k : State) (blocks : BlockMap) (libraries : List Entry)
-            → Stands R.stands self.old k
+            → Holds R.stands self.old k
             → let s = system k cpu.old guest.old blocks libraries in
             Serves R.stands (refer_thread_status s id at) result self.new cpu.new guest.new blocks
             libraries (L.output lines.old) (L.output lines.new) }

@@ -26,10 +26,22 @@ const REFER_STATUS: u32 = 0x316;
 
 const SLEEP: u32 = 0x318;
 
-/// Where the words of a new thread stand.
+const CREATE_SEMA: u32 = 0x404;
+
+const DELETE_SEMA: u32 = 0x405;
+
+const SIGNAL_SEMA: u32 = 0x406;
+
+const WAIT_SEMA: u32 = 0x408;
+
+const POLL_SEMA: u32 = 0x409;
+
+const REFER_SEMA_STATUS: u32 = 0x40B;
+
+/// Where the words of a new thread or semaphore stand.
 const PARAM: u32 = 0x2_0000;
 
-/// Where the status of a thread is written.
+/// Where the status of a thread or semaphore is written.
 const STATUS: u32 = 0x2_0100;
 
 /// Keeps the last line that it is told.
@@ -108,6 +120,7 @@ impl World {
         ensures sound { IsSound StandsFor self.new.kernel }
     {
         assert_eq!(rt; self.blocks.size(), self.guest.ram().size());
+        assert!(rt; self.kernel.active());
         self.cpu.regs[4] = a0;
         self.cpu.regs[5] = a1;
         let after = self.kernel.service(
@@ -129,9 +142,20 @@ impl World {
         put(rt, &mut self.guest, &mut self.lines, words);
         self.call(rt, CREATE, PARAM, 0)
     }
+
+    /// Asks for a semaphore: attribute, option, first count, most.
+    fn create_sema(&mut self, rt: &impl Abort, words: [u32; 4]) -> (After, i32)
+        requires sound { IsSound StandsFor self.old.kernel }
+        ensures sound { IsSound StandsFor self.new.kernel }
+    {
+        let [attr, option, initial, max] = words;
+        let words = [attr, option, initial, max, 0];
+        put(rt, &mut self.guest, &mut self.lines, words);
+        self.call(rt, CREATE_SEMA, PARAM, 0)
+    }
 }
 
-/// Stores the words of a new thread.
+/// Stores the words of a new thread or semaphore.
 fn put(rt: &impl Abort, guest: &mut Guest, lines: &mut LastLine, words: [u32; 5]) {
     let mut at = PARAM;
     for word in words {
@@ -176,5 +200,31 @@ fn threads_run(rt: HostRuntime) -> Result<(), Fail> {
     assert_eq!(rt; world.dispatch(), (true, Some(Line::Run(2))));
     assert_eq!(rt; world.call(&rt, SLEEP, 0, 0), (After::Switch, 0));
     assert_eq!(rt; world.dispatch(), (true, Some(Line::Run(1))));
+    Ok(())
+}
+
+#[test]
+fn semaphores_count_and_wake(rt: HostRuntime) -> Result<(), Fail> {
+    let mut world = World::new(rt.alloc())?;
+    assert_eq!(rt; world.dispatch(), (true, Some(Line::Run(1))));
+    assert_eq!(rt; world.create_sema(&rt, [2, 0, 1, 1]), goes_on(-401));
+    assert_eq!(rt; world.create_sema(&rt, [1, 7, 1, 1]), goes_on(1));
+    assert_eq!(rt; world.call(&rt, POLL_SEMA, 1, 0), goes_on(0));
+    assert_eq!(rt; world.call(&rt, POLL_SEMA, 1, 0), goes_on(-419));
+    assert_eq!(rt; world.call(&rt, SIGNAL_SEMA, 1, 0), goes_on(0));
+    assert_eq!(rt; world.call(&rt, SIGNAL_SEMA, 1, 0), goes_on(-420));
+    assert_eq!(rt; world.call(&rt, WAIT_SEMA, 1, 0), goes_on(0));
+    assert_eq!(rt; world.create(&rt, [0, 0, 0x1_0000, 512, 1]), goes_on(2));
+    assert_eq!(rt; world.call(&rt, START, 2, 0), goes_on(0));
+    assert_eq!(rt; world.dispatch(), (true, Some(Line::Run(2))));
+    assert_eq!(rt; world.call(&rt, WAIT_SEMA, 1, 0), (After::Switch, 0));
+    assert_eq!(rt; world.dispatch(), (true, Some(Line::Run(1))));
+    assert_eq!(rt; world.call(&rt, REFER_SEMA_STATUS, 1, STATUS), goes_on(0));
+    assert_eq!(rt; world.guest.ram().load32(STATUS + 4), Ok(7));
+    assert_eq!(rt; world.guest.ram().load32(STATUS + 20), Ok(1));
+    assert_eq!(rt; world.call(&rt, DELETE_SEMA, 1, 0), goes_on(0));
+    assert_eq!(rt; world.dispatch(), (true, Some(Line::Run(2))));
+    assert_eq!(rt; world.cpu.regs[2].cast_signed(), -425);
+    assert_eq!(rt; world.call(&rt, POLL_SEMA, 1, 0), goes_on(-408));
     Ok(())
 }

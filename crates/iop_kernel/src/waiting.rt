@@ -2,7 +2,7 @@
 
 ghost use Rattle.std.specs.Prelude.{◌≡◌};
 ghost use Rattle.iop_kernel.specs.System.{Kernel as State};
-ghost use Rattle.iop_kernel.specs.Standing.{Stands, IsSound, TakesCore, core};
+ghost use Rattle.iop_kernel.specs.Standing.{Holds, IsHeld, TakesCore, core};
 ghost use Rattle.iop_kernel.specs.Waiting.{releases_from, release_wait, waits, sleep_thread, wakeup_thread, cancel_wakeups, suspend_thread, resume_thread};
 
 use crate::after::After;
@@ -17,15 +17,16 @@ impl<R: Ready> Kernel<R> {
     /// Ends the wait of a thread with `WAIT_RELEASED`, and answers a code: `NOT_WAITING` where it
     /// has none.
     fn release_from(&mut self, id: u32, wait: Option<Wait>, cpu: &mut Cpu) -> After
-        requires sound { IsSound R.stands self.old }
-        ensures { (k : State) → Stands R.stands self.old k
+        requires sound { IsHeld R.stands self.old }
+        ensures { (k : State) → Holds R.stands self.old k
             → TakesCore R.stands (releases_from (core k cpu.old) id wait) result
             self.new cpu.new }
     {
         if wait.is_none() {
             return answer(cpu, Code::NOT_WAITING);
         }
-        self.threads.wake(id, Code::WAIT_RELEASED.0.cast_unsigned());
+        self.wake(id, Code::WAIT_RELEASED);
+        self.leave_object(id, wait);
         answer(cpu, Code::OK)
     }
 
@@ -33,8 +34,8 @@ impl<R: Ready> Kernel<R> {
     /// that calls, `UNKNOWN_THREAD` for an id that no live thread has, `NOT_WAITING` for one that
     /// does not wait.
     pub(crate) fn release_wait(&mut self, id: u32, cpu: &mut Cpu) -> After
-        requires sound { IsSound R.stands self.old }
-        ensures { (k : State) → Stands R.stands self.old k
+        requires sound { IsHeld R.stands self.old }
+        ensures { (k : State) → Holds R.stands self.old k
             → TakesCore R.stands (release_wait (core k cpu.old) id) result self.new cpu.new }
     {
         if self.is_nobody_else(id) {
@@ -50,9 +51,9 @@ impl<R: Ready> Kernel<R> {
     }
 
     /// Lets the thread that calls wait.
-    fn wait(&mut self, wait: Wait, cpu: &Cpu) -> After
-        requires sound { IsSound R.stands self.old }
-        ensures { (k : State) → Stands R.stands self.old k
+    pub(crate) fn wait(&mut self, wait: Wait, cpu: &Cpu) -> After
+        requires sound { IsHeld R.stands self.old }
+        ensures { (k : State) → Holds R.stands self.old k
             → TakesCore R.stands (waits (core k cpu.now) wait) result self.new cpu.now }
     {
         self.threads.block(wait, cpu);
@@ -63,8 +64,8 @@ impl<R: Ready> Kernel<R> {
     /// where no other thread may run.
     #[tactic(auto, using(crate::proofs::Refusals::no_wakeup))]
     pub(crate) fn sleep_thread(&mut self, cpu: &mut Cpu) -> After
-        requires sound { IsSound R.stands self.old }
-        ensures { (k : State) → Stands R.stands self.old k
+        requires sound { IsHeld R.stands self.old }
+        ensures { (k : State) → Holds R.stands self.old k
             → TakesCore R.stands (sleep_thread (core k cpu.old)) result self.new cpu.new }
     {
         if !self.may_switch() {
@@ -79,8 +80,8 @@ impl<R: Ready> Kernel<R> {
     /// Wakes another thread, and answers a code: `ILLEGAL_THREAD` for 0 and the thread that calls,
     /// and those of `Threads::wakeup`.
     pub(crate) fn wakeup_thread(&mut self, id: u32, cpu: &mut Cpu) -> After
-        requires sound { IsSound R.stands self.old }
-        ensures { (k : State) → Stands R.stands self.old k
+        requires sound { IsHeld R.stands self.old }
+        ensures { (k : State) → Holds R.stands self.old k
             → TakesCore R.stands (wakeup_thread (core k cpu.old) id) result self.new cpu.new }
     {
         if self.is_nobody_else(id) {
@@ -93,8 +94,8 @@ impl<R: Ready> Kernel<R> {
     /// Takes all wakeups of a thread, 0 for the one that calls, and answers how many it had, or a
     /// code.
     pub(crate) fn cancel_wakeups(&mut self, id: u32, cpu: &mut Cpu) -> After
-        requires sound { IsSound R.stands self.old }
-        ensures { (k : State) → Stands R.stands self.old k
+        requires sound { IsHeld R.stands self.old }
+        ensures { (k : State) → Holds R.stands self.old k
             → TakesCore R.stands (cancel_wakeups (core k cpu.old) id) result self.new cpu.new }
     {
         let Some(id) = self.named(id) else {
@@ -110,8 +111,8 @@ impl<R: Ready> Kernel<R> {
     /// calls, `CANNOT_WAIT` where it runs while dispatch is disabled, and those of
     /// `Threads::suspend`.
     pub(crate) fn suspend_thread(&mut self, id: u32, cpu: &mut Cpu) -> After
-        requires sound { IsSound R.stands self.old }
-        ensures { (k : State) → Stands R.stands self.old k
+        requires sound { IsHeld R.stands self.old }
+        ensures { (k : State) → Holds R.stands self.old k
             → TakesCore R.stands (suspend_thread (core k cpu.old) id) result self.new cpu.new }
     {
         if self.is_nobody_else(id) {
@@ -128,8 +129,8 @@ impl<R: Ready> Kernel<R> {
     /// Resumes another thread, and answers a code: `ILLEGAL_THREAD` for 0 and the thread that
     /// calls, and those of `Threads::resume`.
     pub(crate) fn resume_thread(&mut self, id: u32, cpu: &mut Cpu) -> After
-        requires sound { IsSound R.stands self.old }
-        ensures { (k : State) → Stands R.stands self.old k
+        requires sound { IsHeld R.stands self.old }
+        ensures { (k : State) → Holds R.stands self.old k
             → TakesCore R.stands (resume_thread (core k cpu.old) id) result self.new cpu.new }
     {
         if self.is_nobody_else(id) {

@@ -11,6 +11,7 @@ use Rattle.iop_base.proofs.Giving.{gives_none}
 use Rattle.iop_base.proofs.Lists.{length-bytes_of}
 use Rattle.iop_exec.specs.declared.position.Position.{Position}
 use Rattle.iop_exec.specs.Positions.{position_of, standing_at}
+use Rattle.iop_kernel.proofs.PlacingBasics.{clock_place}
 use Rattle.iop_kernel.proofs.Settling.{settled_later}
 use Rattle.iop_machine.specs.Advancing.{Reached, Advances}
 use Rattle.iop_machine.specs.Iop.{Iop, Transition, Takes, silent, with_state, core_of}
@@ -41,10 +42,16 @@ pub stands_after : {m : Program} {s : Iop} (cpu : Cpu) (memory : Memory) (clock 
     → Stands (held m cpu memory clock) (after s cpu memory clock)
 stands_after {m} {s} cpu memory clock h = record {
   kernel = record {
-    clock = refl;
-    interrupts = h.kernel.interrupts;
-    dispatching = h.kernel.dispatching;
-    threads = h.kernel.threads;
+    holds = record {
+      clock = refl;
+      interrupts = h.kernel.holds.interrupts;
+      dispatching = h.kernel.holds.dispatching;
+      threads = h.kernel.holds.threads;
+      semaphores = h.kernel.holds.semaphores;
+      event_flags = h.kernel.holds.event_flags;
+      mailboxes = h.kernel.holds.mailboxes;
+    };
+    placed = clock_place s.kernel clock h.kernel.placed;
   };
   rest = ap (λ (x : Iop). record x {
     cpu = cpu;
@@ -196,7 +203,7 @@ module _ {w : World} {budget left : ℕ} {m : Program} {a b c : Output} {event :
       let s = subst (λ (s : Iop). Performs (row s.memory.ram s.cpu) event m.kernel.clock s.cpu
       s.memory b cpu' memory' c) (sym stands.rest) turn.done in
       subst (λ n. Performs (row before.memory.ram before.cpu) event n before.cpu before.memory b cpu'
-      memory' c) (sym stands.kernel.clock) s
+      memory' c) (sym stands.kernel.holds.clock) s
 
   performed : Performed before cpu' memory' b c event
       (performs before (row before.memory.ram before.cpu))
@@ -233,7 +240,7 @@ module _ {w : World} {budget left : ℕ} {m : Program} {a b c : Output} {event :
       let plain = performed_plain e in
       burst_with (record {
         state = subst (Stands new)
-            (ap (λ n. after before cpu' memory' (n + 1)) (sym stands.kernel.clock) ∙ plain.0)
+            (ap (λ n. after before cpu' memory' (n + 1)) (sym stands.kernel.holds.clock) ∙ plain.0)
             (to before stands);
         gives = plain.1;
       })
@@ -254,7 +261,7 @@ module _ {w : World} {budget left : ℕ} {m : Program} {a b c : Output} {event :
   module _ {now : Program}
       (to : (s : Iop) → Stands m s → Stands now (after s cpu' memory' m.kernel.clock)) where
     now_stands : Stands now (settled before cpu' memory' b c)
-    now_stands = subst (λ n. Stands now (after before cpu' memory' n)) (sym stands.kernel.clock)
+    now_stands = subst (λ n. Stands now (after before cpu' memory' n)) (sym stands.kernel.holds.clock)
         (to before stands)
 
     -- an instruction that is not plain

@@ -132,7 +132,7 @@ module _ {w : World} {budget k : ℕ} {m : Program} {a b : Output}
   stands = settled.reached.state.1
 
   pub same_clock : m.kernel.clock ≡ w.iop.kernel.clock
-  same_clock = sym stands.kernel.clock ∙ settled.clock
+  same_clock = sym stands.kernel.holds.clock ∙ settled.clock
 
   module _ (active : (s : Iop) → Stands m s → is_some s.kernel.threads.running ≡ true) where
     -- where a thread runs, it executes an instruction next

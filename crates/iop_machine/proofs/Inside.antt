@@ -1,11 +1,13 @@
 -- Where the bytes of a store lie, and how long it leaves memory.
-use Rattle.std.proofs.Common.{◌≡◌, ℕ, ◌+◌, ◌≤◌, nat_le, Bool, true, false, cond, Option, Some, None, List, length, refl, sym, ◌∙◌, arith}
+use Rattle.std.proofs.Common.{◌≡◌, ℕ, ◌+◌, ◌≤◌, nat_le, Bool, true, false, cond, Option, Some, None, List, [], ◌∷◌, length, All, refl, sym, ◌∙◌, subst, arith}
 use Rattle.std.proofs.lemmas.Bool.Decides.{nat_tests}
+use Rattle.std.proofs.lemmas.List.Elements.{All-head, All-tail}
 use Rattle.iop_base.specs.Numbers.{width_bytes, bytes_of}
 use Rattle.iop_base.specs.Places.{phys, range_at}
 use Rattle.iop_base.proofs.Lists.{length-bytes_of}
 use Rattle.iop_base.proofs.Memory.{length-with_bytes}
 use Rattle.iop_exec.specs.Row.{Storing}
+use Rattle.iop_kernel.specs.Laws.{Store, after_stores}
 use Rattle.iop_stubs.specs.Stubs.{access_place, Memory, after_store}
 use Rattle.iop_machine.specs.Storing.{memory_after}
 
@@ -42,6 +44,34 @@ pub length-after_store : (memory : Memory) (place : Option ℕ) (bytes : List �
 length-after_store memory None bytes inside = refl
 length-after_store memory (Some p) bytes inside =
     length-with_bytes memory.ram p bytes (inside p refl)
+
+-- where several stores lie in memory
+abbrev pub LieInside : Memory → List Store → Type 0
+LieInside memory stores = All (λ x. x.place + length x.bytes ≤ length memory.ram) stores
+
+-- the first does
+pub first_inside : (memory : Memory) (x : Store) (xs : List Store) → LieInside memory (x ∷ xs)
+    → LiesInside memory (Some x.place) x.bytes
+first_inside memory x xs inside = λ p e.
+    let is : x.place ≡ p = cc e in
+    let fits = All-head (λ (y : Store). y.place + length y.bytes ≤ length memory.ram) x xs inside in
+    omega (arith, is, fits)
+
+-- and the others, once it is made
+pub others_inside : (memory : Memory) (x : Store) (xs : List Store) → LieInside memory (x ∷ xs)
+    → LieInside (after_store memory (Some x.place) x.bytes) xs
+others_inside memory x xs inside =
+    subst (λ n. All (λ (y : Store). y.place + length y.bytes ≤ n) xs)
+    (sym (length-after_store memory (Some x.place) x.bytes (first_inside memory x xs inside)))
+    (All-tail (λ (y : Store). y.place + length y.bytes ≤ length memory.ram) x xs inside)
+
+pub length-after_stores : (memory : Memory) (stores : List Store) → LieInside memory stores
+    → length (after_stores memory stores).ram ≡ length memory.ram
+length-after_stores memory [] inside = refl
+length-after_stores memory (x ∷ xs) inside =
+    length-after_stores (after_store memory (Some x.place) x.bytes) xs
+    (others_inside memory x xs inside)
+    ∙ length-after_store memory (Some x.place) x.bytes (first_inside memory x xs inside)
 
 pub number_inside : (memory : Memory) (s : Storing)
     → LiesInside memory (access_place memory s.at s.width) (bytes_of (width_bytes s.width) s.value)

@@ -10,7 +10,7 @@ use Rattle.iop_base.specs.declared.line.Line.TheVariants.{Load, Refused}
 use Rattle.iop_exec.specs.declared.cpu.Cpu.{Cpu}
 use Rattle.iop_exec.specs.Row.{Row, Goes, Serves, Faults, Storing, at_next, row}
 use Rattle.iop_kernel.specs.Dispatching.{Dispatched}
-use Rattle.iop_kernel.specs.Laws.{Writes, ServiceKeeps}
+use Rattle.iop_kernel.specs.Laws.{Store, after_stores, stores_lines, Writes, ServiceKeeps}
 use Rattle.iop_kernel.specs.Serving.{services}
 use Rattle.iop_kernel.specs.System.{System, Served}
 use Rattle.iop_kernel.specs.declared.after.After.{After}
@@ -34,7 +34,7 @@ use Rattle.iop_machine.specs.Services.{calls, calls_by, serves, leaves, returns_
 use Rattle.iop_machine.specs.Stepping.{performs, stores_it, acts_by, goes_by}
 use Rattle.iop_machine.specs.Storing.{stores_bytes, fills}
 use Rattle.iop_machine.proofs.Elements.{fails_or_passes}
-use Rattle.iop_machine.proofs.Inside.{LiesInside, range_by, number_inside, length-after_store}
+use Rattle.iop_machine.proofs.Inside.{LiesInside, LieInside, range_by, number_inside, first_inside, others_inside, length-after_store}
 
 -- what stays of memory at a moment, which has these blocks then, where these pieces were given and these
 -- stubs bound
@@ -213,13 +213,23 @@ returns_keep : (s : Iop) (o : Option BegunModule) (value : ℕ) → HasBlocks s.
 returns_keep s None value h = same s.kernel.clock s.memory s.blocks [] h
 returns_keep s (Some m) value h = ends_keep s m value h
 
+-- several stores, one after the other
+stays_stored : (clock : ℕ) (old : Memory) (blocks : BlockMap) (stores : List Store)
+    → LieInside old stores → HasBlocks old blocks
+    → Stays clock old (after_stores old stores) blocks (stores_lines clock old stores) []
+stays_stored clock old blocks [] inside h = same clock old blocks [] h
+stays_stored clock old blocks (x ∷ xs) inside h =
+    let first = stays_store clock old blocks (Some x.place) x.bytes (first_inside old x xs inside) h in
+    stays_then first (stays_stored clock (after_store old (Some x.place) x.bytes) blocks xs
+    (others_inside old x xs inside) first.whole)
+
 -- what a service stores, of which it tells each live stub that it meets
 stays_written : (s : System) (memory : Memory) (blocks : BlockMap) (pieces : List Piece)
     → Writes s memory pieces → HasBlocks s.memory blocks
     → Stays s.core.kernel.clock s.memory memory blocks pieces []
 stays_written s memory blocks pieces writes h =
     let clock = s.core.kernel.clock in
-    let stored = stays_store clock s.memory blocks writes.place writes.bytes writes.inside h in
+    let stored = stays_stored clock s.memory blocks writes.stores writes.inside h in
     subst (λ (m : Memory). Stays clock s.memory m blocks pieces []) (sym writes.left) (record {
       whole = stored.whole;
       live = stored.live;

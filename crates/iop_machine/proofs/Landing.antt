@@ -7,8 +7,9 @@ use Rattle.iop_base.specs.declared.stop.Stop.{Stop}
 use Rattle.iop_base.proofs.Memory.{length-with_bytes}
 use Rattle.iop_kernel.specs.Dispatching.{dispatches}
 use Rattle.iop_kernel.specs.Laws.{IsCore}
-use Rattle.iop_thread.proofs.Placed.{placed_opening}
-use Rattle.iop_thread.proofs.Straight.{operations_keep_straight}
+use Rattle.iop_kernel.proofs.KeepingCore.{holds_whole}
+use Rattle.iop_kernel.proofs.Steady.{steady_opening}
+use Rattle.iop_kernel.proofs.WaitsHolding.{waits_opening}
 use Rattle.iop_modload.specs.Laws.{HasBlocks}
 use Rattle.iop_stubs.specs.Binding.{IsBound}
 use Rattle.iop_stubs.specs.declared.live_stub.Stub.{Stub}
@@ -23,7 +24,7 @@ use Rattle.iop_machine.specs.Stepping.{step, steps}
 use Rattle.iop_machine.specs.World.{World, reset, beginning, zeros}
 use Rattle.iop_machine.proofs.AreaLemmas.{length-kernel_area}
 use Rattle.iop_machine.proofs.Keeping.{Stays, Keeps, same, loads_first_keeps, starts_keep, goes_keep}
-use Rattle.iop_machine.proofs.Moving.{boots_stand, goes_move}
+use Rattle.iop_machine.proofs.Moving.{stands_whole, boots_stand, goes_move}
 use Rattle.iop_machine.proofs.Reaching.{steps_zero, steps_suc}
 use Rattle.iop_machine.proofs.Stepping.{step_over, step_begins}
 
@@ -78,7 +79,7 @@ module _ (w : World) (machine : IsMachine w) where
       subst (StepKeeps w) (sym (step_begins w true e f)) (record {
         stays = boots_keep w.iop has (machine.none_live f);
         none_live = λ x. absurd (cc x);
-        core = (boots_stand w.iop).core;
+        core = stands_whole (boots_stand w.iop);
       })
   begins_keeps false e f =
       subst (StepKeeps w) (sym (step_begins w false e f)) (record {
@@ -181,12 +182,12 @@ module _ (size : ℕ) (modules : List Module) (sized : IsRamSize size) where
 
   -- the loader's thread alone stands, dormant
   begins_as_core : IsCore (core_of (reset size modules))
-  begins_as_core = record {
-    placed = placed_opening;
+  begins_as_core = holds_whole waits_opening (record {
+    placed = waits_opening.placed.threads;
     awake = λ none. refl;
-    straight = λ out. refl;
-    threads = operations_keep_straight.opening;
-  }
+    straight = (λ out. refl, refl);
+    threads = steady_opening;
+  })
 
   -- what holds of all states that it reaches
   reached : (k : ℕ) → let run = steps k (beginning size modules) in StaysSound run.bound run.state.iop

@@ -23,6 +23,7 @@ mod StubSteps
 mod LoadingLemmas
 pub mod Landing
 mod Strict
+mod Histories
 mod Area
 mod AreaLemmas
 mod AreaReading

@@ -1,24 +1,23 @@
 -- How far each step takes the clock, and that it keeps what holds of the kernel.
-use Rattle.std.proofs.Common.{◌≡◌, ℕ, ◌+◌, ◌≤◌, true, false, if◌then◌else◌, Option, Some, None, Result, Ok, Err, List, [], ◌∷◌, refl, ap, sym, ◌∙◌, arith, subst}
+use Rattle.std.proofs.Common.{◌≡◌, ℕ, ◌+◌, ◌≤◌, true, false, Option, Some, None, Result, Ok, Err, List, [], ◌∷◌, refl, ap, sym, ◌∙◌, arith, subst}
 use Rattle.iop_base.specs.declared.code.Code.{Code}
 use Rattle.iop_exec.specs.declared.cpu.Cpu.{Cpu}
 use Rattle.iop_exec.specs.Laws.{cpu_after}
-use Rattle.iop_exec.specs.Positions.{IsStraight}
-use Rattle.iop_exec.proofs.Following.{row_follows}
 use Rattle.iop_exec.specs.Row.{Row, Goes, Serves, Faults, at_next, row}
-use Rattle.iop_thread.specs.Laws.{AreStraight}
-use Rattle.iop_thread.specs.Operations as threads
-use Rattle.iop_thread.specs.Placing.{IsPlaced}
+use Rattle.iop_thread.specs.Placing as threads_placing
 use Rattle.iop_kernel.specs.Dispatching.{Dispatched, dispatches}
 use Rattle.iop_kernel.specs.Laws.{IsCore}
 use Rattle.iop_kernel.specs.Serving.{services}
 use Rattle.iop_kernel.specs.System.{Kernel, Core, Served, may_switch}
 use Rattle.iop_kernel.specs.declared.after.After.{After}
 use Rattle.iop_kernel.specs.declared.after.After.TheVariants.{Resume, Switch, ModuleReturned, Fault}
-use Rattle.iop_kernel.proofs.KeepingCore.{CoreKeeps, nothing_changes, keeps_then, with_them, places as stay_placed, straights as stay_straight, moves}
+use Rattle.iop_kernel.proofs.KeepingCore.{CoreKeeps, WaitsHold, holds_alone, waits_of, holds_whole, nothing_changes, keeps_then, with_them, places as stay_placed, straights as stay_straight, moves}
+use Rattle.iop_kernel.proofs.WaitsHolding.{waits_begun, waits_ended, waits_at}
 use Rattle.iop_kernel.proofs.KeepingServices.{services_keep}
 use Rattle.iop_kernel.proofs.Returning.{returning_opens}
+use Rattle.iop_kernel.proofs.RowRegisters.{row_steady}
 use Rattle.iop_kernel.proofs.Settling.{dispatch_clock}
+use Rattle.iop_kernel.proofs.Steady.{IsSteady, AreSteady}
 use Rattle.iop_kernel.proofs.Strict.{dispatches_are_strict}
 use Rattle.iop_modload.specs.Finishing.{finishes}
 use Rattle.iop_modload.specs.declared.loaded.Loaded.{Loaded}
@@ -30,16 +29,16 @@ use Rattle.iop_machine.specs.Services.{calls, calls_by, serves, leaves, goes_on_
 use Rattle.iop_exec.specs.Arithmetic.{one_if}
 use Rattle.iop_machine.specs.Stepping.{performs, acts_by, goes_by, executes_by}
 
--- what loads modules leaves the kernel as it is, and a processor straight
+-- what loads modules leaves the kernel as it is, and a processor steady
 pub record Lands (s : Iop) (t : Transition Iop) : Type 0 where
   pub kernel : t.state.kernel ≡ s.kernel
-  pub straight : IsStraight s.cpu → IsStraight t.state.cpu
+  pub straight : IsSteady s.cpu → IsSteady t.state.cpu
 
 -- by what its loading came to, where the next one leaves it so
 enters_land : (next : Iop → Transition Iop) → ((v : Iop) → Lands v (next v)) → (s : Iop) (m : Module)
     (r : Result Loaded Code) → Lands s (enters_or next s m r)
 unfolding module_start
-enters_land next lands s m (Ok loaded) = record { kernel = refl; straight = λ h out. refl }
+enters_land next lands s m (Ok loaded) = record { kernel = refl; straight = λ h. (λ out. refl, refl) }
 enters_land next lands s m (Err code) =
     let later = lands s in record { kernel = later.kernel; straight = later.straight }
 
@@ -54,8 +53,25 @@ loads_first_lands (m ∷ rest) s =
     record { kernel = entered.kernel; straight = entered.straight }
 
 -- what holds of the kernel is kept, and no time is taken
+pub record CoreStands (c d : Core) : Type 0 where
+  pub alone : CoreKeeps c d
+  pub waits : WaitsHold c.kernel → WaitsHold d.kernel
+
 abbrev pub Stands : Iop → Iop → Type 0
-Stands s t = CoreKeeps (core_of s) (core_of t)
+Stands s t = CoreStands (core_of s) (core_of t)
+
+-- all of it together
+pub stands_whole : {c d : Core} → CoreStands c d → IsCore c → IsCore d
+stands_whole h core = holds_whole (h.waits (waits_of core)) (h.alone.core (holds_alone core))
+
+-- nothing changes
+stands_still : (s : Iop) → Stands s s
+stands_still s = record { alone = nothing_changes (core_of s); waits = λ h. h }
+
+-- one change and then another
+stands_then : {c d e : Core} → CoreStands c d → CoreStands d e → CoreStands c e
+stands_then g h =
+    record { alone = keeps_then g.alone h.alone; waits = λ x. h.waits (g.waits x) }
 
 -- where no thread runs, another may
 abbrev IsAwake : Kernel → Type 0
@@ -64,23 +80,29 @@ IsAwake k = k.threads.running ≡ None → may_switch k ≡ true
 -- what was loaded keeps it
 landed : {s : Iop} {t : Transition Iop} → Lands s t → Stands s t.state
 landed {s} lands = record {
-  core = λ h. record {
-    placed = subst (λ (k : Kernel). IsPlaced k.threads) (sym lands.kernel) h.placed;
-    awake = subst IsAwake (sym lands.kernel) h.awake;
-    straight = lands.straight h.straight;
-    threads = subst (λ (k : Kernel). AreStraight k.threads) (sym lands.kernel) h.threads;
+  alone = record {
+    core = λ h. record {
+      placed = subst (λ (k : Kernel). threads_placing.IsPlaced k.threads) (sym lands.kernel) h.placed;
+      awake = subst IsAwake (sym lands.kernel) h.awake;
+      straight = lands.straight h.straight;
+      threads = subst (λ (k : Kernel). AreSteady k.threads) (sym lands.kernel) h.threads;
+    };
+    clock = ap (λ (k : Kernel). k.clock) lands.kernel;
   };
-  clock = ap (λ (k : Kernel). k.clock) lands.kernel;
+  waits = subst WaitsHold (sym lands.kernel);
 }
 
 -- it begins, if it is to
 starts_stand : (s : Iop) (o : Option BegunModule) → Stands s (starts_by s o)
-starts_stand s None = nothing_changes (core_of s)
-starts_stand s (Some begun) = with_them (core_of s) _ (λ h. record {
-  placed = (stay_placed (core_of s) h).begins s.cpu tt;
-  straight = (stay_straight (core_of s) h).begins s.cpu h.straight;
-  awake = λ none. h.awake (sym ((moves (core_of s) h).begins s.cpu).running ∙ none);
-})
+starts_stand s None = stands_still s
+starts_stand s (Some begun) = record {
+  alone = with_them (core_of s) _ (λ h. record {
+    placed = (stay_placed (core_of s) h).begins s.cpu tt;
+    straight = (stay_straight (core_of s) h).begins s.cpu h.straight;
+    awake = λ none. h.awake (sym ((moves (core_of s) h).begins s.cpu).running ∙ none);
+  });
+  waits = waits_begun s.kernel s.cpu;
+}
 
 -- booting takes no time
 pub boots_stand : (s : Iop) → Stands s (boots s).state
@@ -88,17 +110,20 @@ unfolding boots
 boots_stand s =
     let lands = loads_first_lands s.modules (with_kernel s) in
     let left = (loads_first s.modules (with_kernel s)).state in
-    keeps_then (landed lands) (starts_stand left left.begun)
+    stands_then (landed lands) (starts_stand left left.begun)
 
 -- the loader's thread goes on or ends, where another may run
 goes_on_stands : (s : Iop) (o : Option BegunModule) → may_switch s.kernel ≡ true
     → Stands s (goes_on_by s o)
-goes_on_stands s None may = with_them (core_of s) _ (λ h. record {
-  placed = (stay_placed (core_of s) h).ends_running;
-  straight = (stay_straight (core_of s) h).ends_running;
-  awake = λ none. may;
-})
-goes_on_stands s (Some begun) may = nothing_changes (core_of s)
+goes_on_stands s None may = record {
+  alone = with_them (core_of s) _ (λ h. record {
+    placed = (stay_placed (core_of s) h).ends_running;
+    straight = (stay_straight (core_of s) h).ends_running;
+    awake = λ none. may;
+  });
+  waits = waits_ended s.kernel;
+}
+goes_on_stands s (Some begun) may = stands_still s
 
 -- a module ends
 ends_stand : (s : Iop) (m : BegunModule) (value : ℕ) → may_switch s.kernel ≡ true
@@ -109,7 +134,7 @@ ends_stand s m value may =
     (finishes s.kernel.clock s.memory s.blocks s.libraries m.number m.loaded value)).state in
     let lands = loads_first_lands s.modules left in
     let now = (loads_first s.modules left).state in
-    keeps_then (landed lands)
+    stands_then (landed lands)
     (goes_on_stands now now.begun (ap may_switch lands.kernel ∙ may))
 
 -- the loader's thread returned
@@ -126,12 +151,14 @@ pub record Moves (s : Iop) (latest : ℕ) (t : Transition Iop) : Type 0 where
 -- what holds of the kernel holds at any moment
 at_moment : (c : Core) (clock : ℕ) → IsCore c
     → IsCore (record c { kernel = record c.kernel { clock = clock } })
-at_moment c clock h = record {
-  placed = h.placed;
-  awake = h.awake;
-  straight = h.straight;
-  threads = h.threads;
-}
+at_moment c clock h =
+    let alone = holds_alone h in
+    holds_whole (waits_at c.kernel clock (waits_of h)) (record {
+      placed = alone.placed;
+      awake = alone.awake;
+      straight = alone.straight;
+      threads = alone.threads;
+    })
 
 -- a transition that takes no time, and then one moment
 moves_later : {s : Iop} {t : Transition Iop} → t.state.kernel.clock ≡ s.kernel.clock
@@ -142,15 +169,20 @@ moves_later {s} {t} clock core = record {
   core = λ h. at_moment (core_of t.state) (t.state.kernel.clock + 1) (core h);
 }
 
--- and with another processor, if that is straight too
-moves_with : (s : Iop) (cpu : Cpu) → (IsStraight s.cpu → IsStraight cpu) → IsCore (core_of s)
+-- and with another processor, if that is steady too
+pub moves_with : (s : Iop) (cpu : Cpu) → (IsSteady s.cpu → IsSteady cpu) → IsCore (core_of s)
     → IsCore (record (core_of s) { cpu = cpu })
-moves_with s cpu moved h = record {
-  placed = h.placed;
-  awake = h.awake;
-  straight = moved h.straight;
-  threads = h.threads;
-}
+moves_with s cpu moved h =
+    let steady = moved (h.straight, h.registers) in
+    record {
+      placed = h.placed;
+      overdue = h.overdue;
+      awake = h.awake;
+      straight = steady.0;
+      threads = h.threads;
+      registers = steady.1;
+      kept = h.kept;
+    }
 
 -- by what becomes of the caller
 calls_by_move : (s : Iop) (d : Served) → d.left.state.core.kernel.clock ≡ s.kernel.clock
@@ -162,13 +194,13 @@ calls_by_move s d clock core Switch opens = moves_later clock core
 calls_by_move s d clock core (ModuleReturned value) opens =
     let now = (serves s d).state in
     let returns = returns_stand now now.begun value (opens value refl) in
-    moves_later (returns.clock ∙ clock) (λ h. returns.core (core h))
+    moves_later (returns.alone.clock ∙ clock) (λ h. stands_whole returns (core h))
 calls_by_move s d clock core (Fault kind) opens =
     record { clock = omega arith; core = λ h. h }
 
 -- a `syscall`
 calls_move : (s : Iop) (behind : Cpu) (code id : ℕ) → s.kernel.threads.running ≡ Some id
-    → (IsStraight s.cpu → IsStraight behind) → Moves s (s.kernel.clock + 1) (calls s behind code)
+    → (IsSteady s.cpu → IsSteady behind) → Moves s (s.kernel.clock + 1) (calls s behind code)
 unfolding calls
 calls_move s behind code id runs moved =
     let system = system_of (record s { cpu = behind }) in
@@ -179,7 +211,7 @@ calls_move s behind code id runs moved =
 
 -- an instruction of the thread that runs
 performs_move : (s : Iop) (id : ℕ) (r : Row) → s.kernel.threads.running ≡ Some id
-    → (IsStraight s.cpu → IsStraight (cpu_after s.cpu r))
+    → (IsSteady s.cpu → IsSteady (cpu_after s.cpu r))
     → Moves s (s.kernel.clock + 1) (performs s r)
 performs_move s id (Goes after None) runs moved =
     moves_later refl (moves_with s after moved)
@@ -194,7 +226,7 @@ acts_move : (s : Iop) (running : Option ℕ) → s.kernel.threads.running ≡ ru
     → Moves s (s.kernel.clock + one_if (executes_by None false None running)) (acts_by s running)
 acts_move s None none = record { clock = omega arith; core = λ h. h }
 acts_move s (Some id) runs =
-    performs_move s id (row s.memory.ram s.cpu) runs (row_follows s.memory.ram s.cpu).straight
+    performs_move s id (row s.memory.ram s.cpu) runs (row_steady s.memory.ram s.cpu)
 
 -- a step of the machine that was booted
 pub goes_move : (s : Iop) (o : Option Dispatched) → dispatches (core_of s) ≡ o

@@ -55,4 +55,4 @@ pub advances_time : {w : World} {most k left : ℕ} {m new : Machine} {a c : Out
     → m.iop.kernel.clock + most < bound → new.iop.kernel.clock + left < bound
 advances_time {w} {most} {k} bound old h time =
     let ticks = clock_steps w (suc k) in
-    omega (arith, time, ticks, h.left_is, old.iop.kernel.clock, h.state.iop.kernel.clock)
+    omega (arith, time, ticks, h.left_is, old.iop.kernel.holds.clock, h.state.iop.kernel.holds.clock)

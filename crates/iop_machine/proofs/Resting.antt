@@ -95,7 +95,7 @@ module _ (w : World) (over : w.iop.over ≡ None) where
       → (step w).state.iop.kernel.clock ≤ w.iop.kernel.clock + one_if (executes w)
   clock_after true f =
       let is = ap (λ (t : Transition World). t.state.iop.kernel.clock) (step_begins w true over f) in
-      omega (arith, is, (boots_stand w.iop).clock)
+      omega (arith, is, (boots_stand w.iop).alone.clock)
   clock_after false f =
       let is = ap (λ (t : Transition World). t.state.iop.kernel.clock) (step_begins w false over f) in
       omega (arith, is, executes_if false f, (goes_move w.iop dispatch refl).clock)

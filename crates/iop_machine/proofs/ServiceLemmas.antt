@@ -28,7 +28,7 @@ use Rattle.iop_machine.specs.Iop.{Iop, Takes, with_state, system_of, with_system
 use Rattle.iop_machine.specs.Loading.{loads_first}
 use Rattle.iop_machine.specs.Services.{faults_with, leaves, goes_on_by, ends_module, returns_by, serves, calls_by, calls}
 use Rattle.iop_machine.specs.Standing.{iop_of, Stands}
-use Rattle.iop_machine.proofs.Inside.{length-after_store}
+use Rattle.iop_machine.proofs.Inside.{length-after_stores}
 use Rattle.iop_machine.proofs.Moving.{loads_first_lands}
 use Rattle.iop_machine.proofs.StandingLemmas.{IsMoment, carried}
 use Rattle.iop_machine.proofs.Taking.{takes_as, takes_then, takes_with}
@@ -143,14 +143,14 @@ did code s = services (system_of s) code
 -- its pieces
 pub record IsServed (m left : Program) (code : ℕ) (after : After) (a b : Output) : Type 0 where
   pub serves : (k : Kernel) → kernel.Stands StandsFor m.kernel k
-      → kernel.Serves StandsFor (did code (iop_of m k)) after left.kernel left.cpu left.guest
+      → kernel.ServesPlaced StandsFor (did code (iop_of m k)) after left.kernel left.cpu left.guest
       left.blocks left.registry a b
 
 -- as the clause of the kernel's call says it
 pub served : (m : Program) (new : Kernels (List Entry)) (cpu : Cpu) (memory : Memory)
     (blocks : BlockMap) (libraries : List Library) (code : ℕ) (after : After) {a b : Output}
     → ((k : Kernel) → kernel.Stands StandsFor m.kernel k
-    → kernel.Serves StandsFor (did code (iop_of m k)) after new cpu memory blocks libraries a b)
+    → kernel.ServesPlaced StandsFor (did code (iop_of m k)) after new cpu memory blocks libraries a b)
     → IsServed m (record m
     { kernel = new; cpu = cpu; guest = memory; blocks = blocks; registry = libraries }) code after a b
 served m new cpu memory blocks libraries code after serves =
@@ -171,12 +171,13 @@ module _ {m left : Program} {code : ℕ} {after : After} {a b : Output}
       → Takes Stands (serves (stood s) (did code s)) (with_left m left) a b
   serves_takes =
       carried m (λ s. Takes Stands (serves (stood s) (did code s)) (with_left m left) a b) (λ k stands.
-      let taken = h.serves k stands in
+      let done = h.serves k stands in
+      let taken = done.served in
       let x = (did code (iop_of m k)).left.state in
       let now = iop_of (with_left m left) x.core.kernel in
       record {
         state = record {
-          kernel = taken.core.kernel;
+          kernel = record { holds = taken.core.kernel; placed = done.placed };
           rest = ap (λ (v : Cpu). record now
               { cpu = v; memory = x.memory; blocks = x.blocks; libraries = x.libraries })
               (sym taken.core.processor)
@@ -191,7 +192,7 @@ module _ {m left : Program} {code : ℕ} {after : After} {a b : Output}
 
   -- what it answered becomes of its caller
   answer_is : (s : Iop) → Stands m s → after ≡ (did code s).left.after
-  answer_is = carried m (λ s. after ≡ (did code s).left.after) (λ k stands. (h.serves k stands).core.answer)
+  answer_is = carried m (λ s. after ≡ (did code s).left.after) (λ k stands. (h.serves k stands).served.core.answer)
 
   -- then by what becomes of its caller
   pub calls_takes : (r : After) → after ≡ r → {now : Program} {c : Output} (s : Iop) → Stands m s
@@ -230,7 +231,8 @@ module _ {m left : Program} {code : ℕ} {after : After} {a b : Output}
   pub clock_left : (s : Iop) → Stands m s → is_some s.kernel.threads.running ≡ true
       → left.kernel.clock ≡ m.kernel.clock
   clock_left s stands runs =
-      sym (serves_takes s stands).state.kernel.clock ∙ (keeps s runs).clock ∙ stands.kernel.clock
+      sym (serves_takes s stands).state.kernel.holds.clock ∙ (keeps s runs).clock
+      ∙ stands.kernel.holds.clock
 
   -- and the blocks are those of the same memory
   pub size_left : (s : Iop) → Stands m s → is_some s.kernel.threads.running ≡ true
@@ -241,11 +243,11 @@ module _ {m left : Program} {code : ℕ} {after : After} {a b : Output}
       let memory = kept.memory in
       sym (ap (λ (v : Iop). v.blocks.size) left_is) ∙ kept.blocks.size ∙ ap (λ (v : Iop). v.blocks.size) stands.rest
       ∙ same ∙ ap (λ (v : Iop). length v.memory.ram) (sym stands.rest)
-      ∙ sym (ap (λ (x : Memory). length x.ram) memory.left ∙ length-after_store s.memory memory.place memory.bytes memory.inside)
+      ∙ sym (ap (λ (x : Memory). length x.ram) memory.left ∙ length-after_stores s.memory memory.stores memory.inside)
       ∙ ap (λ (v : Iop). length v.memory.ram) left_is
 
 -- the module that returned takes no time
 pub clock_returned : {v now : Program} {a b : Output} (value : ℕ) (s : Iop) → Stands v s
     → Takes Stands (returns_by s s.begun value) now a b → now.kernel.clock ≡ v.kernel.clock
 clock_returned value s stands t =
-    sym t.state.kernel.clock ∙ returns_clock s s.begun value ∙ stands.kernel.clock
+    sym t.state.kernel.holds.clock ∙ returns_clock s s.begun value ∙ stands.kernel.holds.clock

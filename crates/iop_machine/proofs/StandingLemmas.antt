@@ -34,7 +34,7 @@ IsMoment m t = (k : Kernel) → kernel.Stands StandsFor m.kernel k → t ≡ k.c
 -- which is the number that it has
 pub moment_is : (m : Program) (t : ℕ) → IsMoment m t → IsSound m → t ≡ m.kernel.clock
 moment_is m t moment sound =
-    moment sound.0.kernel sound.1.kernel ∙ sound.1.kernel.clock
+    moment sound.0.kernel sound.1.kernel ∙ sound.1.kernel.holds.clock
 
 -- it is stopped
 pub stands_stopped : (m : Program) (over : Option Stop) (s : Iop) → Stands m s

@@ -10,9 +10,11 @@ use Rattle.iop_stubs.specs.Binding.{IsSound}
 use Rattle.iop_stubs.specs.Stubs.{Memory, stub_line}
 use Rattle.iop_stubs.specs.declared.live_stub.Stub.{Stub}
 use Rattle.iop_modload.specs.Laws.{HasBlocks}
+use Rattle.iop_machine.specs.Histories.{calls_in}
 use Rattle.iop_machine.specs.Running.{Ends, Runs}
 use Rattle.iop_machine.specs.Stepping.{step, steps, executes, run_of}
 use Rattle.iop_machine.specs.World.{World, booted, beginning}
+use Rattle.iop_kernel.specs.Histories.{AreCounted, AreDelivered}
 use Rattle.iop_kernel.specs.Laws.{IsCore, IsSwitch}
 use Rattle.iop_kernel.specs.Dispatching.{Dispatched, dispatches}
 use Rattle.iop_kernel.specs.System.{may_switch}
@@ -152,3 +154,19 @@ RunsAreStrict =
     (size : ℕ) (modules : List Module) (k : ℕ) → IsRamSize size
     → let run = steps (suc k) (beginning size modules) in
     run.state.iop.over ≡ None → IsStrict run.state.iop
+
+-- in each state that a run reaches, the count of each live semaphore is what its first count and
+-- the calls of the run so far have made of it, and at most its most
+abbrev pub RunsAreCounted : Type 0
+RunsAreCounted =
+    (size : ℕ) (modules : List Module) (k : ℕ) → IsRamSize size
+    → let world = beginning size modules in
+    AreCounted (steps k world).state.iop.kernel.semaphores (calls_in k world)
+
+-- and each message that was sent to a live mailbox was received from it or is queued, as often, in
+-- order where messages are not taken by their priority
+abbrev pub RunsAreDelivered : Type 0
+RunsAreDelivered =
+    (size : ℕ) (modules : List Module) (k : ℕ) → IsRamSize size
+    → let world = beginning size modules in
+    AreDelivered (steps k world).state.iop.kernel.mailboxes (calls_in k world)

@@ -6,6 +6,7 @@ pub mod Storing
 pub mod Services
 pub mod Loading
 pub mod Stepping
+pub mod Histories
 pub mod Running
 pub mod Advancing
 pub mod Laws

@@ -3,7 +3,7 @@
 
 ghost use Rattle.iop_machine.specs.ArgumentLaws.{ArgumentsAreRead};
 ghost use Rattle.iop_machine.specs.AreaLaws.{KernelAreaIsRead, BootingKeepsKernel};
-ghost use Rattle.iop_machine.specs.Laws.{StepsCompose, RunsCompose, RunsAreDetermined, OverStays, RunsEnd, RunsAreComputed, StubsReachTheirFunctions, RunsStaySound, StubsLeaveWithTheirLine, RunsKeepStubs, StubsAreFollowed, RunsAreStrict};
+ghost use Rattle.iop_machine.specs.Laws.{StepsCompose, RunsCompose, RunsAreDetermined, OverStays, RunsEnd, RunsAreComputed, StubsReachTheirFunctions, RunsStaySound, StubsLeaveWithTheirLine, RunsKeepStubs, StubsAreFollowed, RunsAreStrict, RunsAreCounted, RunsAreDelivered};
 
 /// The steps of a run are those of its first part, and then those of the rest.
 pub fn steps_compose()
@@ -62,7 +62,8 @@ pub fn arguments_are_read()
 
 /// In each state that the machine reaches from its beginning memory is sound, the blocks are those
 /// of that memory, each live stub is one that a linking has bound on the way, threads stand where
-/// their states say, and outside a delay slot the next instruction of each is the one behind.
+/// their states say, no wait is overdue, and outside a delay slot the next instruction of each is the
+/// one behind.
 pub fn runs_stay_sound()
     ensures { RunsStaySound }
 {}
@@ -88,4 +89,18 @@ pub fn stubs_are_followed()
 /// and tells it; and no instruction is executed while a better thread is ready and may run.
 pub fn runs_are_strict()
     ensures { RunsAreStrict }
+{}
+
+/// In each state that a run reaches, the count of each live semaphore is its first count, and one
+/// more for each call so far that signalled it where no thread waited, and one less for each that
+/// took one; and it is at most the semaphore's most.
+pub fn runs_are_counted()
+    ensures { RunsAreCounted }
+{}
+
+/// In each state that a run reaches, what the calls so far have sent to a live mailbox was received
+/// from it or is queued in it, each message as often. Where messages are taken in order of their
+/// arrival, those that were received are the first that were sent, in that order.
+pub fn runs_are_delivered()
+    ensures { RunsAreDelivered }
 {}

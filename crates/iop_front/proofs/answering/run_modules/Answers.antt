@@ -18,7 +18,7 @@ new-requires-clause-room g c =
     (have_room 1 c.args.modules.items c.requires.short)
 
 pub run_to_end-requires-clause-new : goal.run_to_end-requires-clause-new
-run_to_end-requires-clause-new g c = sym c.in-Ok.ensures.stands.iop.kernel.clock
+run_to_end-requires-clause-new g c = sym c.in-Ok.ensures.stands.iop.kernel.holds.clock
 
 pub returns-in-Ok : goal.returns-in-Ok
 returns-in-Ok g c =

@@ -1,4 +1,4 @@
-use Rattle.iop_kernel.proofs.Standing.{stands_with}
+use Rattle.iop_kernel.proofs.Standing.{holds_with}
 use Rattle.iop_kernel.proofs.Refusals.{change_refused}
 use Rattle.iop_kernel.proofs.kernel.Kernel.change.Goals as goal
 
@@ -8,6 +8,6 @@ returns-in-Err g c = λ k h.
     let refused = change_refused k.threads c.args.id c.args.priority c.in-Err.code told.0 in
     rw refused (record {
       answer = c.answer-in-Err.ensures.after;
-      kernel = stands_with g.R.Ready.stands h (rw refused at told.1);
+      kernel = holds_with g.R.Ready.stands h (rw refused at told.1);
       processor = c.answer-in-Err.ensures.processor;
     })

@@ -1,6 +1,6 @@
 use Rattle.std.proofs.Common.{refl}
 use Rattle.iop_kernel.proofs.Deletions.{deletes_refused}
-use Rattle.iop_kernel.proofs.Standing.{stands_with}
+use Rattle.iop_kernel.proofs.Standing.{holds_with}
 use Rattle.iop_kernel.proofs.kernel.Kernel.delete_other.Goals as goal
 
 pub returns-in-Err : goal.returns-in-Err
@@ -11,7 +11,7 @@ returns-in-Err g c = λ k h.
     rw refused (record {
       core = record {
         answer = told.after;
-        kernel = stands_with g.R.Ready.stands h (rw refused at d).1;
+        kernel = holds_with g.R.Ready.stands h (rw refused at d).1;
         processor = told.processor;
       };
       map = refl;

@@ -3,7 +3,7 @@ use Rattle.iop_exec.specs.Row.{with_reg}
 use Rattle.iop_kernel.specs.Standing.{core}
 use Rattle.iop_kernel.specs.System.{code_word}
 use Rattle.iop_kernel.proofs.Callers.{suspends_other}
-use Rattle.iop_kernel.proofs.Standing.{stands_with}
+use Rattle.iop_kernel.proofs.Standing.{holds_with}
 use Rattle.iop_kernel.proofs.kernel.Kernel.suspend_thread.Goals as goal
 
 pub returns : goal.returns
@@ -13,7 +13,7 @@ returns g c = λ k h.
     let cpu = c.args.cpu.now in
     rw (suspends_other (core k cpu) c.args.id other) (record {
       answer = c.answer-2.ensures.after;
-      kernel = stands_with g.R.Ready.stands h told.1;
+      kernel = holds_with g.R.Ready.stands h told.1;
       processor = c.answer-2.ensures.processor
           ∙ ap (λ code. with_reg cpu 2 (code_word code)) told.0;
     })

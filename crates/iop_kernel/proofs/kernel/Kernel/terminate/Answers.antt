@@ -1,30 +1,32 @@
-use Rattle.std.proofs.Common.{sym, ◌∙◌}
+use Rattle.std.proofs.Common.{true, false, sym, ◌∙◌}
 use Rattle.iop_thread.specs.Operations.{terminates}
 use Rattle.iop_kernel.specs.Standing.{core}
-use Rattle.iop_kernel.proofs.Standing.{stands_with}
-use Rattle.iop_kernel.proofs.Refusals.{terminate_refused}
-use Rattle.iop_kernel.proofs.Terminating.{terminates_running}
+use Rattle.iop_kernel.specs.System.{with_threads, opened}
+use Rattle.iop_kernel.proofs.Standing.{holds_with}
+use Rattle.iop_kernel.proofs.Terminating.{terminates_is}
 use Rattle.iop_kernel.proofs.kernel.Kernel.terminate.Goals as goal
+use Rattle.iop_kernel.proofs.kernel.Kernel.terminate.Goals.{then-ran, else-ran}
 
-pub returns-in-Ok : goal.returns-in-Ok
-returns-in-Ok g c = λ k h.
+pub returns-after-ran : goal.returns-after-ran
+returns-after-ran g c = λ k h.
+    let start = core k c.args.cpu.now in
+    let id = c.args.id in
+    let wait = c.in-Ok.wait in
+    let did = terminates k.threads id in
     let told = c.in-Ok.ensures k.threads h.threads in
-    let did = terminates k.threads c.args.id in
-    let ran = sym (c.is_running-ran.ensures k h) ∙ c.if-ran.true in
-    let ended = terminates_running (core k c.args.cpu.now) c.args.id did c.in-Ok.field-0 told.0 ran in
-    rw ended (record {
-      answer = c.answer.ensures.after;
-      kernel = c.open.ensures (record k { threads = did.1 })
-          (stands_with g.R.Ready.stands h told.1);
-      processor = c.answer.ensures.processor;
-    })
-
-pub returns-in-Err : goal.returns-in-Err
-returns-in-Err g c = λ k h.
-    let told = c.in-Err.ensures k.threads h.threads in
-    let refused = terminate_refused k.threads c.args.id c.in-Err.code told.0 in
-    rw refused (record {
-      answer = c.answer-in-Err.ensures.after;
-      kernel = stands_with g.R.Ready.stands h (rw refused at told.1);
-      processor = c.answer-in-Err.ensures.processor;
-    })
+    let ran = sym (c.is_running-ran.ensures k h) in
+    let is = terminates_is start id did wait in
+    let ended = holds_with g.R.Ready.stands h told.1 in
+    elim c.if-ran.branch [
+      | then-ran w ↦ rw (is true told.0 (ran ∙ w.if-ran.true)) (record {
+        answer = c.answer.ensures.after;
+        kernel = c.leave_object.ensures (with_threads (opened start) did.1).kernel
+            (rw w.self-is (w.open.ensures (record k { threads = did.1 }) ended));
+        processor = c.answer.ensures.processor;
+      })
+      | else-ran w ↦ rw (is false told.0 (ran ∙ w.if-ran.false)) (record {
+        answer = c.answer.ensures.after;
+        kernel = c.leave_object.ensures (with_threads start did.1).kernel (rw w.self-is ended);
+        processor = c.answer.ensures.processor;
+      })
+    ]

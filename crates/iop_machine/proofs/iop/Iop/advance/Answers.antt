@@ -42,7 +42,7 @@ burst-requires-clause-time g c =
     c.requires.goes_on c.dispatch.ensures.settles c.if-not-dispatch.false c.requires.sound.0
     c.requires.sound.1 in
     let same = same_clock settled.1 in
-    omega (arith, c.requires.time, same, c.requires.sound.1.kernel.clock)
+    omega (arith, c.requires.time, same, c.requires.sound.1.kernel.holds.clock)
 
 pub returns-clause-progresses : goal.returns-clause-progresses
 returns-clause-progresses g c = λ s h.

@@ -6,7 +6,7 @@ use Rattle.iop_machine.proofs.iop.Iop.burst.Goals as goal
 pub instructions-init : goal.instructions-init
 instructions-init g c =
     let h = c.requires.runs.1.kernel in
-    let now = c.now-clock.ensures.moment c.requires.runs.0.kernel h ∙ h.clock in
+    let now = c.now-clock.ensures.moment c.requires.runs.0.kernel h ∙ h.holds.clock in
     record {
       time = omega (arith, c.requires.time, now);
       later = omega (arith, now);
@@ -59,7 +59,7 @@ pub conclude-requires-clause-time : goal.conclude-requires-clause-time
 conclude-requires-clause-time g c =
     let r = burst_runs c.instructions.self c.perform.new.guest c.requires.runs
     c.instructions.invariant.bursts in
-    let clock = (c.settle-in_default.ensures r.0 r.1).kernel.clock in
+    let clock = (c.settle-in_default.ensures r.0 r.1).kernel.holds.clock in
     let i = c.instructions.invariant in omega (arith, clock, i.time, i.some)
 
 pub conclude-requires-clause-same_size : goal.conclude-requires-clause-same_size

@@ -9,7 +9,7 @@ use Rattle.iop_machine.proofs.iop.Iop.call.Goals as goal
 
 pub service-after-requires : goal.service-after-requires
 service-after-requires g c = record {
-  sound = (_, c.requires.runs.1.kernel);
+  active = (_, c.requires.runs.1.kernel, c.requires.runs.2);
   same_size = c.requires.same_size;
 }
 

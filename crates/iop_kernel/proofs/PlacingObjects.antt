@@ -1,0 +1,150 @@
+-- The threads that wait for an object, when one of a table changes, comes or goes.
+use Rattle.std.proofs.Common.{◌≡◌, ◌≢◌, ℕ, ◌+◌, ◌<◌, ◌==◌, Bool, true, false, not, if◌then◌else◌, Option, Some, None, option_map, List, [], ◌∷◌, ◌++◌, length, get_or, map, filter, All, AllPairs, refl, ap, sym, ◌∙◌, arith}
+use Rattle.std.proofs.lemmas.Bool.Decides.{nat_tests}
+use Rattle.std.proofs.lemmas.List.{get_or-map, length-map}
+use Rattle.std.proofs.lemmas.List.Elements.{All-map, All-push, All-weaker}
+use Rattle.std.proofs.lemmas.List.Quantifiers.{all_pairs_push}
+use Rattle.iop_objects.specs.Objects.{Object, Objects, object_of, waiters_in, waiters_of, changes}
+
+module _ {A W : Type 0} where
+  -- no two objects have one id
+  abbrev pub HaveOwnIds : List (Object A W) → Type 0
+  HaveOwnIds live = AllPairs (λ a b. a.id ≢ b.id) live
+
+  -- none has an id that is still to be given
+  abbrev pub HaveIdsBelow : ℕ → List (Object A W) → Type 0
+  HaveIdsBelow next live = All (λ o. o.id < next) live
+
+  -- the object that is found has the id
+  pub object_of_id : (live : List (Object A W)) (id : ℕ) (o : Object A W)
+      → object_of live id ≡ Some o → o.id ≡ id
+  object_of_id [] id o found = cc
+  object_of_id (x ∷ live) id o found = grind (arith, nat_tests, object_of_id live id o, found)
+
+  -- those of an id go
+  pub object_of_without : (live : List (Object A W)) (id other : ℕ)
+      → object_of (filter (λ o. not (o.id == id)) live) other
+      ≡ (if other == id then None else object_of live other)
+  object_of_without [] id other = grind (arith, nat_tests)
+  object_of_without (o ∷ live) id other = grind (arith, nat_tests, object_of_without live id other)
+
+  -- then none waits for one of that id, and each other is waited for as before
+  pub waiters_without : (live : List (Object A W)) (id other : ℕ)
+      → waiters_in (object_of (filter (λ o. not (o.id == id)) live) other)
+      ≡ (if other == id then [] else waiters_in (object_of live other))
+  waiters_without live id other =
+      ap waiters_in (object_of_without live id other) ∙ by (other == id)
+    where
+      by : (b : Bool) → waiters_in (if b then None else object_of live other)
+          ≡ (if b then [] else waiters_in (object_of live other))
+      by true = refl
+      by false = refl
+
+  -- an object comes for which none waits
+  pub waiters_added : (live : List (Object A W)) (made : Object A W) → made.waiters ≡ [] → (id : ℕ)
+      → waiters_in (object_of (live ++ made ∷ []) id) ≡ waiters_in (object_of live id)
+  waiters_added [] made none id = by (made.id == id)
+    where
+      by : (b : Bool) → waiters_in (if b then Some made else None) ≡ []
+      by true = none
+      by false = refl
+  waiters_added (o ∷ live) made none id = by (o.id == id) (waiters_added live made none id)
+    where
+      by : (b : Bool)
+          → waiters_in (object_of (live ++ made ∷ []) id) ≡ waiters_in (object_of live id)
+          → waiters_in (if b then Some o else object_of (live ++ made ∷ []) id)
+          ≡ waiters_in (if b then Some o else object_of live id)
+      by true later = refl
+      by false later = later
+
+  -- it has an id of its own
+  pub own_ids_added : (live : List (Object A W)) (made : Object A W) → HaveIdsBelow made.id live
+      → HaveOwnIds live → HaveOwnIds (live ++ made ∷ [])
+  own_ids_added live made given own =
+      all_pairs_push (λ a b. a.id ≢ b.id) live made own
+      (λ k d below. let small = given k d below in omega (arith, small))
+
+  -- and the next one is still to be given
+  pub ids_below_added : (live : List (Object A W)) (made : Object A W) → HaveIdsBelow made.id live
+      → HaveIdsBelow (made.id + 1) (live ++ made ∷ [])
+  ids_below_added live made given =
+      All-push (λ o. o.id < made.id + 1) live made
+      (All-weaker (λ (o : Object A W). o.id < made.id) (λ o. o.id < made.id + 1)
+      (λ o small. omega (arith, small)) live given)
+      (omega arith)
+
+module _ {A W : Type 0} (id : ℕ) (change : Object A W → Object A W)
+    (keeps : (o : Object A W) → (change o).id ≡ o.id) where
+  -- an object changes, if it is that of the id
+  abbrev pub changed : Object A W → Object A W
+  changed o = if o.id == id then change o else o
+
+  -- it keeps its id
+  changed_id : (o : Object A W) → (changed o).id ≡ o.id
+  changed_id o = by (o.id == id)
+    where
+      by : (b : Bool) → (if b then change o else o).id ≡ o.id
+      by true = keeps o
+      by false = refl
+
+  -- no two have one id then
+  pub own_ids_changed : (live : List (Object A W)) → HaveOwnIds live → HaveOwnIds (map changed live)
+  own_ids_changed live own = λ i j d less below.
+      let inside : j < length live = omega (arith, below, length-map live changed) in
+      let before : i < length live = omega (arith, less, inside) in
+      rw (get_or-map changed live i d d before, get_or-map changed live j d d inside)
+      (λ same. own i j d less inside
+      (sym (changed_id (get_or live i d)) ∙ same ∙ changed_id (get_or live j d)))
+
+  -- and none one that is still to be given
+  pub ids_below_changed : (next : ℕ) (live : List (Object A W)) → HaveIdsBelow next live
+      → HaveIdsBelow next (map changed live)
+  ids_below_changed next live given =
+      All-map (λ (o : Object A W). o.id < next) changed live
+      (All-weaker (λ (o : Object A W). o.id < next) (λ o. (changed o).id < next)
+      (λ o small. omega (arith, small, changed_id o)) live given)
+
+  -- what is found is what was found, changed
+  pub object_of_changed : (live : List (Object A W)) (other : ℕ)
+      → object_of (map changed live) other ≡ option_map changed (object_of live other)
+  object_of_changed [] other = refl
+  object_of_changed (o ∷ live) other =
+      by (o.id == other) refl (object_of_changed live other)
+    where
+      by : (b : Bool) → (o.id == other) ≡ b
+          → object_of (map changed live) other ≡ option_map changed (object_of live other)
+          → object_of (map changed (o ∷ live)) other
+          ≡ option_map changed (if b then Some o else object_of live other)
+      by true is later =
+          let here : ((changed o).id == other) ≡ true = ap (λ n. n == other) (changed_id o) ∙ is in
+          rw here refl
+      by false is later =
+          let here : ((changed o).id == other) ≡ false = ap (λ n. n == other) (changed_id o) ∙ is in
+          rw here later
+
+  module _ (s : Objects A W) where
+    -- another object is waited for as before
+    pub waiters_other : (other : ℕ) → (other == id) ≡ false
+        → waiters_of (changes s id change) other ≡ waiters_of s other
+    waiters_other other apart =
+        ap waiters_in (object_of_changed s.live other) ∙ by (object_of s.live other) refl
+      where
+        by : (o : Option (Object A W)) → object_of s.live other ≡ o
+            → waiters_in (option_map changed o) ≡ waiters_in o
+        by None found = refl
+        by (Some o) found =
+            let is = object_of_id s.live other o found in
+            let beside : (o.id == id) ≡ false = grind (arith, nat_tests, is, apart) in
+            rw beside refl
+
+    -- the one of the id changes, if there is one
+    pub waiters_own : waiters_of (changes s id change) id
+        ≡ waiters_in (option_map change (object_of s.live id))
+    waiters_own = ap waiters_in (object_of_changed s.live id) ∙ by (object_of s.live id) refl
+      where
+        by : (o : Option (Object A W)) → object_of s.live id ≡ o
+            → waiters_in (option_map changed o) ≡ waiters_in (option_map change o)
+        by None found = refl
+        by (Some o) found =
+            let is = object_of_id s.live id o found in
+            let own : (o.id == id) ≡ true = grind (arith, nat_tests, is) in rw own refl

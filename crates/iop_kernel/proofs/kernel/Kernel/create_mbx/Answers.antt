@@ -1,0 +1,26 @@
+use Rattle.std.proofs.Common.{◌+◌, ap, sym, ◌∙◌}
+use Rattle.iop_base.specs.Numbers.{word_at}
+use Rattle.iop_exec.specs.Row.{with_reg}
+use Rattle.iop_mbx.specs.Mailboxes.{creates}
+use Rattle.iop_kernel.specs.Standing.{core}
+use Rattle.iop_kernel.specs.System.{result_word}
+use Rattle.iop_kernel.proofs.MailboxCalls.{holds_mailboxes, creates_there}
+use Rattle.iop_kernel.proofs.kernel.Kernel.create_mbx.Goals as goal
+
+pub returns : goal.returns
+returns g c = λ k h.
+    let place = c.in-Some.place in
+    let ram = c.ram-ram.ensures.value in
+    let attr = c.word.result in
+    let option = c.word-2.result in
+    let same = ap (λ s. creates s attr option) h.mailboxes in
+    let told = c.create-made.ensures in
+    rw (creates_there (core k c.args.cpu.now) c.args.guest.now c.args.at place attr option
+    c.in-Some.ensures.place (c.word.ensures.value ∙ ap (λ bytes. word_at bytes place) ram)
+    (c.word-2.ensures.value ∙ ap (λ bytes. word_at bytes (place + 4)) ram)) (record {
+      answer = c.answer_result.ensures.after;
+      kernel = holds_mailboxes g.R.Ready.stands h (ap (λ d. d.1) same ∙ sym told.left);
+      processor = c.answer_result.ensures.processor
+          ∙ ap (λ r. with_reg c.args.cpu.now 2 (result_word r))
+          (told.answer ∙ sym (ap (λ d. d.0) same));
+    })

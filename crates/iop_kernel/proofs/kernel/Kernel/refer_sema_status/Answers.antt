@@ -1,0 +1,23 @@
+use Rattle.std.proofs.Common.{ap, sym, ◌∙◌}
+use Rattle.iop_objects.specs.Objects.{state_of, waiters_of}
+use Rattle.std.proofs.Common.{length}
+use Rattle.iop_kernel.specs.Standing.{board}
+use Rattle.iop_kernel.proofs.SemaphoreCalls.{refers_live}
+use Rattle.iop_kernel.proofs.kernel.Kernel.refer_sema_status.Goals as goal
+
+pub returns : goal.returns
+returns g c = λ k h.
+    let id = c.args.id in
+    let b = board k c.args.cpu.now c.args.guest.now in
+    let same = sym h.semaphores in
+    rw (refers_live b id c.args.at c.in-Some.place c.in-Some-get.semaphore c.waiters.result
+    c.in-Some.ensures.place (c.in-Some-get.ensures ∙ ap (λ s. state_of s id) same)
+    (c.waiters.ensures.count ∙ ap (λ s. length (waiters_of s id)) same)) (record {
+      core = record {
+        answer = c.answer-2.ensures.after;
+        kernel = h;
+        processor = c.answer-2.ensures.processor;
+      };
+      ram = c.store_words.ensures.memory;
+      gives = rw h.clock c.store_words.ensures.lines;
+    })

@@ -1,0 +1,5 @@
+use Rattle.iop_kernel.proofs.StatusReading.{semaphore_status_is_read}
+use Rattle.iop_kernel.proofs.laws.semaphore_status_is_read.Goals as goal
+
+pub returns : goal.returns
+returns c = semaphore_status_is_read

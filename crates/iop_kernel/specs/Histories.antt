@@ -1,0 +1,152 @@
+-- Calls of services, as the history of a run has them (ps2sdk: thsemap.h, thmsgbx.h).
+use Rattle.std.specs.Prelude.{◌≡◌, ℕ, ◌+◌, ◌≤◌, ◌==◌, Bool, true, false, ◌&&◌, not, if◌then◌else◌, Option, Some, None, Result, Ok, Err, List, [], ◌∷◌, ◌++◌, length, map, sum_by, flat_map}
+use Rattle.iop_base.specs.declared.code.Code.{Code}
+use Rattle.iop_exec.specs.Arithmetic.{one_if}
+use Rattle.iop_exec.specs.Row.{reg}
+use Rattle.iop_mbx.specs.Mailboxes.{Mailboxes, Mailbox, gets, messages_by_priority}
+use Rattle.iop_objects.specs.Objects.{state_of, waiters_of}
+use Rattle.iop_sema.specs.Semaphores.{Semaphores}
+use Rattle.iop_sema.specs.declared.semaphore.Semaphore.{Semaphore}
+use Rattle.iop_services.specs.Table.{row_of}
+use Rattle.iop_services.specs.declared.row.Row.{Row}
+use Rattle.iop_services.specs.declared.service.Service.{Service}
+use Rattle.iop_services.specs.declared.service.Service.TheVariants as service
+use Rattle.iop_thread.specs.Placing.{times}
+use Rattle.iop_kernel.specs.Serving.{call_of, services}
+use Rattle.iop_kernel.specs.System.{Core, System, Served, argument}
+use Rattle.iop_kernel.specs.declared.after.After.{After}
+use Rattle.iop_kernel.specs.declared.after.After.TheVariants.{Resume}
+use Rattle.iop_kernel.specs.declared.call.Call.{Call}
+use Rattle.iop_kernel.specs.declared.call.Call.TheVariants.{Library}
+
+pub record Called : Type 0 where
+  pub service : Service
+  -- its first two arguments
+  pub first : ℕ
+  pub second : ℕ
+  -- whether a thread waited for the object that it names, before it
+  pub had_waiter : Bool
+  -- what it answered, where its caller goes on
+  pub answer : Option ℕ
+  -- the message that it received, or 0
+  pub message : ℕ
+
+-- whether a thread waits for the object that a signal or a send names
+abbrev pub has_waiter : Core → Service → Bool
+has_waiter c service.SignalSema = not (length (waiters_of c.kernel.semaphores (argument c 0)) == 0)
+has_waiter c service.SendMbx = not (length (waiters_of c.kernel.mailboxes (argument c 0)) == 0)
+has_waiter c other = false
+
+-- the message that a call receives
+abbrev pub message_in : Result ℕ Code → ℕ
+message_in (Ok message) = message
+message_in (Err code) = 0
+
+abbrev pub received_by : Core → Service → ℕ
+received_by c service.ReceiveMbx = message_in (gets c.kernel.mailboxes (argument c 1)).0
+received_by c service.PollMbx = message_in (gets c.kernel.mailboxes (argument c 1)).0
+received_by c other = 0
+
+abbrev pub answer_of : After → Core → Option ℕ
+answer_of Resume c = Some (reg c.cpu 2)
+answer_of other c = None
+
+abbrev pub called_by : System → Served → Option Row → Option Called
+called_by s d None = None
+called_by s d (Some row) = Some (record {
+  service = row.service;
+  first = argument s.core 0;
+  second = argument s.core 1;
+  had_waiter = has_waiter s.core row.service;
+  answer = answer_of d.left.after d.left.state.core;
+  message = received_by s.core row.service;
+})
+
+abbrev pub called_of : System → Served → Option Call → Option Called
+called_of s d (Some (Library library number)) = called_by s d (row_of library number)
+called_of s d other = None
+
+-- the service that a `syscall` of a code is a call of, if it is one
+unfoldable pub called : System → (code : ℕ) → Option Called
+called s code = called_of s (services s code) (call_of code)
+
+-- whether a call answered 0
+abbrev pub succeeds_by : Option ℕ → Bool
+succeeds_by None = false
+succeeds_by (Some answer) = answer == 0
+
+abbrev pub succeeds : Called → Bool
+succeeds c = succeeds_by c.answer
+
+abbrev pub is_signal : Service → Bool
+is_signal service.SignalSema = true
+is_signal other = false
+
+abbrev pub is_take : Service → Bool
+is_take service.WaitSema = true
+is_take service.PollSema = true
+is_take other = false
+
+-- a signal of a semaphore for which none waited, and a take of one
+abbrev pub signals_in : (id : ℕ) → Called → ℕ
+signals_in id c = one_if (is_signal c.service && c.first == id && succeeds c && not c.had_waiter)
+
+abbrev pub takes_in : (id : ℕ) → Called → ℕ
+takes_in id c = one_if (is_take c.service && c.first == id && succeeds c)
+
+abbrev pub is_send : Service → Bool
+is_send service.SendMbx = true
+is_send other = false
+
+abbrev pub is_receive : Service → Bool
+is_receive service.ReceiveMbx = true
+is_receive service.PollMbx = true
+is_receive other = false
+
+abbrev pub list_if : Bool → ℕ → List ℕ
+list_if holds message = if holds then message ∷ [] else []
+
+-- the message that a call sent to a mailbox, and those that were received from it: one that was
+-- sent where a thread waited is received at once
+abbrev pub sent_in : (id : ℕ) → Called → List ℕ
+sent_in id c = list_if (is_send c.service && c.first == id && succeeds c) c.second
+
+abbrev pub received_in : (id : ℕ) → Called → List ℕ
+received_in id c =
+    list_if (is_send c.service && c.first == id && succeeds c && c.had_waiter) c.second
+    ++ list_if (is_receive c.service && c.second == id && succeeds c) c.message
+
+-- over a whole history
+abbrev pub signals : (id : ℕ) → List Called → ℕ
+signals id history = sum_by (signals_in id) history
+
+abbrev pub takes : (id : ℕ) → List Called → ℕ
+takes id history = sum_by (takes_in id) history
+
+abbrev pub sent : (id : ℕ) → List Called → List ℕ
+sent id history = flat_map (sent_in id) history
+
+abbrev pub received : (id : ℕ) → List Called → List ℕ
+received id history = flat_map (received_in id) history
+
+-- for each live semaphore, the signals that found no waiter less the takes are what its count has
+-- grown by, and it is at most the most
+abbrev pub AreCounted : Semaphores → List Called → Type 0
+AreCounted s history =
+    (id : ℕ) (x : Semaphore) → state_of s id ≡ Some x
+    → (x.count + takes id history ≡ x.initial + signals id history) × (x.count ≤ x.max)
+
+-- the messages that a mailbox has, in order of their arrival
+abbrev pub queued : Mailbox → List ℕ
+queued x = map (λ m. m.item) x.messages
+
+-- what was sent to a mailbox was received or is queued, each as often; in order, where messages are
+-- not taken by their priority
+pub record IsDelivered (x : Mailbox) (sent received : List ℕ) : Type 0 where
+  pub all : (message : ℕ) → times message sent ≡ times message received + times message (queued x)
+  pub order : messages_by_priority x.attr ≡ false → sent ≡ received ++ queued x
+
+abbrev pub AreDelivered : Mailboxes → List Called → Type 0
+AreDelivered s history =
+    (id : ℕ) (x : Mailbox) → state_of s id ≡ Some x
+    → IsDelivered x (sent id history) (received id history)

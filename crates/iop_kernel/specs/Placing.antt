@@ -1,0 +1,40 @@
+-- Where threads and those that wait stand, at all times (ps2sdk: thread.h): a law of the services.
+use Rattle.std.specs.Prelude.{◌≡◌, ◌≢◌, ℕ, ◌<◌, ◌==◌, Bool, false, Option, Some, All, AllPairs}
+use Rattle.iop_exec.specs.Arithmetic.{one_if}
+use Rattle.iop_objects.specs.Objects.{Objects, waiters_of}
+use Rattle.iop_thread.specs.Placing as threads
+use Rattle.iop_thread.specs.Placing.{times}
+use Rattle.iop_thread.specs.ThreadTable.{ThreadTable}
+use Rattle.iop_thread.specs.Waits.{wait_of}
+use Rattle.iop_thread.specs.declared.wait.Wait.{Wait}
+use Rattle.iop_thread.specs.declared.wait.Wait.TheVariants.{Semaphore, EventFlag, Mailbox}
+use Rattle.iop_kernel.specs.System.{Kernel}
+use Rattle.iop_kernel.specs.Waits.{threads_of}
+
+-- whether that is the semaphore, the event flag or the mailbox of an id
+abbrev pub is_for_semaphore : ℕ → Option Wait → Bool
+is_for_semaphore id (Some (Semaphore one)) = one == id
+is_for_semaphore id other = false
+
+abbrev pub is_for_event_flag : ℕ → Option Wait → Bool
+is_for_event_flag id (Some (EventFlag one)) = one == id
+is_for_event_flag id other = false
+
+abbrev pub is_for_mailbox : ℕ → Option Wait → Bool
+is_for_mailbox id (Some (Mailbox one)) = one == id
+is_for_mailbox id other = false
+
+-- the threads that wait for the objects of a kind are those whose waits say so, each once
+pub record AreWaited {A W : Type 0} (s : Objects A W) (is_for : ℕ → Option Wait → Bool)
+    (threads : ThreadTable) : Type 0 where
+  pub waiters : (id thread : ℕ)
+      → times thread (threads_of (waiters_of s id)) ≡ one_if (is_for id (wait_of threads thread))
+  -- no two live objects have one id, and none has one that is still to be given
+  pub ids : AllPairs (λ a b. a.id ≢ b.id) s.live
+  pub given : All (λ o. o.id < s.next) s.live
+
+pub record IsPlaced (k : Kernel) : Type 0 where
+  pub threads : threads.IsPlaced k.threads
+  pub semaphores : AreWaited k.semaphores is_for_semaphore k.threads
+  pub event_flags : AreWaited k.event_flags is_for_event_flag k.threads
+  pub mailboxes : AreWaited k.mailboxes is_for_mailbox k.threads

@@ -1,0 +1,62 @@
+-- How the waits of threads for objects end and change (ps2sdk: thsemap, thevent, thmsgbx). That a
+-- waiter of another priority comes behind the others, where they are chosen by priority, is this
+-- project's own profile.
+use Rattle.std.specs.Prelude.{ℕ, ◌==◌, Bool, false, Option, Some, List, [], ◌∷◌, map}
+use Rattle.iop_base.specs.declared.code.Code.{Code}
+use Rattle.iop_mbx.specs.Mailboxes as mailboxes
+use Rattle.iop_objects.specs.Objects.{drops, requeues}
+use Rattle.iop_objects.specs.declared.queued.Queued.{Queued}
+use Rattle.iop_objects.specs.declared.waiter.Waiter.{Waiter}
+use Rattle.iop_sema.specs.Semaphores as semaphores
+use Rattle.iop_thread.specs.Operations as threads
+use Rattle.iop_thread.specs.ThreadTable.{ThreadTable}
+use Rattle.iop_thread.specs.declared.wait.Wait.{Wait}
+use Rattle.iop_thread.specs.declared.wait.Wait.TheVariants.{Semaphore, EventFlag, Mailbox}
+use Rattle.iop_kernel.specs.System.{Kernel, Core, with_threads, code_word}
+
+-- whether a code is that one
+abbrev pub is_code : Code → Code → Bool
+is_code code other = code_word code == code_word other
+
+-- the threads of those that wait
+abbrev pub threads_of : {W : Type 0} → List (Queued (Waiter W)) → List ℕ
+threads_of waiters = map (λ x. x.item.thread) waiters
+
+-- the wait of a thread ends, with a code as its answer
+abbrev pub wakes_with : Core → (thread : ℕ) → Code → Core
+wakes_with c thread code =
+    with_threads c (threads.wakes c.kernel.threads thread (code_word code))
+
+-- those of several threads, one after the other
+abbrev pub wakes_all : ThreadTable → List ℕ → (word : ℕ) → ThreadTable
+wakes_all s [] word = s
+wakes_all s (id ∷ ids) word = wakes_all (threads.wakes s id word) ids word
+
+-- a thread is no longer among those that wait for the object of its wait
+abbrev pub leaves_object : Kernel → (thread : ℕ) → Option Wait → Kernel
+leaves_object k thread (Some (Semaphore id)) =
+    record k { semaphores = drops k.semaphores id thread }
+leaves_object k thread (Some (EventFlag id)) =
+    record k { event_flags = drops k.event_flags id thread }
+leaves_object k thread (Some (Mailbox id)) = record k { mailboxes = drops k.mailboxes id thread }
+leaves_object k thread other = k
+
+-- a thread has another priority among those that wait for the object of its wait
+abbrev pub requeues_at : Kernel → (thread priority : ℕ) → Option Wait → Kernel
+requeues_at k thread priority (Some (Semaphore id)) =
+    let by_priority = semaphores.is_by_priority k.semaphores id in
+    record k { semaphores = requeues k.semaphores id by_priority thread priority }
+requeues_at k thread priority (Some (EventFlag id)) =
+    record k { event_flags = requeues k.event_flags id false thread priority }
+requeues_at k thread priority (Some (Mailbox id)) =
+    let by_priority = mailboxes.is_by_priority k.mailboxes id in
+    record k { mailboxes = requeues k.mailboxes id by_priority thread priority }
+requeues_at k thread priority other = k
+
+-- the same of a core
+abbrev pub core_leaves : Core → (thread : ℕ) → Option Wait → Core
+core_leaves c thread wait = record c { kernel = leaves_object c.kernel thread wait }
+
+abbrev pub core_requeues : Core → (thread priority : ℕ) → Option Wait → Core
+core_requeues c thread priority wait =
+    record c { kernel = requeues_at c.kernel thread priority wait }

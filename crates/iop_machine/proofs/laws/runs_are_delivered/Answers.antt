@@ -1,0 +1,5 @@
+use Rattle.iop_machine.proofs.Histories.{runs_are_delivered}
+use Rattle.iop_machine.proofs.laws.runs_are_delivered.Goals as goal
+
+pub returns : goal.returns
+returns c = runs_are_delivered
