@@ -1,7 +1,7 @@
 #!/usr/bin/env python3
 """An independent model of the machine: what `iop` writes for some modules, computed in Python.
 
-    tests/model.py MODULE...        runs the modules as `iop` does; console on stdout, trace on stderr
+    tests/model.py [--script FILE] MODULE...    runs the modules as `iop` does; console on stdout, trace on stderr
 
 It is written from docs/PROFILE.md and docs/FORMATS.md, shares no line with the program, and does no more than the
 tests need: it takes well-formed files, and knows most services that are built and the more common instructions.
@@ -13,6 +13,31 @@ import sys
 SIZE = 0x200000
 LIBRARIES = ["loadcore", "sysmem", "intrman", "thbase", "thsemap", "thevent", "thmsgbx", "stdio"]
 BUDGET = 10_000_000
+NEVER = 2**63  # the moment that does not come
+
+# From where the services may be called: by a thread alone, by a handler alone, or by both. What is not here is not known.
+THREAD = {
+    "loadcore": {6, 7},
+    "intrman": {4, 5},
+    "thbase": {4, 5, 6, 8, 9, 10, 12, 13, 14, 16, 18, 20, 22, 24, 25, 27, 29, 31, 33, 35, 37},
+    "thsemap": {4, 5, 6, 8, 9, 11},
+    "thevent": {4, 5, 6, 8, 10, 11, 13},
+    "thmsgbx": {4, 5, 6, 8, 9, 11},
+}
+# The forms of services for handlers, and the services that they are.
+HANDLER = {
+    "thbase": {11: 10, 15: 14, 17: 16, 19: 18, 23: 22, 26: 25, 28: 27, 30: 29, 32: 31, 36: 35, 38: 37},
+    "thsemap": {7: 6, 12: 11},
+    "thevent": {7: 6, 9: 8, 14: 13},
+    "thmsgbx": {7: 6, 12: 11},
+}
+BOTH = {
+    "loadcore": {4, 5},
+    "sysmem": {4, 5, 7, 14},
+    "intrman": {6, 7, 8, 9, 17, 18, 23},
+    "thbase": {34, 39, 40},
+    "stdio": {4},
+}
 
 
 class Fault(Exception):
@@ -103,13 +128,22 @@ class Registers:
 
 
 class Thread:
-    """`state` is one of run, ready, wait, suspend, both, dormant; `object` is what it waits for, if that is an object, and `wants` what it asks of it."""
+    """`state` is one of run, ready, wait, suspend, both, dormant; `object` is what it waits for, if that is an object, and
+    `wants` what it asks of it; `delay` is the moment and the number of its delay, if it waits for a time."""
 
     def __init__(self, ident, attr, option, entry, size, priority, stack, gp):
         self.id, self.attr, self.option, self.entry = ident, attr, option, entry
         self.size, self.first, self.stack, self.gp = size, priority, stack, gp
         self.priority, self.wakeups, self.state, self.cpu = priority, 0, "dormant", None
-        self.object, self.wants = None, None
+        self.object, self.wants, self.delay = None, None, None
+
+    def waits_for(self):
+        """The kind and the id of its wait."""
+        if self.state not in ("wait", "both"):
+            return 0, 0
+        if self.object:
+            return self.object.WAIT, self.object.id
+        return (2 if self.delay else 1), 0
 
 
 class Object:
@@ -155,12 +189,25 @@ class Mailbox(Object):
         return min(self.messages, key=lambda m: m[0])
 
 
+class Line:
+    """An interrupt line; its handler is an address, an argument and a `$gp`."""
+
+    def __init__(self):
+        self.raised, self.enabled, self.handler = False, False, None
+
+
+class Alarm:
+    def __init__(self, number, moment, handler, arg, gp):
+        self.number, self.moment, self.handler, self.arg, self.gp = number, moment, handler, arg, gp
+
+
 NUMBERS = {"run": 1, "ready": 2, "wait": 4, "suspend": 8, "both": 12, "dormant": 16}
 
 
 class Machine:
-    def __init__(self, files):
+    def __init__(self, files, events, words):
         self.clock = 0
+        self.events, self.words = events, words  # (tick, line) in order; the words of a module by its number
         self.lines, self.console = [], b""
         self.memory, self.blocks = Memory(self), Blocks()
         self.registry = []
@@ -172,7 +219,10 @@ class Machine:
         self.objects = {kind: {} for kind in (Semaphore, EventFlag, Mailbox)}
         self.next_object = {kind: 1 for kind in self.objects}
         self.ready, self.running = [], None
-        self.dispatching = True
+        self.dispatching, self.interrupts = True, True
+        self.irqs = [Line() for _ in range(64)]
+        self.alarms, self.next_number = [], 1
+        self.handler = None  # what ends it, and the registers that are kept
         self.kernel_area()
 
     def trace(self, text):
@@ -282,10 +332,15 @@ class Machine:
                 continue
             base, length, entry, gp = result
             self.trace(f"load {number} ok {base:08x} {length:08x}")
+            words = [name.encode()] + self.words.get(number, [])
+            places, texts = b"", b""
+            for word in words:
+                places += struct.pack("<I", 0x2000 + 4 * len(words) + 4 + len(texts))
+                texts += word + b"\0"
             self.memory.write(0x2000, bytes(0x1000))
-            self.memory.write(0x2000, struct.pack("<II", 0x2008, 0) + name.encode() + b"\0")
+            self.memory.write(0x2000, places + bytes(4) + texts)
             self.module = number, base, length
-            return Registers(entry, a0=1, a1=0x2000, gp=gp, sp=0xFFF0, ra=0x3020)
+            return Registers(entry, a0=len(words), a1=0x2000, gp=gp, sp=0xFFF0, ra=0x3020)
         self.module = None
         return None
 
@@ -298,7 +353,7 @@ class Machine:
             self.memory.write(base, bytes(size))
             del self.blocks.used[base]
             self.registry = [e for e in self.registry if not base <= e[2] < base + size]
-        self.dispatching = True
+        self.dispatching = self.interrupts = True
         begins = self.load_next()
         if begins:
             self.cpu = begins
@@ -325,9 +380,12 @@ class Machine:
     def best(self):
         return min(self.ready, key=lambda i: self.threads[i].priority, default=None)
 
+    def may_wait(self):
+        return self.interrupts and self.dispatching
+
     def dispatch(self):
         best = self.best()
-        if not self.dispatching or best is None:
+        if not self.may_wait() or self.handler or best is None:
             return False
         if self.running is not None:
             running = self.threads[self.running]
@@ -344,56 +402,58 @@ class Machine:
 
     def service(self, number):
         """A service of thbase: its answer, or None where the caller does not go on."""
-        a, b = self.cpu.r[4], self.cpu.r[5]
-        threads, me = self.threads, self.running
-        if number in (11, 15, 17, 19, 23, 26, 28, 30, 32, 36, 38):
-            return -100
+        a, b, c = self.cpu.r[4:7]
+        threads, me = self.threads, None if self.handler else self.running
         if number == 4:
-            at = self.memory.place(a, 20, 4)
-            if at is None:
-                raise Fault("address")
-            attr, option, entry, size, priority = struct.unpack_from("<5I", self.memory.ram, at)
-            if attr & ~0x03000000:
-                return -401
-            if entry % 4:
-                return -402
-            if not 1 <= priority <= 126:
-                return -403
-            if size < 256:
-                return -404
-            if len(threads) >= 255:
-                return -400
-            stack = self.blocks.alloc(1, size, 0)
-            if not stack:
-                return -400
-            size = (size + 255) // 256 * 256
-            self.memory.write(stack, b"\xff" * size)
-            ident, self.next_id = self.next_id, self.next_id + 1
-            threads[ident] = Thread(ident, attr, option, entry, size, priority, stack, self.cpu.r[28])
-            return ident
+            return self.create_thread(self.words_at(a, 5))
         if number in (12, 13):
+            if not self.interrupts:
+                return -102
             self.dispatching = number == 13
             return 0
         if number == 14 and not 1 <= b <= 126:
             return -403
         if number == 16:
-            if a > 126:
+            if a > 126 or a == 0 and self.handler:
                 return -403
             return self.rotate(a or threads[me].priority)
         if number == 20:
             return me
-        if number == 22 and self.memory.place(b, 48, 4) is None:
-            raise Fault("address")
+        if number in (33, 34, 35, 37, 39, 40):
+            return self.time_service(number, a, b, c)
+        if number == 22:
+            self.words_at(b, 12)
         if number == 24:
             return self.sleep()
         if number in (8, 9):
             return self.exit(number == 9)
-        ident = me if a == 0 and number in (14, 22, 27) else a
-        if ident == 0 or ident == 1 and number in (5, 6, 10) or a == me and number in (10, 18, 25, 29, 31):
+        ident = me if a == 0 and me and number in (14, 22, 27) else a
+        if ident == 0 or ident == 1 and number in (5, 6, 10) or ident == me and number in (10, 18, 25, 29, 31):
             return -406
         if ident not in threads:
             return -407
         return self.thread_service(number, threads[ident], b)
+
+    def create_thread(self, at):
+        attr, option, entry, size, priority = struct.unpack_from("<5I", self.memory.ram, at)
+        if attr & ~0x03000000:
+            return -401
+        if entry % 4:
+            return -402
+        if not 1 <= priority <= 126:
+            return -403
+        if size < 256:
+            return -404
+        if len(self.threads) >= 255:
+            return -400
+        stack = self.blocks.alloc(1, size, 0)
+        if not stack:
+            return -400
+        size = (size + 255) // 256 * 256
+        self.memory.write(stack, b"\xff" * size)
+        ident, self.next_id = self.next_id, self.next_id + 1
+        self.threads[ident] = Thread(ident, attr, option, entry, size, priority, stack, self.cpu.r[28])
+        return ident
 
     def thread_service(self, number, thread, word):
         if number in (5, 6) and thread.state != "dormant":
@@ -408,6 +468,9 @@ class Machine:
             thread.cpu = Registers(thread.entry, a0=word, gp=thread.gp, sp=thread.stack + thread.size - 16, ra=0x3000)
             self.make_ready(thread)
         elif number == 10:
+            if thread.id == self.running:
+                self.running = None
+                self.dispatching = self.interrupts = True
             if thread.id in self.ready:
                 self.ready.remove(thread.id)
             self.leave_object(thread)
@@ -426,14 +489,11 @@ class Machine:
             self.leave_object(thread)
             self.wake(thread, -418)
         elif number == 22:
-            waits = thread.state in ("wait", "both")
-            words = [thread.attr, thread.option, NUMBERS[thread.state], thread.entry, thread.stack, thread.size,
-                     thread.gp, thread.first, thread.priority,
-                     (thread.object.WAIT if thread.object else 1) if waits else 0,
-                     thread.object.id if thread.object else 0, thread.wakeups]
-            self.memory.write(self.memory.place(word, 48, 4), struct.pack("<12I", *words))
+            self.put_words(self.words_at(word, 12), thread.attr, thread.option, NUMBERS[thread.state], thread.entry,
+                           thread.stack, thread.size, thread.gp, thread.first, thread.priority, *thread.waits_for(),
+                           thread.wakeups)
         elif number == 25:
-            if thread.state in ("wait", "both") and not thread.object:
+            if thread.waits_for()[0] == 1:
                 self.wake(thread, 0)
             else:
                 thread.wakeups = min(thread.wakeups + 1, 0x7FFFFFFF)
@@ -441,9 +501,13 @@ class Machine:
             old, thread.wakeups = thread.wakeups, 0
             return old
         elif number == 29:
+            if thread.id == self.running:
+                if not self.dispatching:
+                    return -417
+                thread.cpu, self.running = self.running_registers(), None
             if thread.state == "ready":
                 self.ready.remove(thread.id)
-            thread.state = {"ready": "suspend", "wait": "both"}.get(thread.state, thread.state)
+            thread.state = {"run": "suspend", "ready": "suspend", "wait": "both"}.get(thread.state, thread.state)
         elif number == 31:
             if thread.state == "suspend":
                 self.make_ready(thread)
@@ -455,14 +519,18 @@ class Machine:
             raise Fault("service")
         return 0
 
+    def running_registers(self):
+        """The registers of the thread that runs: those that are kept while a handler runs."""
+        return self.handler[1] if self.handler else self.cpu
+
     def rotate(self, priority):
-        if self.threads[self.running].priority == priority:
-            if self.dispatching:
+        if self.running is not None and self.threads[self.running].priority == priority:
+            if self.may_wait():
                 thread = self.threads[self.running]
                 self.cpu.r[2] = 0
-                thread.cpu, self.running = self.cpu, None
+                thread.cpu, self.running = self.running_registers(), None
                 self.make_ready(thread)
-                return None
+                return 0 if self.handler else None
             return 0
         for ident in self.ready:
             if self.threads[ident].priority == priority:
@@ -472,7 +540,7 @@ class Machine:
         return 0
 
     def sleep(self):
-        if not self.dispatching:
+        if not self.may_wait():
             return -417
         thread = self.threads[self.running]
         if thread.wakeups:
@@ -488,7 +556,133 @@ class Machine:
     def leave_object(self, thread):
         if thread.object:
             thread.object.waiters.remove(thread.id)
-            thread.object = None
+        thread.object = thread.delay = None
+
+    # Alarms, delays and interrupt lines
+
+    def number(self):
+        number, self.next_number = self.next_number, self.next_number + 1
+        return number
+
+    def time_service(self, number, a, b, c):
+        """A service of thbase that looks at the clock."""
+        moment = lambda ticks: min(self.clock + ticks, NEVER)
+        if number == 33:
+            if not self.may_wait():
+                return -417
+            self.threads[self.running].delay = moment(a * 4608 // 125), self.number()
+            self.block()
+            return None
+        if number == 34:
+            self.put_words(self.words_at(a, 2), self.clock % 2**32, self.clock >> 32)
+        elif number == 35:
+            ticks = struct.unpack_from("<Q", self.memory.ram, self.words_at(a, 2))[0]
+            if any((alarm.handler, alarm.arg) == (b, c) for alarm in self.alarms):
+                return -104
+            if len(self.alarms) >= 255:
+                return -400
+            self.alarms.append(Alarm(self.number(), moment(ticks), b, c, self.cpu.r[28]))
+        elif number == 37:
+            left = [alarm for alarm in self.alarms if (alarm.handler, alarm.arg) != (a, b)]
+            if len(left) == len(self.alarms):
+                return -105
+            self.alarms = left
+        elif number == 39:
+            ticks = a * 4608 // 125
+            self.put_words(self.words_at(b, 2), ticks % 2**32, ticks >> 32)
+        else:
+            at, seconds, rest = self.words_at(a, 2), self.words_at(b, 1), self.words_at(c, 1)
+            micros = struct.unpack_from("<Q", self.memory.ram, at)[0] * 125 // 4608
+            self.put_words(seconds, micros // 1_000_000 % 2**32)
+            self.put_words(rest, micros % 1_000_000)
+        return 0
+
+    def interrupt_service(self, number):
+        """A service of intrman."""
+        a, b, c, d = self.cpu.r[4:8]
+        if number == 17:
+            place, on = self.words_at(a, 1), self.interrupts
+            self.put_words(place, int(on))
+            self.interrupts = False
+            return 0 if on else -102
+        if number == 8 and not self.interrupts:
+            return -102
+        if number in (8, 9, 18):
+            self.interrupts = number == 9 or number == 18 and a != 0
+            return 0
+        if number == 23:
+            return int(self.handler is not None)
+        place = self.words_at(b, 1) if number == 7 and b else None
+        if a >= 64:
+            return -101
+        line = self.irqs[a]
+        if number == 4:
+            if line.handler:
+                return -104
+            line.handler = c, d, self.cpu.r[28]
+        elif number == 5:
+            if not line.handler:
+                return -105
+            line.handler, line.enabled = None, False
+        elif number == 6:
+            line.enabled = True
+        else:
+            was, line.enabled = line.enabled, False
+            if place is not None:
+                self.put_words(place, a)
+            return 0 if was else -103
+        return 0
+
+    def begin_handler(self, end, address, arg, gp):
+        self.handler = end, self.cpu
+        self.cpu = Registers(address, a0=arg, gp=gp, sp=0xBFF0, ra=0x3010)
+
+    def deliver(self):
+        """Delivers what comes first, and tells whether something did."""
+        if not self.interrupts or self.handler or self.running is not None and self.cpu.slot:
+            return False
+        for number, line in enumerate(self.irqs):
+            if line.raised and line.enabled and line.handler:
+                line.raised = line.enabled = False
+                self.trace(f"line {number}")
+                self.begin_handler(lambda value: self.line_handled(line, value), *line.handler)
+                return True
+        delays = [(*thread.delay, thread) for thread in self.threads.values() if thread.delay]
+        due = [it for it in delays + [(alarm.moment, alarm.number, alarm) for alarm in self.alarms]
+               if it[0] <= self.clock and it[0] < NEVER]
+        if not due:
+            return False
+        _, number, first = min(due, key=lambda it: it[:2])
+        if isinstance(first, Alarm):
+            self.trace(f"alarm {number}")
+            self.begin_handler(lambda value: self.alarm_handled(first, value), first.handler, first.arg, first.gp)
+        else:
+            self.trace(f"due {first.id}")
+            self.wake_waiter(first, 0)
+        return True
+
+    def line_handled(self, line, value):
+        if value == 0:
+            line.enabled = False
+        elif line.handler:
+            line.enabled = True
+
+    def alarm_handled(self, alarm, value):
+        if value == 0 and alarm in self.alarms:
+            self.alarms.remove(alarm)
+        alarm.moment = min(alarm.moment + value, NEVER)
+
+    def return_handler(self):
+        end, kept = self.handler
+        end(self.cpu.r[2])
+        self.handler, self.interrupts, self.cpu = None, True, kept
+
+    def next_moment(self):
+        """The least tick or moment that comes."""
+        moments = [alarm.moment for alarm in self.alarms]
+        moments += [thread.delay[0] for thread in self.threads.values() if thread.delay]
+        moments += [tick for tick, _ in self.events[:1]]
+        return min((moment for moment in moments if moment < NEVER), default=None)
 
     # Semaphores, event flags, mailboxes
 
@@ -533,8 +727,6 @@ class Machine:
     def semaphore_service(self, number):
         """A service of thsemap: its answer, or None where the caller does not go on."""
         a, b = self.cpu.r[4], self.cpu.r[5]
-        if number in (7, 12):
-            return -100
         if number == 4:
             attr, option, initial, most = struct.unpack_from("<4I", self.memory.ram, self.words_at(a, 4))
             if attr > 1:
@@ -543,7 +735,7 @@ class Machine:
                 return -420
             return self.make_object(Semaphore, attr, option, initial, most)
         place = self.words_at(b, 6) if number == 11 else None
-        if number == 8 and not self.dispatching:
+        if number == 8 and not self.may_wait():
             return -417
         if a not in self.objects[Semaphore]:
             return -408
@@ -571,13 +763,11 @@ class Machine:
     def event_flag_service(self, number):
         """A service of thevent."""
         a, b, mode, at = self.cpu.r[4:8]
-        if number in (7, 9, 14):
-            return -100
         if number == 4:
             attr, option, bits = struct.unpack_from("<3I", self.memory.ram, self.words_at(a, 3))
             return self.make_object(EventFlag, attr, option, bits) if attr in (0, 2) else -401
         place = self.words_at(b, 5) if number == 13 else self.words_at(at, 1) if number in (10, 11) and at else None
-        if number == 10 and not self.dispatching:
+        if number == 10 and not self.may_wait():
             return -417
         if a not in self.objects[EventFlag]:
             return -409
@@ -614,13 +804,11 @@ class Machine:
     def mailbox_service(self, number):
         """A service of thmsgbx."""
         a, b = self.cpu.r[4:6]
-        if number in (7, 12):
-            return -100
         if number == 4:
             attr, option = struct.unpack_from("<2I", self.memory.ram, self.words_at(a, 2))
             return self.make_object(Mailbox, attr, option) if attr in (0, 1, 4, 5) else -401
         place = self.words_at(a, 1) if number in (8, 9) else self.words_at(b, 5) if number == 11 else None
-        if number == 8 and not self.dispatching:
+        if number == 8 and not self.may_wait():
             return -417
         ident = b if number in (8, 9) else a
         if ident not in self.objects[Mailbox]:
@@ -660,46 +848,64 @@ class Machine:
             self.end_module(0)
             return None
         ident = self.running
-        self.dispatching = True
+        self.dispatching = self.interrupts = True
         self.end_running()
         if delete:
             self.blocks.free(self.threads.pop(ident).stack)
         return None
 
     def syscall(self, code):
+        """What a `syscall` answers, or None where there is no answer."""
         library, number = code // 256, code % 256
-        if code == 0xF00:
+        if code == 0xF01 and self.handler:
+            return self.return_handler()
+        if code == 0xF00 and not self.handler:
             return self.exit(False)
-        if code == 0xF02 and self.running == 1:
+        if code == 0xF02 and not self.handler and self.running == 1:
             self.end_module(self.cpu.r[2])
             return None
         if library >= 8 or number >= 64:
             raise Fault("service")
+        name = LIBRARIES[library]
+        plain, forms = THREAD.get(name, set()), HANDLER.get(name, {})
+        if number in (plain if self.handler else forms):
+            return -100
+        if number in forms:
+            number = forms[number]
+        elif number not in plain | BOTH.get(name, set()):
+            raise NotImplementedError(code)
+        return self.serve(name, number)
+
+    def serve(self, name, number):
         a, b, c = self.cpu.r[4:7]
-        if (library, number) in ((1, 14), (7, 4)):
+        if (name, number) in (("sysmem", 14), ("stdio", 4)):
             place = self.memory.place(a, 0)
             text = b"" if place is None else bytes(self.memory.ram[place:place + 4096]).split(b"\0")[0]
             self.console += text
             return len(text)
-        if (library, number) == (1, 4):
-            return self.blocks.alloc(a, b, c)
-        if (library, number) == (1, 5):
-            return self.blocks.free(a)
-        if (library, number) == (1, 7):
-            return self.blocks.most_free()
-        if library == 3 and number <= 40 and number not in (7, 21):
-            if number >= 33 and number not in (36, 38):
-                raise Fault("service")
-            return self.service(number)
-        if library == 4 and number in (4, 5, 6, 7, 8, 9, 11, 12):
-            return self.semaphore_service(number)
-        if library == 5 and number in (4, 5, 6, 7, 8, 9, 10, 11, 13, 14):
-            return self.event_flag_service(number)
-        if library == 6 and number in (4, 5, 6, 7, 8, 9, 11, 12):
-            return self.mailbox_service(number)
-        if library == 0 and number in (4, 5):
+        if name == "sysmem":
+            return self.blocks.most_free() if number == 7 else self.blocks.free(a) if number == 5 else self.blocks.alloc(a, b, c)
+        services = {"intrman": self.interrupt_service, "thbase": self.service, "thsemap": self.semaphore_service,
+                    "thevent": self.event_flag_service, "thmsgbx": self.mailbox_service}
+        if name in services:
+            return services[name](number)
+        if number in (4, 5):
             return 0
-        raise NotImplementedError(code)
+        if number == 6:
+            return self.register_library(a)
+        raise NotImplementedError(name)
+
+    def register_library(self, at):
+        place = self.words_at(at, 5)
+        library = bytes(self.memory.ram[place + 12:place + 20]), self.memory.ram[place + 9]
+        if self.memory.word(place) != 0x41C00000:
+            return -214
+        if library in [(name, major) for name, major, _ in self.registry]:
+            return -212
+        if len(self.registry) >= 263:
+            return -400
+        self.registry.append((*library, place))
+        return 0
 
     # The processor
 
@@ -771,30 +977,61 @@ class Machine:
             self.make_ready(self.threads[1])
         executed = 0
         while True:
-            while self.dispatch():
-                pass
-            if self.running is None:
-                return self.end("quiet", 0)
-            if executed == BUDGET:
-                return self.end("budget", 10)
-            try:
-                self.step()
-            except Fault as fault:
-                return self.end(f"fault {fault} {self.cpu.pc:08x}", 11)
-            self.clock += 1
-            executed += 1
+            due = [number for tick, number in self.events if tick <= self.clock]
+            fresh = [number for number in due if not self.irqs[number].raised]
+            for number in fresh:
+                self.irqs[number].raised = True
+            left = self.events[len(due):]
+            if self.deliver() or self.dispatch():
+                self.events = left
+            elif self.handler or self.running is not None:
+                if executed == BUDGET:
+                    for number in fresh:
+                        self.irqs[number].raised = False
+                    return self.end("budget", 10)
+                self.events = left
+                try:
+                    self.step()
+                except Fault as fault:
+                    return self.end(f"fault {fault} {self.cpu.pc:08x}", 11)
+                self.clock += 1
+                executed += 1
+            else:
+                self.events = left
+                moment = self.next_moment()
+                if moment is None:
+                    return self.end("quiet", 0)
+                self.clock = moment
 
     def end(self, text, status):
         self.trace(f"end {text}")
         return status
 
 
+def read_script(name):
+    """The events and the words of modules that a good script has."""
+    events, words = [], {}
+    for line in open(name, "rb").read().split(b"\n")[1:]:
+        fields = line.split(b" ")
+        if fields[0] == b"at":
+            events.append((int(fields[1]), int(fields[3])))
+        elif fields[0] == b"args":
+            words[int(fields[1])] = fields[2:]
+        elif line and not line.startswith(b"#"):
+            raise NotImplementedError("a bad script")
+    return events, words
+
+
 def main():
     try:
-        if len(sys.argv) == 1:
+        names, events, words = sys.argv[1:], [], {}
+        if names[:1] == ["--script"]:
+            events, words = read_script(names[1])
+            names = names[2:]
+        if not names:
             raise NotImplementedError("no words")
-        files = [(n, name, open(name, "rb").read()) for n, name in enumerate(sys.argv[1:], 1)]
-        machine = Machine(files)
+        files = [(n, name, open(name, "rb").read()) for n, name in enumerate(names, 1)]
+        machine = Machine(files, events, words)
         status = machine.run()
     except (NotImplementedError, OSError, StopIteration, struct.error) as unknown:
         print(f"model: {type(unknown).__name__} {unknown}", file=sys.stderr)

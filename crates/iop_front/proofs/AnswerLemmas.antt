@@ -1,19 +1,27 @@
 -- From what the parts of the command do to the answers.
-use Rattle.std.proofs.Common.{◌≡◌, ℕ, Bool, true, false, not, Option, Some, None, is_some, List, [], ◌∷◌, ◌++◌, All}
-use Rattle.std.proofs.Common.{append-nil, refl, ap, sym, subst, inl, inr}
+use Rattle.std.proofs.Common.{◌≡◌, ◌⊎◌, ℕ, nat_lt, Bool, true, false, not, Option, Some, None, option_to_list, is_some, IsSome, Result, Ok, Err, is_ok, is_err}
+use Rattle.std.proofs.Common.{List, [], ◌∷◌, ◌++◌, All, length, append-nil, refl, ap, sym, ◌∙◌, subst, arith, inl, inr}
+use Rattle.std.proofs.lemmas.Bool.Decides.{nat_tests}
 use Rattle.iop_base.specs.Piece.{Traced}
 use Rattle.iop_base.specs.Output.{Output}
 use Rattle.iop_machine.specs.Modules.{NamedFile}
+use Rattle.iop_modload.specs.declared.limits.TheConstants.{LONGEST_FILE}
 use Rattle.iop_ports.specs.Sinks.{SinkTold, Sends}
+use Rattle.iop_script.specs.Reading.{empty_script, script_of}
+use Rattle.iop_script.specs.Scripts.{Script}
 use Rattle.iop_trace.specs.Outs.{Leaves, output_with}
-use Rattle.iop_front.specs.Answers.{Answers, Outside, HasNoCommand, bad_words, cannot_read, no_memory, from_files}
-use Rattle.iop_front.specs.Modules.{Seen, HasTaken, HasStoppedUnread, HasStoppedTooLong, HasStoppedShort, IsShort}
-use Rattle.iop_front.specs.Outcome.{Meets, Comes, Refuses, cannot_read_line, too_long_line, outcome_by}
-use Rattle.iop_front.specs.Outcome.{outcome_of_files, outcome_of_modules}
+use Rattle.iop_front.specs.Answers.{Answers, AreFilesOf, Outside, HasNoCommand, bad_words, cannot_read, no_memory, from_files}
+use Rattle.iop_front.specs.Modules.{Seen, GoesOn, HasInputs, HasStoppedUnread, HasStoppedTooLong, HasStoppedBad, HasStoppedShort}
+use Rattle.iop_front.specs.Modules.{IsScriptOf, IsShort}
+use Rattle.iop_front.specs.Outcome.{Outcome, Meets, Comes, Refuses, refusal, bad_script_line, cannot_read_line, too_long_line}
+use Rattle.iop_front.specs.Outcome.{first_too_long, script_by, outcome_behind, outcome_by, outcome_of_inputs, outcome_of_modules}
+use Rattle.iop_front.specs.Words.{Command, has_script, files_of}
 use Rattle.iop_front.specs.declared.status.Status.{Status}
-use Rattle.iop_front.specs.declared.status.Status.TheVariants.{BadWords, CannotRead, TooLong, NoMemory}
+use Rattle.iop_front.specs.declared.status.Status.TheVariants.{BadWords, BadScript, CannotRead, TooLong, NoMemory}
+use Rattle.iop_front.proofs.OpeningLemmas.{found}
+use Rattle.iop_front.proofs.OutcomeLemmas.{from_long, from_short, long_outcome}
 use Rattle.iop_front.proofs.SendingLemmas.{sent_leaves}
-use Rattle.iop_front.proofs.TakingLemmas.{none_too_long}
+use Rattle.iop_front.proofs.TakingLemmas.{files_short, none_too_long}
 
 -- the line of a refusal that was sent to the trace
 pub refuses : (whole : Bool) (sent line : List ℕ) (console old new : SinkTold) → sent ≡ line
@@ -26,68 +34,163 @@ refuses whole sent line console old new same h =
 abbrev pub outside_of : Seen → Output → Outside
 outside_of seen sinks = record { told = seen.told; faults = seen.faults; sinks = sinks }
 
-pub bad_words_by : (named : Option (List (List ℕ))) (status : Status) (old new : Outside)
+-- the words are no command
+pub bad_words_by : (named : Option Command) (status : Status) (old new : Outside)
     → named ≡ None → status ≡ BadWords → HasNoCommand old new → Answers named status old new
 bad_words_by named status old new none e h =
-    subst (λ (n : Option (List (List ℕ))). Answers n status old new) (sym none)
+    subst (λ (n : Option Command). Answers n status old new) (sym none)
     (subst (λ (s : Status). Answers None s old new) (sym e) (bad_words h))
 
-module _ (names : List (List ℕ)) (status : Status) (old new : Seen) (sinks after : Output) where
-  -- by the names that were opened, and those that were left
-  of_names : (opened : List (List ℕ)) → names ≡ opened
-      → Answers (Some opened) status (outside_of old sinks) (outside_of new after)
-      → Answers (Some names) status (outside_of old sinks) (outside_of new after)
-  of_names opened e h =
-      subst (λ (n : List (List ℕ)). Answers (Some n) status (outside_of old sinks)
+-- files that were read, of which the first that is too long is this one: what they say
+record IsLongInput (name : Option (List ℕ)) (files : List NamedFile) (long : NamedFile)
+    : Type 0 where
+  script : Option NamedFile
+  modules : List NamedFile
+  is_script : is_some script ≡ is_some name
+  are : option_to_list script ++ modules ≡ files
+  is : outcome_of_inputs script modules ≡ refusal TooLong (too_long_line long.name)
+  ends : (is_err (script_by script) ≡ true) ⊎ IsSome (first_too_long modules)
+
+-- behind a script that is not too long, by what it reads as
+long_behind : (name : List ℕ) (script : NamedFile) (modules : List NamedFile) (long : NamedFile)
+    (read : Result Script ℕ) → nat_lt LONGEST_FILE (length script.file) ≡ false
+    → first_too_long modules ≡ Some long → GoesOn true (script ∷ modules)
+    → script_of script.file ≡ read → IsLongInput (Some name) (script ∷ modules) long
+long_behind name script [] long read short e on is = absurd (cc)
+long_behind name script (first ∷ rest) long (Err number) short e on is =
+    let bad : false ≡ true = sym (ap is_ok is) ∙ on in absurd (cc)
+long_behind name script (first ∷ rest) long (Ok says) short e on is = record {
+  script = Some script;
+  modules = first ∷ rest;
+  is_script = refl;
+  are = refl;
+  is = ap (λ r. outcome_behind r (first ∷ rest)) (from_short script (Ok says) short is)
+      ∙ long_outcome says (first ∷ rest) long e;
+  ends = inr (ap is_some e);
+}
+
+-- by the first file, if a script is named
+long_input : (name : Option (List ℕ)) (files : List NamedFile) (long : NamedFile)
+    → first_too_long files ≡ Some long → GoesOn (is_some name) files → IsLongInput name files long
+long_input None files long e on = record {
+  script = None;
+  modules = files;
+  is_script = refl;
+  are = refl;
+  is = long_outcome empty_script files long e;
+  ends = inr (ap is_some e);
+}
+long_input (Some name) [] long e on = absurd (cc)
+long_input (Some name) (script ∷ modules) long e on = elim (found script modules long e) [
+  | inl h ↦ record {
+    script = Some script;
+    modules = modules;
+    is_script = refl;
+    are = refl;
+    is = ap (λ r. outcome_behind r modules) (from_long script h.0)
+        ∙ ap (λ (named : NamedFile). refusal TooLong (too_long_line named.name)) h.1;
+    ends = inl (ap is_err (from_long script h.0));
+  }
+  | inr h ↦ long_behind name script modules long (script_of script.file) h.0 h.1 on refl
+]
+
+-- whether or not the write failed
+refusal_comes : (status refused : Status) (line : List ℕ) (failed : Bool) (old new : Output)
+    → status ≡ refused → Leaves failed old new (Traced line ∷ [])
+    → Comes (refusal refused line) status old new
+refusal_comes status refused line true old new e h = (true, e, h)
+refusal_comes status refused line false old new e h = (false, e, h)
+
+-- the line of a refusal is the outcome
+pub refusal_meets : (status refused : Status) (line : List ℕ) (outcome : Outcome) (old new : Output)
+    → outcome ≡ refusal refused line → status ≡ refused → Refuses line old new
+    → Meets outcome status old new
+refusal_meets status refused line outcome old new is e h =
+    subst (λ (o : Outcome). Meets o status old new) (sym is)
+    (inr (refusal_comes status refused line h.0 old new e h.1))
+
+-- a script that was read
+script_says : (file : Option NamedFile) (script : Script) → IsScriptOf file script
+    → script_by file ≡ Ok script
+script_says None script e = ap Ok (sym e)
+script_says (Some file) script h =
+    let short = h.0 in
+    from_short file (Ok script) (grind (arith, nat_tests, short)) h.1
+
+module _ (command : Command) (status : Status) (old new : Seen) (sinks after : Output) where
+  abbrev IsAnswer : Type 0
+  IsAnswer = Answers (Some command) status (outside_of old sinks) (outside_of new after)
+
+  -- by the status that it is
+  of_status : (other : Status) → status ≡ other
+      → Answers (Some command) other (outside_of old sinks) (outside_of new after) → IsAnswer
+  of_status other e h =
+      subst (λ (s : Status). Answers (Some command) s (outside_of old sinks)
       (outside_of new after)) (sym e) h
 
-  pub answers_unread : (name : List ℕ) → HasStoppedUnread names name old new
-      → status ≡ CannotRead → Refuses (cannot_read_line name) sinks after
-      → Answers (Some names) status (outside_of old sinks) (outside_of new after)
+  pub answers_unread : (name : List ℕ)
+      → HasStoppedUnread (has_script command) (files_of command) name old new
+      → status ≡ CannotRead → Refuses (cannot_read_line name) sinks after → IsAnswer
   answers_unread name h e line =
-      of_names (h.before ++ name ∷ h.left) h.are_names
-      (subst (λ (s : Status). Answers (Some (h.before ++ name ∷ h.left)) s (outside_of old sinks)
-      (outside_of new after)) (sym e)
-      (cannot_read h.before name h.left
-      (record { files = h.read; cause = h.cause; line = line })))
+      of_status CannotRead e (cannot_read h.before name h.left h.are_names
+      (record { files = h.read; cause = h.cause; line = line }))
 
-  pub answers_short : HasStoppedShort names old new → status ≡ NoMemory → after ≡ sinks
-      → Answers (Some names) status (outside_of old sinks) (outside_of new after)
+  pub answers_short : HasStoppedShort (has_script command) (files_of command) old new
+      → status ≡ NoMemory → after ≡ sinks → IsAnswer
   answers_short h e same =
-      of_names (h.opened ++ h.left) h.are_names
-      (subst (λ (s : Status). Answers (Some (h.opened ++ h.left)) s (outside_of old sinks)
-      (outside_of new after)) (sym e) (no_memory h.opened h.left h.read h.no_fault same))
+      of_status NoMemory e (no_memory h.opened h.left h.are_names h.read h.no_fault same)
 
-  refused : (failed : Bool) (long : NamedFile) (files : List NamedFile) → status ≡ TooLong
-      → Leaves failed sinks after (Traced (too_long_line long.name) ∷ [])
-      → Comes (outcome_by (Some long) files) status sinks after
-  refused true long files e h = (true, e, h)
-  refused false long files e h = (false, e, h)
-
-  pub answers_too_long : (name : List ℕ) → HasStoppedTooLong names name old new
-      → status ≡ TooLong → Refuses (too_long_line name) sinks after
-      → Answers (Some names) status (outside_of old sinks) (outside_of new after)
+  pub answers_too_long : (name : List ℕ)
+      → HasStoppedTooLong (has_script command) (files_of command) name old new
+      → status ≡ TooLong → Refuses (too_long_line name) sinks after → IsAnswer
   answers_too_long name h e line =
       let long : NamedFile = record { name = name; file = h.file } in
-      let meets : Meets (outcome_of_files h.files) status sinks after =
-      subst (λ (found : Option NamedFile). Meets (outcome_by found h.files) status sinks after)
-      (sym h.decides) (inr (refused line.0 long h.files e line.1)) in
-      of_names (h.opened ++ h.left) h.are_names
-      (from_files h.opened h.left h.files (record {
-        are_files = h.taken.are_files;
-        read = h.taken.read;
-        no_fault = h.taken.no_fault;
-      }) (inr (ap is_some h.decides)) meets)
+      let is = long_input command.script h.files long h.decides h.taken.goes_on in
+      from_files h.opened h.left is.script is.modules (record {
+        are_names = h.are_names;
+        is_script = is.is_script;
+        read = record {
+          are_files = subst (λ (fs : List NamedFile). AreFilesOf h.opened fs old.told)
+              (sym is.are) h.taken.are_files;
+          read = h.taken.read;
+          no_fault = h.taken.no_fault;
+        };
+      }) (inr is.ends)
+      (refusal_meets status TooLong (too_long_line name)
+      (outcome_of_inputs is.script is.modules) sinks after is.is e line)
 
-  pub answers_modules : (files : List NamedFile) → HasTaken names files old new
-      → All IsShort files → Meets (outcome_of_modules files) status sinks after
-      → Answers (Some names) status (outside_of old sinks) (outside_of new after)
-  answers_modules files h short meets =
-      of_names (names ++ []) (sym (append-nil names))
-      (from_files names [] files (record {
-        are_files = h.are_files;
-        read = h.read;
-        no_fault = h.no_fault;
+  pub answers_bad : (number : ℕ)
+      → HasStoppedBad (has_script command) (files_of command) number old new
+      → status ≡ BadScript → Refuses (bad_script_line number) sinks after → IsAnswer
+  answers_bad number h e line =
+      let short = h.short in
+      let says = from_short h.file (Err number) (grind (arith, nat_tests, short)) h.bad in
+      from_files (h.file.name ∷ []) h.left (Some h.file) [] (record {
+        are_names = h.are_names;
+        is_script = sym h.is_one;
+        read = record {
+          are_files = h.taken.are_files;
+          read = h.taken.read;
+          no_fault = h.taken.no_fault;
+        };
+      }) (inr (inl (ap is_err says)))
+      (refusal_meets status BadScript (bad_script_line number)
+      (outcome_of_inputs (Some h.file) []) sinks after (ap (λ r. outcome_behind r []) says) e line)
+
+  pub answers_inputs : (script : Script) (modules : List NamedFile)
+      → HasInputs command script modules old new → All IsShort modules
+      → Meets (outcome_of_modules script modules) status sinks after → IsAnswer
+  answers_inputs script modules h short meets =
+      from_files (files_of command) [] h.file modules (record {
+        are_names = sym (append-nil (files_of command));
+        is_script = h.is_script;
+        read = record {
+          are_files = h.taken.are_files;
+          read = h.taken.read;
+          no_fault = h.taken.no_fault;
+        };
       }) (inl refl)
-      (subst (λ (found : Option NamedFile). Meets (outcome_by found files) status sinks after)
-      (sym (none_too_long files short)) meets))
+      (subst (λ (o : Outcome). Meets o status sinks after)
+      (sym (ap (λ r. outcome_behind r modules) (script_says h.file script h.says)
+      ∙ ap (λ (o : Option NamedFile). outcome_by o script modules)
+      (none_too_long modules (files_short modules short)))) meets)

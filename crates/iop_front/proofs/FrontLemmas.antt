@@ -1,5 +1,6 @@
--- What stands past the first bytes of a file, and behind a file that is too long, does not matter.
-use Rattle.std.proofs.Common.{◌≡◌, ◌⊎◌, ℕ, ◌<◌, ◌≤◌, nat_lt, Bool, true, false, cond, Option, Some, None, IsSome, List, [], ◌∷◌}
+-- What stands past the first bytes of a file does not matter, nor what stands behind a file that is
+-- too long or behind a bad script.
+use Rattle.std.proofs.Common.{◌≡◌, ◌⊎◌, ℕ, ◌<◌, ◌≤◌, nat_lt, Bool, true, false, cond, Option, Some, None, option_map, option_to_list, is_some, IsSome, Result, Ok, Err, is_err, List, [], ◌∷◌}
 use Rattle.std.proofs.Common.{◌++◌, length, map, take, append-nil, refl, ap, sym, ◌∙◌, subst, arith, inl, inr}
 use Rattle.std.specs.Option.{option_or}
 use Rattle.std.proofs.lemmas.Bool.{lt-ltb}
@@ -10,18 +11,17 @@ use Rattle.iop_base.specs.Output.{Output}
 use Rattle.iop_machine.specs.Modules.{NamedFile}
 use Rattle.iop_modload.specs.declared.limits.TheConstants.{LONGEST_FILE}
 use Rattle.iop_ports.specs.Files.{FilesTold}
+use Rattle.iop_script.specs.Reading.{empty_script, script_of}
+use Rattle.iop_script.specs.Scripts.{Script}
 use Rattle.iop_front.specs.Answers.{EndsReading}
-use Rattle.iop_front.specs.Outcome.{Outcome, Meets, first_too_long, too_long_line, refusal, outcome_by, outcome_of_files}
-use Rattle.iop_front.specs.Outcome.{outcome_named, read_limit}
+use Rattle.iop_front.specs.Outcome.{Outcome, Meets, first_too_long, script_by, outcome_behind, outcome_of_files}
+use Rattle.iop_front.specs.Outcome.{outcome_of_inputs, outcome_named, read_limit}
 use Rattle.iop_front.specs.Reading.{file_named}
 use Rattle.iop_front.specs.declared.status.Status.{Status}
-use Rattle.iop_front.specs.declared.status.Status.TheVariants.{TooLong}
+use Rattle.iop_front.specs.Words.{Command, files_of}
+use Rattle.iop_front.proofs.OutcomeLemmas.{from_long, from_short, long_outcome}
 
--- the first that is too long decides, also before others
-long_outcome : (files : List NamedFile) (long : NamedFile) → first_too_long files ≡ Some long
-    → outcome_of_files files ≡ refusal TooLong (too_long_line long.name)
-long_outcome files long e = ap (λ (o : Option NamedFile). outcome_by o files) e
-
+-- the first that is too long is so also before others
 long_before : (files others : List NamedFile) (long : NamedFile)
     → first_too_long files ≡ Some long → first_too_long (files ++ others) ≡ Some long
 long_before files others long e =
@@ -90,40 +90,116 @@ module _ (told : FilesTold) where
       alike_by (nat_lt LONGEST_FILE (length (file_named told name))) name names refl (alike names)
 
   -- where one of the files is too long, those behind do not matter
-  ended_by : (found : Option NamedFile) (names left : List (List ℕ)) → IsSome found
-      → first_too_long (map whole names) ≡ found
-      → outcome_of_files (map whole names) ≡ outcome_of_files (map whole (names ++ left))
-  ended_by None names left some e = absurd (cc)
-  ended_by (Some long) names left some e =
-      long_outcome (map whole names) long e
-      ∙ sym (ap outcome_of_files (map-append whole names left)
-      ∙ long_outcome (map whole names ++ map whole left) long
-      (long_before (map whole names) (map whole left) long e))
+  module _ (script : Script) where
+    ended_by : (found : Option NamedFile) (names left : List (List ℕ)) → IsSome found
+        → first_too_long (map whole names) ≡ found
+        → outcome_of_files script (map whole names)
+        ≡ outcome_of_files script (map whole (names ++ left))
+    ended_by None names left some e = absurd (cc)
+    ended_by (Some long) names left some e =
+        long_outcome script (map whole names) long e
+        ∙ sym (ap (outcome_of_files script) (map-append whole names left)
+        ∙ long_outcome script (map whole names ++ map whole left) long
+        (long_before (map whole names) (map whole left) long e))
 
-  same_outcome : (names left : List (List ℕ)) → EndsReading (map front names) left
-      → outcome_of_files (map front names) ≡ outcome_of_files (map whole (names ++ left))
-  same_outcome names left ends = elim (alike names) [
-    | inl all ↦ ap outcome_of_files all ∙ elim ends [
-      | inl none ↦
-          ap (λ t. outcome_of_files (map whole t)) (sym (append-nil names))
-          ∙ ap (λ t. outcome_of_files (map whole (names ++ t))) (sym none)
-      | inr some ↦
-          ended_by (first_too_long (map whole names)) names left
-          (subst (λ (fs : List NamedFile). IsSome (first_too_long fs)) all some) refl
+    modules_same : (names left : List (List ℕ))
+        → (left ≡ []) ⊎ IsSome (first_too_long (map front names))
+        → outcome_of_files script (map front names)
+        ≡ outcome_of_files script (map whole (names ++ left))
+    modules_same names left ends = elim (alike names) [
+      | inl all ↦ ap (outcome_of_files script) all ∙ elim ends [
+        | inl none ↦
+            ap (λ t. outcome_of_files script (map whole t)) (sym (append-nil names))
+            ∙ ap (λ t. outcome_of_files script (map whole (names ++ t))) (sym none)
+        | inr some ↦
+            ended_by (first_too_long (map whole names)) names left
+            (subst (λ (fs : List NamedFile). IsSome (first_too_long fs)) all some) refl
+      ]
+      | inr long ↦
+          long_outcome script (map front names) (front long.name) long.fronts
+          ∙ sym (ap (outcome_of_files script) (map-append whole names left)
+          ∙ long_outcome script (map whole names ++ map whole left) (whole long.name)
+          (long_before (map whole names) (map whole left) (whole long.name) long.wholes))
     ]
-    | inr long ↦
-        long_outcome (map front names) (front long.name) long.fronts
-        ∙ sym (ap outcome_of_files (map-append whole names left)
-        ∙ long_outcome (map whole names ++ map whole left) (whole long.name)
-        (long_before (map whole names) (map whole left) (whole long.name) long.wholes))
+
+  -- where the script is good, reading ended at the modules
+  ends_modules : (script : Option NamedFile) (files : List NamedFile) {left : List (List ℕ)}
+      → is_err (script_by script) ≡ false → EndsReading script files left
+      → (left ≡ []) ⊎ IsSome (first_too_long files)
+  ends_modules script files good ends = elim ends [
+    | inl none ↦ inl none
+    | inr other ↦ elim other [ inl bad ↦ absurd (cc) | inr some ↦ inr some ]
   ]
 
-  -- so what was read has the outcome of all that is named
-  pub read_outcome : (names left : List (List ℕ)) (files : List NamedFile) (status : Status)
-      (old new : Output) → files ≡ map front names → EndsReading files left
-      → Meets (outcome_of_files files) status old new
-      → Meets (outcome_named told (Some (names ++ left))) status old new
-  read_outcome names left files status old new e ends h =
+  module _ (name : List ℕ) (names left : List (List ℕ))
+      (ends : EndsReading (Some (front name)) (map front names) left) where
+    abbrev IsSame : Type 0
+    IsSame =
+        outcome_of_inputs (Some (front name)) (map front names)
+        ≡ outcome_of_inputs (Some (whole name)) (map whole (names ++ left))
+
+    -- by what the script's file reads as, if it is not too long
+    script_same : (read : Result Script ℕ)
+        → nat_lt LONGEST_FILE (length (file_named told name)) ≡ false
+        → script_of (file_named told name) ≡ read → IsSame
+    script_same (Err number) short is =
+        let says = from_short (whole name) (Err number) short is in
+        let same = ap (λ (f : NamedFile). script_by (Some f)) (short_front name short) in
+        ap (λ r. outcome_behind r (map front names)) (same ∙ says)
+        ∙ sym (ap (λ r. outcome_behind r (map whole (names ++ left))) says)
+    script_same (Ok script) short is =
+        let says = from_short (whole name) (Ok script) short is in
+        let same = ap (λ (f : NamedFile). script_by (Some f)) (short_front name short) in
+        ap (λ r. outcome_behind r (map front names)) (same ∙ says)
+        ∙ modules_same script names left
+        (ends_modules (Some (front name)) (map front names)
+        (ap is_err (same ∙ says)) ends)
+        ∙ sym (ap (λ r. outcome_behind r (map whole (names ++ left))) says)
+
+    -- by whether it is too long
+    file_same : (b : Bool) → nat_lt LONGEST_FILE (length (file_named told name)) ≡ b → IsSame
+    file_same true e =
+        ap (λ r. outcome_behind r (map front names)) (from_long (front name) (long_front name e))
+        ∙ sym (ap (λ r. outcome_behind r (map whole (names ++ left))) (from_long (whole name) e))
+    file_same false e = script_same (script_of (file_named told name)) e refl
+
+  -- what was read has the outcome of all that is named
+  inputs_same : (named : Option (List ℕ)) (modules names left : List (List ℕ))
+      (script : Option NamedFile) (files : List NamedFile)
+      → option_to_list named ++ modules ≡ names ++ left → is_some script ≡ is_some named
+      → option_to_list script ++ files ≡ map front names → EndsReading script files left
+      → outcome_of_inputs script files
+      ≡ outcome_of_inputs (option_map whole named) (map whole modules)
+  inputs_same None modules names left None files e is are ends =
+      ap (outcome_of_files empty_script) are
+      ∙ modules_same empty_script names left
+      (subst (λ (fs : List NamedFile). (left ≡ []) ⊎ IsSome (first_too_long fs)) are
+      (ends_modules None files refl ends))
+      ∙ ap (λ t. outcome_of_files empty_script (map whole t)) (sym e)
+  inputs_same None modules names left (Some script) files e is are ends = absurd (cc)
+  inputs_same (Some name) modules names left None files e is are ends = absurd (cc)
+  inputs_same (Some name) modules [] left (Some script) files e is are ends = absurd (cc)
+  inputs_same (Some name) modules (first ∷ names) left (Some script) files e is are ends =
+      let same : first ≡ name = cc in
+      let behind : names ++ left ≡ modules = cc in
+      let file : script ≡ front first = cc in
+      let others : files ≡ map front names = cc in
+      let ended : EndsReading (Some (front first)) (map front names) left =
+      subst (λ (s : NamedFile). EndsReading (Some s) (map front names) left) file
+      (subst (λ (fs : List NamedFile). EndsReading (Some script) fs left) others ends) in
+      ap (λ (s : NamedFile). outcome_of_inputs (Some s) files) file
+      ∙ ap (λ (fs : List NamedFile). outcome_of_inputs (Some (front first)) fs) others
+      ∙ file_same first names left ended
+      (nat_lt LONGEST_FILE (length (file_named told first))) refl
+      ∙ ap (λ n. outcome_of_inputs (Some (whole n)) (map whole (names ++ left))) same
+      ∙ ap (λ t. outcome_of_inputs (Some (whole name)) (map whole t)) behind
+
+  pub read_outcome : (command : Command) (names left : List (List ℕ)) (script : Option NamedFile)
+      (files : List NamedFile) (status : Status) (old new : Output)
+      → files_of command ≡ names ++ left → is_some script ≡ is_some command.script
+      → option_to_list script ++ files ≡ map front names → EndsReading script files left
+      → Meets (outcome_of_inputs script files) status old new
+      → Meets (outcome_named told (Some command)) status old new
+  read_outcome command names left script files status old new e is are ends h =
       subst (λ (o : Outcome). Meets o status old new)
-      (ap outcome_of_files e
-      ∙ same_outcome names left (subst (λ (fs : List NamedFile). EndsReading fs left) e ends)) h
+      (inputs_same command.script command.modules names left script files e is are ends) h

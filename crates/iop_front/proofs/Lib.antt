@@ -2,11 +2,14 @@ pub mod WordLemmas
 pub mod ReadingLemmas
 pub mod OpeningLemmas
 pub mod TakingLemmas
+pub mod ScriptLemmas
 pub mod RoomLemmas
 pub mod SendingLemmas
 pub mod RunLemmas
+pub mod OutcomeLemmas
 pub mod AnswerLemmas
 pub mod FrontLemmas
 pub mod ConsoleLemmas
 pub mod Endings
+pub mod BadLemmas
 pub mod CauseLemmas

@@ -3,15 +3,14 @@ use Rattle.std.proofs.Common.{◌≡◌, ◌⊎◌, ℕ, ◌+◌, ◌<◌, ◌�
 use Rattle.std.proofs.Common.{IsSome, is_some, List, [], ◌∷◌, ◌++◌, All, Contains, length, map, take, unwrap_or, refl, ap, sym}
 use Rattle.std.proofs.Common.{◌∙◌, subst, arith, inl, inr}
 use Rattle.std.proofs.lemmas.Bool.Decides.{nat_tests}
-use Rattle.std.proofs.lemmas.List.{map-append, length-take}
+use Rattle.std.proofs.lemmas.List.{map-append, length-take, take_all}
 use Rattle.std.proofs.lemmas.List.Elements.{All-head, All-tail, Contains-append_left, Contains-append_right, Contains-push}
 use Rattle.iop_base.specs.Counts.{last_count}
 use Rattle.iop_machine.specs.Modules.{NamedFile}
 use Rattle.iop_modload.specs.declared.limits.TheConstants.{LONGEST_FILE}
 use Rattle.iop_ports.specs.Files.{FilesTold, IsAskedName, Asked, Untold, NoName, Named, asked_next}
 use Rattle.iop_front.specs.Answers.{FilesRead, AreFilesOf, IsNameAsked}
-use Rattle.iop_front.specs.Modules.{IsShort}
-use Rattle.iop_front.specs.Outcome.{OpensAndReads, OpensInOrder, MayGoOn, none, more, read_limit, first_too_long}
+use Rattle.iop_front.specs.Outcome.{OpensAndReads, OpensInOrder, IsGoodFile, MayGoOn, none, more, read_limit, first_too_long}
 use Rattle.iop_front.specs.Reading.{file_named}
 
 -- the fronts of the files of these names
@@ -24,8 +23,8 @@ content_then : {name : List ℕ} {faults : ℕ} {old new : FilesTold}
 content_then h = ap (λ (files : FilesTold). files.content) h.files
 
 -- the content stays
-same_content : {faults : ℕ} {names : List (List ℕ)} {old new : FilesTold}
-    → OpensInOrder faults names old new → new.content ≡ old.content
+same_content : {faults : ℕ} {is_script : Bool} {names : List (List ℕ)} {old new : FilesTold}
+    → OpensInOrder faults is_script names old new → new.content ≡ old.content
 same_content none = refl
 same_content (more first fits rest) = same_content rest ∙ content_then first
 
@@ -33,41 +32,78 @@ short_whole : (file : List ℕ) → length (take read_limit file) ≤ LONGEST_FI
     → length file ≤ LONGEST_FILE
 short_whole file h = omega (arith, length-take read_limit file, h)
 
-goes_on : (file : List ℕ) (names : List (List ℕ)) → length file ≤ LONGEST_FILE
-    → MayGoOn file names
-goes_on file [] h = tt
-goes_on file (next ∷ names) h = h
+-- a file that is not too long is its own front
+pub whole_front : (file : List ℕ) → length (take read_limit file) ≤ LONGEST_FILE
+    → take read_limit file ≡ file
+whole_front file h =
+    let short = short_whole file h in take_all read_limit file (omega (arith, short))
 
-opens-append : {faults : ℕ} {xs ys : List (List ℕ)} {old between new : FilesTold}
-    → OpensInOrder faults xs old between → All IsShort (files_in old.content xs)
-    → OpensInOrder faults ys between new → OpensInOrder faults (xs ++ ys) old new
-opens-append none short h = h
-opens-append {ys = ys} {old = old} (more {name = name} {names = names} first fits rest) short h =
+-- another may be opened behind a file that is not too long, and good
+goes_on : (is_script : Bool) (file : List ℕ) (names : List (List ℕ))
+    → length (take read_limit file) ≤ LONGEST_FILE → IsGoodFile is_script (take read_limit file)
+    → MayGoOn is_script file names
+goes_on is_script file [] h good = tt
+goes_on is_script file (next ∷ names) h good =
+    (short_whole file h, subst (IsGoodFile is_script) (whole_front file h) good)
+
+-- its file is not too long
+abbrev pub IsNotLong : NamedFile → Type 0
+IsNotLong named = length named.file ≤ LONGEST_FILE
+
+-- behind these files, of which the first is a script's or not, the modules' may be read
+abbrev pub AreFollowed : (is_script : Bool) → List NamedFile → Type 0
+AreFollowed is_script [] = is_script ≡ false
+AreFollowed is_script (first ∷ files) = IsGoodFile is_script first.file
+
+-- behind those of modules they may
+pub modules_followed : (files : List NamedFile) → AreFollowed false files
+modules_followed [] = refl
+modules_followed (first ∷ files) = tt
+
+-- so the modules' are opened behind these
+opens-append : {faults : ℕ} {is_script : Bool} {xs ys : List (List ℕ)}
+    {old between new : FilesTold}
+    → OpensInOrder faults is_script xs old between → All IsNotLong (files_in old.content xs)
+    → AreFollowed is_script (files_in old.content xs)
+    → OpensInOrder faults false ys between new → OpensInOrder faults is_script (xs ++ ys) old new
+opens-append {faults = faults} {ys = ys} {new = new} (none {files = files}) short follow h =
+    subst (λ b. OpensInOrder faults b ys files new) (sym follow) h
+opens-append {ys = ys} {old = old}
+    (more {is_script = is_script} {name = name} {names = names} {between = middle} first fits rest)
+    short follow h =
     let front : NamedFile = record { name = name; file = take read_limit (file_named old name) } in
-    let one = All-head IsShort front (files_in old.content names) short in
-    let others = All-tail IsShort front (files_in old.content names) short in
-    more first (goes_on (file_named old name) (names ++ ys) (short_whole _ one.file))
+    let one = All-head IsNotLong front (files_in old.content names) short in
+    let others = All-tail IsNotLong front (files_in old.content names) short in
+    more first (goes_on is_script (file_named old name) (names ++ ys) one follow)
     (opens-append rest
-    (subst (λ (c : List ℕ → Option (List ℕ)). All IsShort (files_in c names))
-    (sym (content_then first)) others) h)
+    (subst (λ (c : List ℕ → Option (List ℕ)). All IsNotLong (files_in c names))
+    (sym (content_then first)) others)
+    (modules_followed (files_in middle.content names)) h)
 
-pub read_none : (faults : ℕ) (told : Option FilesTold) → FilesRead [] faults told told
-read_none faults None = refl
-read_none faults (Some files) = none
+-- nothing is read
+pub read_none : (is_script : Bool) (faults : ℕ) (told : Option FilesTold)
+    → FilesRead is_script [] faults told told
+read_none is_script faults None = refl
+read_none is_script faults (Some files) = none
 
-module _ (xs ys : List (List ℕ)) (files : List NamedFile) (faults : ℕ) where
+module _ (is_script : Bool) (xs ys : List (List ℕ)) (files : List NamedFile) (faults : ℕ) where
+  -- the same where the files may tell nothing
   pub read-append : (old between new : Option FilesTold) → AreFilesOf xs files old
-      → All IsShort files → FilesRead xs faults old between → FilesRead ys faults between new
-      → FilesRead (xs ++ ys) faults old new
-  read-append None between new are short h k =
-      subst (λ (o : Option FilesTold). FilesRead ys faults o new) h k
-  read-append (Some told) None new are short h k = absurd h
-  read-append (Some told) (Some middle) None are short h k = k
-  read-append (Some told) (Some middle) (Some after) are short h k =
-      opens-append h (subst (λ (fs : List NamedFile). All IsShort fs) are short) k
+      → All IsNotLong files → AreFollowed is_script files
+      → FilesRead is_script xs faults old between → FilesRead false ys faults between new
+      → FilesRead is_script (xs ++ ys) faults old new
+  read-append None between new are short follow h k =
+      subst (λ (o : Option FilesTold). FilesRead false ys faults o new) h k
+  read-append (Some told) None new are short follow h k = absurd h
+  read-append (Some told) (Some middle) None are short follow h k = k
+  read-append (Some told) (Some middle) (Some after) are short follow h k =
+      opens-append h (subst (λ (fs : List NamedFile). All IsNotLong fs) are short)
+      (subst (AreFollowed is_script) are follow) k
 
+  -- what was read is what those and these have
   pub are_files-append : (others : List NamedFile) (old between : Option FilesTold)
-      → AreFilesOf xs files old → FilesRead xs faults old between → AreFilesOf ys others between
+      → AreFilesOf xs files old → FilesRead is_script xs faults old between
+      → AreFilesOf ys others between
       → AreFilesOf (xs ++ ys) (files ++ others) old
   are_files-append others None between h read k =
       let names = λ (named : NamedFile). named.name in
@@ -101,18 +137,20 @@ module _ (faults : ℕ) where
       subst (IsNameAsked name faults) (sym h.files)
       (asked_then old.asked name (old.content name), refl)
 
-  asked_last : (before : List (List ℕ)) (name : List ℕ) {old new : FilesTold}
-      → OpensInOrder faults (before ++ name ∷ []) old new → IsNameAsked name faults new
+  asked_last : (before : List (List ℕ)) (name : List ℕ) {is_script : Bool} {old new : FilesTold}
+      → OpensInOrder faults is_script (before ++ name ∷ []) old new → IsNameAsked name faults new
   asked_last [] name (more first fits none) = asked_by_reading first
   asked_last (other ∷ before) name (more first fits rest) = asked_last before name rest
 
   -- the last name is the one last asked for
-  pub name_asked : (before : List (List ℕ)) (name : List ℕ) (old new : Option FilesTold)
-      → FilesRead (before ++ name ∷ []) faults old new → IfSome new (IsNameAsked name faults)
-  name_asked before name None new h =
+  pub name_asked : (is_script : Bool) (before : List (List ℕ)) (name : List ℕ)
+      (old new : Option FilesTold)
+      → FilesRead is_script (before ++ name ∷ []) faults old new
+      → IfSome new (IsNameAsked name faults)
+  name_asked is_script before name None new h =
       subst (λ (o : Option FilesTold). IfSome o (IsNameAsked name faults)) (sym h) tt
-  name_asked before name (Some files) None h = tt
-  name_asked before name (Some files) (Some after) h = asked_last before name h
+  name_asked is_script before name (Some files) None h = tt
+  name_asked is_script before name (Some files) (Some after) h = asked_last before name h
 
   stray_not : {name : List ℕ} {old new : FilesTold} → OpensAndReads name faults old new
       → IsSome (old.content name) → new.strays ≡ old.strays
@@ -122,8 +160,8 @@ module _ (faults : ℕ) where
       ∙ ap (λ b. cond b old.strays (min (old.strays + 1) last_count)) there
 
   -- no file is opened that the content does not have, if it has all of these
-  same_strays : {names : List (List ℕ)} {old new : FilesTold} (left : List (List ℕ))
-      → OpensInOrder faults names old new
+  same_strays : {is_script : Bool} {names : List (List ℕ)} {old new : FilesTold}
+      (left : List (List ℕ)) → OpensInOrder faults is_script names old new
       → All (λ name. IsSome (old.content name)) (names ++ left) → new.strays ≡ old.strays
   same_strays left none there = refl
   same_strays {old = old} left (more {name = name} {names = names} first fits rest) there =
@@ -133,19 +171,19 @@ module _ (faults : ℕ) where
       (sym (content_then first)) tail)
       ∙ stray_not first (All-head (λ n. IsSome (old.content n)) name (names ++ left) there)
 
-  pub no_stray : (names left : List (List ℕ)) (old new : Option FilesTold)
-      → FilesRead names faults old new
+  pub no_stray : (is_script : Bool) (names left : List (List ℕ)) (old new : Option FilesTold)
+      → FilesRead is_script names faults old new
       → (before after : FilesTold) → old ≡ Some before → new ≡ Some after
       → All (λ name. IsSome (before.content name)) (names ++ left)
       → after.strays ≡ before.strays
-  no_stray names left None new h before after p q there = absurd (cc)
-  no_stray names left (Some files) None h before after p q there = absurd (cc)
-  no_stray names left (Some files) (Some next) h before after p q there =
+  no_stray is_script names left None new h before after p q there = absurd (cc)
+  no_stray is_script names left (Some files) None h before after p q there = absurd (cc)
+  no_stray is_script names left (Some files) (Some next) h before after p q there =
       let same : files ≡ before = cc in
       let last : next ≡ after = cc in
       subst (λ (f : FilesTold). f.strays ≡ before.strays) last
       (same_strays left
-      (subst (λ (f : FilesTold). OpensInOrder faults names f next) same h) there)
+      (subst (λ (f : FilesTold). OpensInOrder faults is_script names f next) same h) there)
 
 -- the names of files that were read
 names_in : (content : List ℕ → Option (List ℕ)) (names : List (List ℕ))
@@ -166,7 +204,7 @@ found_by : (b : Bool) (first : NamedFile) (rest : Option NamedFile) (found : Nam
 found_by true first rest found e = let same : first ≡ found = cc in inl (refl, same)
 found_by false first rest found e = inr (refl, e)
 
-found : (first : NamedFile) (rest : List NamedFile) (long : NamedFile)
+pub found : (first : NamedFile) (rest : List NamedFile) (long : NamedFile)
     → first_too_long (first ∷ rest) ≡ Some long
     → ((nat_lt LONGEST_FILE (length first.file) ≡ true) × (first ≡ long))
     ⊎ ((nat_lt LONGEST_FILE (length first.file) ≡ false) × (first_too_long rest ≡ Some long))
@@ -193,6 +231,7 @@ abbrev IsLongOf : List ℕ → ℕ → FilesTold → FilesTold → Type 0
 IsLongOf name faults old new =
     IsNameAsked name faults new × (LONGEST_FILE < length (file_named old name))
 
+-- the test says it
 ltb_true : (a b : ℕ) → nat_lt a b ≡ true → a < b
 ltb_true a b e = grind (arith, nat_tests, e)
 
@@ -212,8 +251,8 @@ not_long file short e =
     let over = ltb_true LONGEST_FILE (length (take read_limit file)) e in
     omega (arith, length-take read_limit file, over, short)
 
-long_last : {faults : ℕ} {names : List (List ℕ)} {old new : FilesTold} (long : NamedFile)
-    → OpensInOrder faults names old new
+long_last : {faults : ℕ} {is_script : Bool} {names : List (List ℕ)} {old new : FilesTold}
+    (long : NamedFile) → OpensInOrder faults is_script names old new
     → first_too_long (files_in old.content names) ≡ Some long → IsLongOf long.name faults old new
 long_last long none e = absurd (cc)
 long_last {old = old} long (more {name = name} first fits none) e =
@@ -228,11 +267,11 @@ long_last {faults = faults} {old = old} {new = new} long
     let front : NamedFile = record { name = name; file = take read_limit (file_named old name) } in
     let content = content_then first in
     elim (found front (files_in old.content (next ∷ names)) long e) [
-      | inl h ↦ absurd (not_long (file_named old name) fits h.0)
+      | inl h ↦ absurd (not_long (file_named old name) fits.0 h.0)
       | inr h ↦
           subst (λ (c : List ℕ → Option (List ℕ)). IsNameAsked long.name faults new
           × (LONGEST_FILE < length (unwrap_or (c long.name) []))) content
-          (long_last {old = between} long (more second then rest)
+          (long_last {is_script = false} {old = between} long (more second then rest)
           (subst (λ (c : List ℕ → Option (List ℕ)).
           first_too_long (files_in c (next ∷ names)) ≡ Some long) (sym content) h.1))
     ]
@@ -242,16 +281,16 @@ pub record IsLongIn (name : List ℕ) (faults : ℕ) (old new : Option FilesTold
   pub asked : IfSome new (IsNameAsked name faults)
   pub long : IfSome old (λ files. LONGEST_FILE < length (file_named files name))
 
-pub long_read : (names : List (List ℕ)) (files : List NamedFile) (faults : ℕ)
+pub long_read : (is_script : Bool) (names : List (List ℕ)) (files : List NamedFile) (faults : ℕ)
     (old new : Option FilesTold) (long : NamedFile) → AreFilesOf names files old
-    → FilesRead names faults old new → first_too_long files ≡ Some long
+    → FilesRead is_script names faults old new → first_too_long files ≡ Some long
     → IsLongIn long.name faults old new
-long_read names files faults None new long are read e = record {
+long_read is_script names files faults None new long are read e = record {
   asked = subst (λ (o : Option FilesTold). IfSome o (IsNameAsked long.name faults)) (sym read) tt;
   long = tt;
 }
-long_read names files faults (Some told) None long are read e = absurd read
-long_read names files faults (Some told) (Some after) long are read e =
+long_read is_script names files faults (Some told) None long are read e = absurd read
+long_read is_script names files faults (Some told) (Some after) long are read e =
     let last = long_last long read
     (subst (λ (fs : List NamedFile). first_too_long fs ≡ Some long) are e) in
     record { asked = last.0; long = last.1 }

@@ -1,17 +1,19 @@
 -- How the command comes to each of its answers.
-use Rattle.std.specs.Prelude.{◌≡◌, ◌⊎◌, ℕ, ◌<◌, Option, Some, None, IsSome, IfSome, List, [], ◌∷◌, ◌++◌, All, Contains, length, map, take}
+use Rattle.std.specs.Prelude.{◌≡◌, ◌⊎◌, ℕ, ◌<◌, Bool, true, Option, Some, None, is_some, option_to_list, IsSome, IfSome, Err, is_err, List, [], ◌∷◌, ◌++◌, All, Contains, length, map, take}
 use Rattle.iop_base.specs.Counts.{HasCause}
 use Rattle.iop_base.specs.Output.{Output}
 use Rattle.iop_machine.specs.Modules.{NamedFile}
 use Rattle.iop_modload.specs.declared.limits.TheConstants.{LONGEST_FILE}
 use Rattle.iop_ports.specs.Files.{FilesTold, IsAskedName}
 use Rattle.iop_ports.specs.Sinks.{SinkTold}
+use Rattle.iop_script.specs.Reading.{script_of}
 use Rattle.iop_trace.specs.Outs.{sinks}
 use Rattle.iop_front.specs.declared.status.Status.{Status}
 use Rattle.iop_front.specs.declared.status.Status.TheVariants.{BadWords, CannotRead, NoMemory}
-use Rattle.iop_front.specs.Outcome.{Meets, OpensInOrder, Refuses, outcome_of_files, first_too_long, bad_words_line}
-use Rattle.iop_front.specs.Outcome.{cannot_read_line, too_long_line, read_limit}
+use Rattle.iop_front.specs.Outcome.{Meets, OpensInOrder, Refuses, outcome_of_inputs, script_by, first_too_long, bad_words_line}
+use Rattle.iop_front.specs.Outcome.{bad_script_line, cannot_read_line, too_long_line, read_limit}
 use Rattle.iop_front.specs.Reading.{file_named}
+use Rattle.iop_front.specs.Words.{Command, has_script, files_of}
 
 -- what can be seen outside: what the files tell, how often they have failed, and the two sinks
 pub record Outside : Type 0 where
@@ -29,18 +31,22 @@ module _ {F C T : Type 0} where
     sinks = sinks console_told trace_told console trace;
   }
 
--- where the files tell, these were opened and read in order, as far as said
-abbrev pub FilesRead : List (List ℕ) → ℕ → Option FilesTold → Option FilesTold → Type 0
-FilesRead names faults None new = new ≡ None
-FilesRead names faults (Some files) None = ⊥
-FilesRead names faults (Some files) (Some after) = OpensInOrder faults names files after
+-- where the files tell, these, of which the first is a script's or not, were opened and read in
+-- order, as far as said
+abbrev pub FilesRead : (is_script : Bool) → List (List ℕ) → ℕ → Option FilesTold → Option FilesTold
+    → Type 0
+FilesRead is_script names faults None new = new ≡ None
+FilesRead is_script names faults (Some files) None = ⊥
+FilesRead is_script names faults (Some files) (Some after) =
+    OpensInOrder faults is_script names files after
 
--- the content has all files that the words name, if they name any
-abbrev pub HasFilesNamed : Option (List (List ℕ)) → FilesTold → Type 0
+-- the content has all files that a command reads, if the words are one
+abbrev pub HasFilesNamed : Option Command → FilesTold → Type 0
 HasFilesNamed None files = Unit {0}
-HasFilesNamed (Some names) files = All (λ name. IsSome (files.content name)) names
+HasFilesNamed (Some command) files = All (λ name. IsSome (files.content name)) (files_of command)
 
--- a name is the one last asked for, or there is no such file; and before its opening so many faults stood
+-- a name is the one last asked for, or there is no such file; and before its opening so many faults
+-- stood
 abbrev pub IsNameAsked : List ℕ → ℕ → FilesTold → Type 0
 IsNameAsked name faults files =
     IsAskedName files.asked name (files.content name) × (files.faults_before ≡ faults)
@@ -49,16 +55,19 @@ IsNameAsked name faults files =
 abbrev pub AreFilesOf : List (List ℕ) → List NamedFile → Option FilesTold → Type 0
 AreFilesOf names files None = map (λ named. named.name) files ≡ names
 AreFilesOf names files (Some told) =
-    files ≡ map (λ name. record { name = name; file = take read_limit (file_named told name) }) names
+    files
+    ≡ map (λ name. record { name = name; file = take read_limit (file_named told name) }) names
 
-pub record HasReadFiles (names : List (List ℕ)) (files : List NamedFile) (old new : Outside) : Type 0 where
+pub record HasReadFiles (is_script : Bool) (names : List (List ℕ)) (files : List NamedFile)
+    (old new : Outside) : Type 0 where
   pub are_files : AreFilesOf names files old.told
-  pub read : FilesRead names old.faults old.told new.told
+  pub read : FilesRead is_script names old.faults old.told new.told
   pub no_fault : new.faults ≡ old.faults
 
 -- after others a file could not be read: a call of the files failed
-pub record HasNotReadFile (before : List (List ℕ)) (name : List ℕ) (old new : Outside) : Type 0 where
-  pub files : FilesRead (before ++ name ∷ []) old.faults old.told new.told
+pub record HasNotReadFile (is_script : Bool) (before : List (List ℕ)) (name : List ℕ)
+    (old new : Outside) : Type 0 where
+  pub files : FilesRead is_script (before ++ name ∷ []) old.faults old.told new.told
   pub cause : HasCause old.faults new.faults
   pub line : Refuses (cannot_read_line name) old.sinks new.sinks
 
@@ -68,34 +77,58 @@ pub record HasNoCommand (old new : Outside) : Type 0 where
   pub faults : new.faults ≡ old.faults
   pub line : Refuses bad_words_line old.sinks new.sinks
 
--- reading ended here: no name is left, or the last file is too long
-abbrev pub EndsReading : List NamedFile → List (List ℕ) → Type 0
-EndsReading files left = (left ≡ []) ⊎ IsSome (first_too_long files)
+-- these files of a command were read: the first is the script's, if it has one
+pub record HasReadInputs (command : Command) (names left : List (List ℕ))
+    (script : Option NamedFile) (files : List NamedFile) (old new : Outside) : Type 0 where
+  pub are_names : files_of command ≡ names ++ left
+  pub is_script : is_some script ≡ is_some command.script
+  pub read : HasReadFiles (has_script command) names (option_to_list script ++ files) old new
 
--- by the files that the words name
-pub data Answers : Option (List (List ℕ)) → Status → Outside → Outside → Type 0 where
+-- reading ended here: no name is left, the script is refused, or the last file is too long
+abbrev pub EndsReading : Option NamedFile → List NamedFile → List (List ℕ) → Type 0
+EndsReading script files left =
+    (left ≡ []) ⊎ ((is_err (script_by script) ≡ true) ⊎ IsSome (first_too_long files))
+
+-- by the command that the words are
+pub data Answers : Option Command → Status → Outside → Outside → Type 0 where
   bad_words : {old new : Outside} → HasNoCommand old new → Answers None BadWords old new
-  cannot_read : {old new : Outside} (before : List (List ℕ)) (name : List ℕ) (left : List (List ℕ))
-      → HasNotReadFile before name old new
-      → Answers (Some (before ++ name ∷ left)) CannotRead old new
-  no_memory : {old new : Outside} (names left : List (List ℕ))
-      → FilesRead names old.faults old.told new.told → new.faults ≡ old.faults
-      → new.sinks ≡ old.sinks → Answers (Some (names ++ left)) NoMemory old new
-  from_files : {status : Status} {old new : Outside} (names left : List (List ℕ))
-      (files : List NamedFile) → HasReadFiles names files old new → EndsReading files left
-      → Meets (outcome_of_files files) status old.sinks new.sinks
-      → Answers (Some (names ++ left)) status old new
+  cannot_read : {old new : Outside} {command : Command} (before : List (List ℕ)) (name : List ℕ)
+      (left : List (List ℕ)) → files_of command ≡ before ++ name ∷ left
+      → HasNotReadFile (has_script command) before name old new
+      → Answers (Some command) CannotRead old new
+  no_memory : {old new : Outside} {command : Command} (names left : List (List ℕ))
+      → files_of command ≡ names ++ left
+      → FilesRead (has_script command) names old.faults old.told new.told
+      → new.faults ≡ old.faults → new.sinks ≡ old.sinks → Answers (Some command) NoMemory old new
+  from_files : {status : Status} {old new : Outside} {command : Command}
+      (names left : List (List ℕ)) (script : Option NamedFile) (files : List NamedFile)
+      → HasReadInputs command names left script files old new → EndsReading script files left
+      → Meets (outcome_of_inputs script files) status old.sinks new.sinks
+      → Answers (Some command) status old new
 
--- 22: a file that is named was not read. Its line was written, and where the files tell, its name is the
--- one last asked for, or there is no such file; and before its opening no call had failed
-pub record IsUnread (names : List (List ℕ)) (faults : ℕ) (told : Option FilesTold) (old new : Output) : Type 0 where
+-- 21: the script has a bad line, whose line was written, and no file but the script's was opened.
+-- Where the files tell, it is the first bad line of that file
+pub record HasBadScript (command : Command) (faults : ℕ) (before after : Option FilesTold)
+    (old new : Output) : Type 0 where
+  pub name : List ℕ
+  pub named : command.script ≡ Some name
+  pub number : ℕ
+  pub line : Refuses (bad_script_line number) old new
+  pub read : FilesRead true (name ∷ []) faults before after
+  pub asked : IfSome after (IsNameAsked name faults)
+  pub bad : IfSome before (λ files. script_of (file_named files name) ≡ Err number)
+
+-- 22: a file that is named was not read. Its line was written, and where the files tell, its name is
+-- the one last asked for, or there is no such file; and before its opening no call had failed
+pub record IsUnread (names : List (List ℕ)) (faults : ℕ) (told : Option FilesTold)
+    (old new : Output) : Type 0 where
   pub name : List ℕ
   pub named : Contains names name
   pub line : Refuses (cannot_read_line name) old new
   pub asked : IfSome told (IsNameAsked name faults)
 
--- 23: a file that is named is too long, and its line was written. Where the files tell, its name is the one
--- last asked for, or there is no such file; and it has more bytes than a file may have
+-- 23: a file that is named is too long, and its line was written. Where the files tell, its name is
+-- the one last asked for, or there is no such file; and it has more bytes than a file may have
 pub record IsTooLong (names : List (List ℕ)) (faults : ℕ) (before after : Option FilesTold)
     (old new : Output) : Type 0 where
   pub name : List ℕ
@@ -104,9 +137,9 @@ pub record IsTooLong (names : List (List ℕ)) (faults : ℕ) (before after : Op
   pub asked : IfSome after (IsNameAsked name faults)
   pub long : IfSome before (λ files. LONGEST_FILE < length (file_named files name))
 
--- the first of these names were opened in order, and no other file
-pub record OpensFirst (names : List (List ℕ)) (faults : ℕ) (old new : Option FilesTold) : Type 0 where
+-- the first of a command's files were opened in order, and no other file
+pub record OpensFirst (command : Command) (faults : ℕ) (old new : Option FilesTold) : Type 0 where
   pub opened : List (List ℕ)
   pub left : List (List ℕ)
-  pub are_first : names ≡ opened ++ left
-  pub files : FilesRead opened faults old new
+  pub are_first : files_of command ≡ opened ++ left
+  pub files : FilesRead (has_script command) opened faults old new

@@ -1,4 +1,6 @@
 pub mod Answers
+pub mod Commands
+pub mod Faults
 pub mod Modules
 pub mod Outcome
 pub mod Reading

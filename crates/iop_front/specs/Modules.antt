@@ -1,14 +1,18 @@
--- What reading the modules of a command gives: all of them, or why they were not read.
-use Rattle.std.specs.Prelude.{◌≡◌, ℕ, ◌≤◌, Option, Some, List, [], ◌∷◌, ◌++◌, length}
+-- What reading the script and the modules of a command gives: all of them, or why they were not
+-- read.
+use Rattle.std.specs.Prelude.{◌≡◌, ℕ, ◌≤◌, Bool, true, Option, Some, None, is_some, option_to_list, Ok, Err, List, [], ◌∷◌, ◌++◌, length}
 use Rattle.iop_base.specs.Counts.{HasCause}
 use Rattle.iop_machine.specs.Modules.{NamedFile}
 use Rattle.iop_modload.specs.declared.limits.TheConstants.{LONGEST_FILE}
 use Rattle.iop_ports.specs.Files.{FilesTold}
 use Rattle.iop_front.specs.Answers.{FilesRead, AreFilesOf}
-use Rattle.iop_front.specs.Outcome.{first_too_long}
+use Rattle.iop_front.specs.Outcome.{IsGoodFile, first_too_long}
 use Rattle.iop_front.specs.declared.limits.TheConstants.{LONGEST_WORD}
 use Rattle.iop_front.specs.declared.unread.Unread.{Unread}
-use Rattle.iop_front.specs.declared.unread.Unread.TheVariants.{Unreadable, TooLong, NoMemory}
+use Rattle.iop_front.specs.declared.unread.Unread.TheVariants.{Unreadable, TooLong, BadScript, NoMemory}
+use Rattle.iop_front.specs.Words.{Command, has_script, files_of}
+use Rattle.iop_script.specs.Reading.{empty_script, script_of}
+use Rattle.iop_script.specs.Scripts.{Script}
 
 -- what can be seen of the files: what they tell, and how often they have failed
 pub record Seen : Type 0 where
@@ -24,40 +28,88 @@ pub record IsShort (named : NamedFile) : Type 0 where
   pub name : length named.name ≤ LONGEST_WORD
   pub file : length named.file ≤ LONGEST_FILE
 
+-- behind the first file, which is a script's or not, others were read only where it is good
+abbrev pub GoesOn : (is_script : Bool) → List NamedFile → Type 0
+GoesOn is_script [] = Unit {0}
+GoesOn is_script (first ∷ []) = Unit {0}
+GoesOn is_script (first ∷ next ∷ files) = IsGoodFile is_script first.file
+
 -- these files were opened and read, one after the other, and no call failed
-pub record HasTaken (names : List (List ℕ)) (files : List NamedFile) (old new : Seen) : Type 0 where
+pub record HasTaken (is_script : Bool) (names : List (List ℕ)) (files : List NamedFile)
+    (old new : Seen) : Type 0 where
   pub are_files : AreFilesOf names files old.told
-  pub read : FilesRead names old.faults old.told new.told
+  pub goes_on : GoesOn is_script files
+  pub read : FilesRead is_script names old.faults old.told new.told
   pub no_fault : new.faults ≡ old.faults
 
 -- the file of this name could not be read, and none behind it was opened
-pub record HasStoppedUnread (names : List (List ℕ)) (name : List ℕ) (old new : Seen) : Type 0 where
+pub record HasStoppedUnread (is_script : Bool) (names : List (List ℕ)) (name : List ℕ)
+    (old new : Seen) : Type 0 where
   pub before : List (List ℕ)
   pub left : List (List ℕ)
   pub are_names : names ≡ before ++ name ∷ left
-  pub read : FilesRead (before ++ name ∷ []) old.faults old.told new.told
+  pub read : FilesRead is_script (before ++ name ∷ []) old.faults old.told new.told
   pub cause : HasCause old.faults new.faults
 
 -- the file of this name is the first that is too long, and none behind it was opened
-pub record HasStoppedTooLong (names : List (List ℕ)) (name : List ℕ) (old new : Seen) : Type 0 where
+pub record HasStoppedTooLong (is_script : Bool) (names : List (List ℕ)) (name : List ℕ)
+    (old new : Seen) : Type 0 where
   pub opened : List (List ℕ)
   pub left : List (List ℕ)
   pub are_names : names ≡ opened ++ left
   pub files : List NamedFile
   pub file : List ℕ
-  pub taken : HasTaken opened files old new
+  pub taken : HasTaken is_script opened files old new
   pub decides : first_too_long files ≡ Some (record { name = name; file = file })
 
+-- the file of this name, the first, is a script with a bad line, and none behind it was opened
+pub record HasStoppedBad (is_script : Bool) (names : List (List ℕ)) (number : ℕ)
+    (old new : Seen) : Type 0 where
+  pub is_one : is_script ≡ true
+  pub file : NamedFile
+  pub left : List (List ℕ)
+  pub are_names : names ≡ file.name ∷ left
+  pub taken : HasTaken is_script (file.name ∷ []) (file ∷ []) old new
+  pub short : length file.file ≤ LONGEST_FILE
+  pub bad : script_of file.file ≡ Err number
+
 -- there was no memory, and no further file was opened
-pub record HasStoppedShort (names : List (List ℕ)) (old new : Seen) : Type 0 where
+pub record HasStoppedShort (is_script : Bool) (names : List (List ℕ)) (old new : Seen)
+    : Type 0 where
   pub opened : List (List ℕ)
   pub left : List (List ℕ)
   pub are_names : names ≡ opened ++ left
-  pub read : FilesRead opened old.faults old.told new.told
+  pub read : FilesRead is_script opened old.faults old.told new.told
   pub no_fault : new.faults ≡ old.faults
 
--- why the files of these names were not all read
-abbrev pub HasStopped : List (List ℕ) → Unread → Seen → Seen → Type 0
-HasStopped names (Unreadable word) old new = HasStoppedUnread names word.text.now old new
-HasStopped names (TooLong word) old new = HasStoppedTooLong names word.text.now old new
-HasStopped names NoMemory old new = HasStoppedShort names old new
+-- why the files of these names, of which the first is a script's or not, were not all read
+abbrev pub HasStopped : (is_script : Bool) → List (List ℕ) → Unread → Seen → Seen → Type 0
+HasStopped is_script names (Unreadable name) old new =
+    HasStoppedUnread is_script names name.now old new
+HasStopped is_script names (TooLong name) old new =
+    HasStoppedTooLong is_script names name.now old new
+HasStopped is_script names (BadScript number) old new =
+    HasStoppedBad is_script names number old new
+HasStopped is_script names NoMemory old new = HasStoppedShort is_script names old new
+
+-- a script is that of a file, which is not too long, or the empty one where there is no file
+abbrev pub IsScriptOf : Option NamedFile → Script → Type 0
+IsScriptOf None script = script ≡ empty_script
+IsScriptOf (Some file) script =
+    (length file.file ≤ LONGEST_FILE) × (script_of file.file ≡ Ok script)
+
+-- the file of a script was read, if one is named
+pub record HasScript (name : Option (List ℕ)) (script : Script) (old new : Seen) : Type 0 where
+  pub file : Option NamedFile
+  pub is_script : is_some file ≡ is_some name
+  pub taken : HasTaken (is_some name) (option_to_list name) (option_to_list file) old new
+  pub says : IsScriptOf file script
+
+-- the files of a command were read, all of them: its script's, if it has one, and its modules'
+pub record HasInputs (command : Command) (script : Script) (modules : List NamedFile)
+    (old new : Seen) : Type 0 where
+  pub file : Option NamedFile
+  pub is_script : is_some file ≡ is_some command.script
+  pub taken : HasTaken (has_script command) (files_of command) (option_to_list file ++ modules)
+      old new
+  pub says : IsScriptOf file script

@@ -1,7 +1,7 @@
 -- What a command is to write and to answer, by its words and the contents of the files: this
 -- project's profile.
-use Rattle.std.specs.Prelude.{◌≡◌, ◌⊎◌, ℕ, ◌+◌, ◌≤◌, nat_lt, Bool, if◌then◌else◌, Option, Some, None, List, [], ◌∷◌}
-use Rattle.std.specs.Prelude.{◌++◌, codes, find, length, map}
+use Rattle.std.specs.Prelude.{◌≡◌, ◌⊎◌, ℕ, ◌+◌, ◌≤◌, nat_lt, Bool, true, false, if◌then◌else◌, Option, Some, None, option_map, Result, Ok, Err, is_ok, List, [], ◌∷◌}
+use Rattle.std.specs.Prelude.{◌++◌, codes, decimal, find, length, map}
 use Rattle.iop_base.specs.Piece.{Piece, Traced}
 use Rattle.iop_base.specs.Output.{Output}
 use Rattle.iop_base.specs.Text.{line_bytes}
@@ -11,11 +11,13 @@ use Rattle.iop_machine.specs.Stepping.{Ran, run_of}
 use Rattle.iop_machine.specs.World.{beginning}
 use Rattle.iop_modload.specs.declared.limits.TheConstants.{LONGEST_FILE}
 use Rattle.iop_ports.specs.Files.{FilesTold}
+use Rattle.iop_script.specs.Reading.{empty_script, script_of}
+use Rattle.iop_script.specs.Scripts.{Script}
 use Rattle.iop_trace.specs.Outs.{Leaves}
 use Rattle.iop_front.specs.declared.limits.TheConstants.{BUDGET, MEMORY_SIZE}
 use Rattle.iop_front.specs.declared.status.Status.{Status}
-use Rattle.iop_front.specs.declared.status.Status.TheVariants.{BadWords, TooLong, SinkFault, NoMemory}
-use Rattle.iop_front.specs.Words.{modules_named}
+use Rattle.iop_front.specs.declared.status.Status.TheVariants.{BadWords, BadScript, TooLong, SinkFault, NoMemory}
+use Rattle.iop_front.specs.Words.{Command, command_of}
 use Rattle.iop_front.specs.Reading.{file_named, opened_with, left_after}
 use Rattle.iop_front.specs.Statuses.{status_code, status_of}
 
@@ -31,6 +33,10 @@ refusal status line = record { pieces = Traced line ∷ []; status = status; sta
 
 abbrev pub bad_words_line : List ℕ
 bad_words_line = codes "iop: bad words\n"
+
+-- the number of the line, from 1 on
+abbrev pub bad_script_line : ℕ → List ℕ
+bad_script_line number = codes "iop: script line " ++ decimal number ++ codes "\n"
 
 abbrev pub cannot_read_line : List ℕ → List ℕ
 cannot_read_line name = codes "iop: cannot read " ++ name ++ codes "\n"
@@ -50,35 +56,62 @@ outcome_of_run ran = record {
   status_if_cut = SinkFault;
 }
 
--- the run of the machine that loads these modules, one after the other
-abbrev pub outcome_of_modules : List NamedFile → Outcome
-outcome_of_modules files =
-    outcome_of_run (run_of BUDGET (beginning MEMORY_SIZE (modules_from [] 1 files)))
+-- the run of the machine that loads these modules, one after the other, as the script says
+abbrev pub outcome_of_modules : Script → List NamedFile → Outcome
+outcome_of_modules script files = outcome_of_run (run_of BUDGET
+    (beginning MEMORY_SIZE (modules_from script.args 1 files) script.events))
 
 -- the first file that is too long
 abbrev pub first_too_long : List NamedFile → Option NamedFile
 first_too_long files = find (λ named. nat_lt LONGEST_FILE (length named.file)) files
 
 -- it decides, and else the modules are run
-abbrev pub outcome_by : Option NamedFile → List NamedFile → Outcome
-outcome_by (Some long) files = refusal TooLong (too_long_line long.name)
-outcome_by None files = outcome_of_modules files
+abbrev pub outcome_by : Option NamedFile → Script → List NamedFile → Outcome
+outcome_by (Some long) script files = refusal TooLong (too_long_line long.name)
+outcome_by None script files = outcome_of_modules script files
 
--- of files, in order
-abbrev pub outcome_of_files : List NamedFile → Outcome
-outcome_of_files files = outcome_by (first_too_long files) files
+-- of the files of modules, in order
+abbrev pub outcome_of_files : Script → List NamedFile → Outcome
+outcome_of_files script files = outcome_by (first_too_long files) script files
 
--- the files of these names; a name that the content does not have counts as an empty file
-abbrev pub files_named : FilesTold → List (List ℕ) → List NamedFile
-files_named told names = map (λ name. record { name = name; file = file_named told name }) names
+-- a script, or the refusal of its first bad line
+abbrev pub script_read : Result Script ℕ → Result Script Outcome
+script_read (Ok script) = Ok script
+script_read (Err number) = Err (refusal BadScript (bad_script_line number))
 
-abbrev pub outcome_named : FilesTold → Option (List (List ℕ)) → Outcome
+-- the script of a file, or the refusal of the file: it is too long, or has a bad line
+abbrev pub script_from : NamedFile → Result Script Outcome
+script_from named =
+    if nat_lt LONGEST_FILE (length named.file) then Err (refusal TooLong (too_long_line named.name))
+    else script_read (script_of named.file)
+
+-- of the script's file, if there is one; else nothing is said
+abbrev pub script_by : Option NamedFile → Result Script Outcome
+script_by None = Ok empty_script
+script_by (Some named) = script_from named
+
+-- a refusal of the script decides before the modules
+abbrev pub outcome_behind : Result Script Outcome → List NamedFile → Outcome
+outcome_behind (Err refused) files = refused
+outcome_behind (Ok script) files = outcome_of_files script files
+
+-- of the script's file, if there is one, and of the files of modules
+abbrev pub outcome_of_inputs : Option NamedFile → List NamedFile → Outcome
+outcome_of_inputs script files = outcome_behind (script_by script) files
+
+-- the file of a name; a name that the content does not have counts as an empty file
+abbrev pub named_file : FilesTold → List ℕ → NamedFile
+named_file told name = record { name = name; file = file_named told name }
+
+abbrev pub outcome_named : FilesTold → Option Command → Outcome
 outcome_named told None = refusal BadWords bad_words_line
-outcome_named told (Some names) = outcome_of_files (files_named told names)
+outcome_named told (Some command) =
+    outcome_of_inputs (option_map (named_file told) command.script)
+    (map (named_file told) command.modules)
 
 -- the outcome of a command
 abbrev pub outcome_of : List (List ℕ) → FilesTold → Outcome
-outcome_of words told = outcome_named told (modules_named words)
+outcome_of words told = outcome_named told (command_of words)
 
 -- a refusal's line was written to the trace, or a front of it, and a write failed
 abbrev pub Refuses : List ℕ → Output → Output → Type 0
@@ -111,15 +144,21 @@ pub record OpensAndReads (name : List ℕ) (faults : ℕ) (old new : FilesTold) 
   pub within : taken ≤ read_limit
   pub files : new ≡ opened_with name opens faults (left_after name opens taken old) old
 
--- another file may be opened behind this one only where it is not too long
-abbrev pub MayGoOn : (file : List ℕ) → List (List ℕ) → Type 0
-MayGoOn file [] = Unit {0}
-MayGoOn file (next ∷ names) = length file ≤ LONGEST_FILE
+-- a file that is a script's has no bad line
+abbrev pub IsGoodFile : (is_script : Bool) → (file : List ℕ) → Type 0
+IsGoodFile true file = is_ok (script_of file) ≡ true
+IsGoodFile false file = Unit {0}
 
--- so were these, one after the other, none behind one that is too long; before each opening so many
--- faults stood
-pub data OpensInOrder (faults : ℕ) : List (List ℕ) → FilesTold → FilesTold → Type 0 where
-  none : {files : FilesTold} → OpensInOrder faults [] files files
-  more : {name : List ℕ} {names : List (List ℕ)} {old between new : FilesTold}
-      → OpensAndReads name faults old between → MayGoOn (file_named old name) names
-      → OpensInOrder faults names between new → OpensInOrder faults (name ∷ names) old new
+-- another file may be opened behind this one only where it is not too long, and good
+abbrev pub MayGoOn : (is_script : Bool) → (file : List ℕ) → List (List ℕ) → Type 0
+MayGoOn is_script file [] = Unit {0}
+MayGoOn is_script file (next ∷ names) = (length file ≤ LONGEST_FILE) × IsGoodFile is_script file
+
+-- so were these, one after the other, of which the first is a script's or not: none behind one that
+-- is too long or a bad script; before each opening so many faults stood
+pub data OpensInOrder (faults : ℕ) : Bool → List (List ℕ) → FilesTold → FilesTold → Type 0 where
+  none : {is_script : Bool} {files : FilesTold} → OpensInOrder faults is_script [] files files
+  more : {is_script : Bool} {name : List ℕ} {names : List (List ℕ)} {old between new : FilesTold}
+      → OpensAndReads name faults old between → MayGoOn is_script (file_named old name) names
+      → OpensInOrder faults false names between new
+      → OpensInOrder faults is_script (name ∷ names) old new

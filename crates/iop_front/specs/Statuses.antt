@@ -3,7 +3,7 @@ use Rattle.std.specs.Prelude.{◌≡◌, ◌⊎◌, ℕ}
 use Rattle.iop_base.specs.declared.stop.Stop.{Stop}
 use Rattle.iop_base.specs.declared.stop.Stop.TheVariants as stops
 use Rattle.iop_front.specs.declared.status.Status.{Status}
-use Rattle.iop_front.specs.declared.status.Status.TheVariants.{Quiet, Budget, GuestFault, BadWords, CannotRead, TooLong}
+use Rattle.iop_front.specs.declared.status.Status.TheVariants.{Quiet, Budget, GuestFault, BadWords, BadScript, CannotRead, TooLong}
 use Rattle.iop_front.specs.declared.status.Status.TheVariants.{SinkFault, NoMemory}
 
 abbrev pub status_code : Status → ℕ
@@ -11,6 +11,7 @@ status_code Quiet = 0
 status_code Budget = 10
 status_code GuestFault = 11
 status_code BadWords = 20
+status_code BadScript = 21
 status_code CannotRead = 22
 status_code TooLong = 23
 status_code SinkFault = 24
@@ -27,7 +28,7 @@ IsRunCode code = (code ≡ 0) ⊎ ((code ≡ 10) ⊎ (code ≡ 11))
 
 -- a refusal's
 abbrev pub IsRefusalCode : ℕ → Type 0
-IsRefusalCode code = (code ≡ 20) ⊎ ((code ≡ 22) ⊎ (code ≡ 23))
+IsRefusalCode code = (code ≡ 20) ⊎ ((code ≡ 21) ⊎ ((code ≡ 22) ⊎ (code ≡ 23)))
 
 -- all that a command answers
 abbrev pub IsExitCode : ℕ → Type 0

@@ -1,9 +1,9 @@
-ghost use Rattle.std.specs.Prelude.{◌≡◌, ◌≢◌, ◌↔◌, ◌⊎◌, ℕ, List, Some, None, map, string_bytes};
+ghost use Rattle.std.specs.Prelude.{◌≡◌, ◌≢◌, ◌↔◌, ◌⊎◌, Some, None, map, string_bytes};
 ghost use Rattle.iop_base.specs.Counts.{HasCause};
 ghost use Rattle.iop_ports.specs.Files.{FilesTold};
 ghost use Rattle.iop_trace.specs.Outs.{sinks};
-ghost use Rattle.iop_front.specs.Answers.{FilesRead, OpensFirst, HasFilesNamed, IsUnread, IsTooLong};
-ghost use Rattle.iop_front.specs.Words.{modules_named};
+ghost use Rattle.iop_front.specs.Answers.{FilesRead, OpensFirst, HasFilesNamed, HasBadScript, IsUnread, IsTooLong};
+ghost use Rattle.iop_front.specs.Words.{Command, command_of, has_script, files_of};
 ghost use Rattle.iop_front.specs.Outcome.{Refuses, MeetsCode, bad_words_line, outcome_of};
 ghost use Rattle.iop_front.specs.Statuses.{IsRunCode, IsRefusalCode, IsExitCode, IsCutCode};
 
@@ -11,13 +11,14 @@ use crate::answering::answer;
 use iop_ports::{Files, Sink};
 use std::alloc::Global;
 
-/// The command `iop`: opens and reads the files that its words name, loads their modules one after the
-/// other, links them to the registered libraries and runs them. It writes the lines of the run to the
+/// The command `iop`: opens and reads the files that its words name, a script's first, if
+/// `--script` and its name stand first; loads the modules one after the other, links them to the
+/// registered libraries and runs them, as the script says. It writes the lines of the run to the
 /// trace and the modules' texts to the console, and answers the exit status (`Status::code`).
 ///
-/// The words are without the program's name. The first file that cannot be read, or is too long,
-/// decides, and no later one is opened. At most 4,194,305 bytes of each are read. Memory for the machine
-/// is taken only after the last.
+/// The words are without the program's name. The first file that cannot be read, or is too long, or
+/// a bad line of the script, decides, and no later file is opened. At most 4,194,305 bytes of each
+/// are read. Memory for the machine is taken only after the last.
 pub fn iop_main<F: Files, C: Sink, T: Sink>(
     alloc: Global,
     words: &[String],
@@ -34,38 +35,49 @@ pub fn iop_main<F: Files, C: Sink, T: Sink>(
         (sinks C.told T.told console.new trace.new) }
 
     // 20: exactly where the words are no command. No file is opened then.
-    ensures bad_words { (result ≡ 20) ↔ (modules_named (map string_bytes words.now) ≡ None) }
+    ensures bad_words { (result ≡ 20) ↔ (command_of (map string_bytes words.now) ≡ None) }
     ensures bad_words_line { result ≡ 20 → Refuses bad_words_line
         (sinks C.told T.told console.old trace.old)
         (sinks C.told T.told console.new trace.new) }
     ensures untouched { result ≡ 20 → files.new ≡ files.old }
 
-    // 22: only where a call of the files failed, and always there.
-    ensures unread { result ≡ 22 → HasCause (F.faults files.old) (F.faults files.new) }
-    ensures unread_shows { F.faults files.new ≢ F.faults files.old → result ≡ 22 }
-    ensures unread_line { (names : List (List ℕ))
-        → modules_named (map string_bytes words.now) ≡ Some names
-        → result ≡ 22 → IsUnread names (F.faults files.old) (F.told files.new)
+    // 21: the line of a script with a bad line. No module's file is opened then.
+    ensures bad_script_line { (command : Command)
+        → command_of (map string_bytes words.now) ≡ Some command
+        → result ≡ 21 → HasBadScript command
+        (F.faults files.old) (F.told files.old) (F.told files.new)
         (sinks C.told T.told console.old trace.old)
         (sinks C.told T.told console.new trace.new) }
 
-    // Where the files tell, those that the words name are opened in order, no other, none behind one
-    // that is too long, and at most 4,194,305 bytes of each are read: all of them before a run.
-    ensures read { (names : List (List ℕ))
-        → modules_named (map string_bytes words.now) ≡ Some names
-        → OpensFirst names (F.faults files.old) (F.told files.old) (F.told files.new) }
-    ensures read_all { (names : List (List ℕ))
-        → modules_named (map string_bytes words.now) ≡ Some names → IsRunCode result
-        → FilesRead names (F.faults files.old) (F.told files.old) (F.told files.new) }
+    // 22: only where a call of the files failed, and always there.
+    ensures unread { result ≡ 22 → HasCause (F.faults files.old) (F.faults files.new) }
+    ensures unread_shows { F.faults files.new ≢ F.faults files.old → result ≡ 22 }
+    ensures unread_line { (command : Command)
+        → command_of (map string_bytes words.now) ≡ Some command
+        → result ≡ 22 → IsUnread (files_of command) (F.faults files.old) (F.told files.new)
+        (sinks C.told T.told console.old trace.old)
+        (sinks C.told T.told console.new trace.new) }
+
+    // Where the files tell, those that the words name are opened in order, no other, none behind
+    // one that is too long or behind a script with a bad line, and at most 4,194,305 bytes of each
+    // are read: all of them before a run.
+    ensures read { (command : Command)
+        → command_of (map string_bytes words.now) ≡ Some command
+        → OpensFirst command (F.faults files.old) (F.told files.old) (F.told files.new) }
+    ensures read_all { (command : Command)
+        → command_of (map string_bytes words.now) ≡ Some command → IsRunCode result
+        → FilesRead (has_script command) (files_of command)
+        (F.faults files.old) (F.told files.old) (F.told files.new) }
     ensures no_stray { (before after : FilesTold)
         → F.told files.old ≡ Some before → F.told files.new ≡ Some after
-        → HasFilesNamed (modules_named (map string_bytes words.now)) before
+        → HasFilesNamed (command_of (map string_bytes words.now)) before
         → after.strays ≡ before.strays }
 
     // 23: the line of a file that is too long.
-    ensures too_long_line { (names : List (List ℕ))
-        → modules_named (map string_bytes words.now) ≡ Some names
-        → result ≡ 23 → IsTooLong names (F.faults files.old) (F.told files.old) (F.told files.new)
+    ensures too_long_line { (command : Command)
+        → command_of (map string_bytes words.now) ≡ Some command
+        → result ≡ 23 → IsTooLong (files_of command)
+        (F.faults files.old) (F.told files.old) (F.told files.new)
         (sinks C.told T.told console.old trace.old)
         (sinks C.told T.told console.new trace.new) }
 

@@ -3,8 +3,10 @@
 
 mod answering;
 mod command;
+mod command_words;
 #[cfg(test)]
 mod image_tests;
+mod inputs;
 mod limits;
 mod modules;
 #[cfg(test)]

@@ -1,11 +1,11 @@
 //! The modules that a command names, read from their files.
 
-ghost use Rattle.std.specs.Prelude.{◌≡◌, ◌≤◌, [], ◌∷◌, All, IfOk, MatchResult, length, map, string_bytes};
+ghost use Rattle.std.specs.Prelude.{◌≡◌, ◌≤◌, false, [], ◌∷◌, All, IfOk, MatchResult, length, map, string_bytes};
 ghost use Rattle.iop_machine.specs.declared.module.TheConstants.{MOST_MODULES};
 ghost use Rattle.iop_front.specs.Modules.{seen, HasTaken, HasStopped, IsShort};
 ghost use Rattle.iop_front.specs.Outcome.{read_limit};
 
-use crate::reading::read_file;
+use crate::reading::read_whole;
 use crate::unread::Unread;
 use crate::words::{ModuleWord, ModuleWords};
 use iop_machine::Module;
@@ -18,7 +18,7 @@ use std::alloc::{AllocError, Global};
 const READ_LIMIT: usize = LONGEST_FILE as usize + 1;
 
 /// Makes a buffer of `READ_LIMIT` zero bytes.
-fn read_buffer(alloc: Global) -> Result<Vec<u8>, AllocError>
+pub(crate) fn read_buffer(alloc: Global) -> Result<Vec<u8>, AllocError>
     ensures { IfOk result (λ buffer. length buffer.items ≡ read_limit) }
 {
     vec![in alloc; 0; READ_LIMIT]
@@ -46,42 +46,40 @@ fn read_module<'a, F: Files>(
 ) -> Result<Module, Unread<'a>>
     requires { length buffer.old ≡ read_limit }
     ensures read { MatchResult result
-        (λ read. HasTaken (word.entry.text.now ∷ []) (read ∷ [])
+        (λ read. HasTaken false (word.entry.text.now ∷ []) (read ∷ [])
         (seen F.told F.faults files.old) (seen F.told F.faults files.new))
-        (λ unread. HasStopped (word.entry.text.now ∷ []) unread
+        (λ unread. HasStopped false (word.entry.text.now ∷ []) unread
         (seen F.told F.faults files.old) (seen F.told F.faults files.new)) }
     ensures short { IfOk result IsShort }
 {
-    match read_file(files, word.text, buffer) {
-        Ok(len) if len > LONGEST_FILE as usize => Err(Unread::TooLong(word)),
-        Ok(len) => Ok(module_of(alloc, word, &buffer[..len])?),
-        Err(_) => Err(Unread::Unreadable(word)),
-    }
+    let len = read_whole(word.text, buffer, files)?;
+    Ok(module_of(alloc, word, &buffer[..len])?)
 }
 
-/// Reads the modules that these words name, in order. The first that cannot be read or is too long
-/// decides, and no later file is opened. Nor is one where there is no memory.
-#[inline(never)]
+/// Reads the modules that these words name, in order, through a buffer of `READ_LIMIT` bytes. The
+/// first that cannot be read or is too long decides, and no later file is opened. Nor is one where
+/// there is no memory.
 pub(crate) fn read_modules<'a, F: Files>(
     alloc: Global,
     words: ModuleWords<'a>,
+    buffer: &mut [u8],
     files: &mut F,
 ) -> Result<Vec<Module>, Unread<'a>>
+    requires { length buffer.old ≡ read_limit }
     ensures read { MatchResult result
-        (λ modules. HasTaken (map string_bytes words.entry.texts.now) modules.items
+        (λ modules. HasTaken false (map string_bytes words.entry.texts.now) modules.items
         (seen F.told F.faults files.old) (seen F.told F.faults files.new))
-        (λ unread. HasStopped (map string_bytes words.entry.texts.now) unread
+        (λ unread. HasStopped false (map string_bytes words.entry.texts.now) unread
         (seen F.told F.faults files.old) (seen F.told F.faults files.new)) }
     ensures few { IfOk result (λ modules. length modules.items ≤ MOST_MODULES) }
     ensures short { IfOk result (λ modules. All IsShort modules.items) }
 {
-    let mut buffer = read_buffer(alloc)?;
     let mut modules = Vec::with_capacity(alloc, words.texts.len())?;
     for text in words.texts {
         let word = ModuleWord {
             text: text.as_str(),
         };
-        let module = read_module(alloc, word, &mut buffer, files)?;
+        let module = read_module(alloc, word, buffer, files)?;
         modules.push(module).unwrap();
     }
     Ok(modules)

@@ -1,7 +1,12 @@
-ghost use Rattle.std.specs.Prelude.{◌≡◌, ◌≤◌, length, IfOk, OnOk, OnErr};
+ghost use Rattle.std.specs.Prelude.{◌≡◌, ◌≤◌, Bool, [], ◌∷◌, length, take, IfOk, OnOk, OnErr, MatchResult};
+ghost use Rattle.iop_modload.specs.declared.limits.TheConstants.{LONGEST_FILE};
 ghost use Rattle.iop_ports.specs.Counts.{HasCause};
+ghost use Rattle.iop_front.specs.Modules.{seen, HasTaken, HasStopped};
+ghost use Rattle.iop_front.specs.Outcome.{read_limit};
 ghost use Rattle.iop_front.specs.Reading.{HasRead};
 
+use crate::unread::Unread;
+use iop_modload::LONGEST_FILE;
 use iop_ports::{Failed, Files};
 
 /// Opens a file and reads it into `buf` until its end or until the buffer is full. Answers how many
@@ -27,4 +32,27 @@ pub(crate) fn read_file<F: Files>(
         len += n;
     }
     Ok(len)
+}
+
+/// Reads a file through a buffer of `READ_LIMIT` bytes. Answers how many bytes the file has.
+pub(crate) fn read_whole<'a, F: Files>(
+    name: &'a str,
+    buffer: &mut [u8],
+    files: &mut F,
+) -> Result<usize, Unread<'a>>
+    requires { length buffer.old ≡ read_limit }
+    ensures read { (is_script : Bool) → MatchResult result
+        (λ len. HasTaken is_script (name.now ∷ [])
+        (record { name = name.now; file = take len buffer.new } ∷ [])
+        (seen F.told F.faults files.old) (seen F.told F.faults files.new))
+        (λ unread. HasStopped is_script (name.now ∷ []) unread
+        (seen F.told F.faults files.old) (seen F.told F.faults files.new)) }
+    ensures short { IfOk result (λ len. len ≤ LONGEST_FILE) }
+    ensures buffer { length buffer.new ≡ read_limit }
+{
+    match read_file(files, name, buffer) {
+        Ok(len) if len > LONGEST_FILE as usize => Err(Unread::TooLong(name)),
+        Ok(len) => Ok(len),
+        Err(_) => Err(Unread::Unreadable(name)),
+    }
 }

@@ -14,6 +14,8 @@ pub enum Status {
     GuestFault,
     /// 20: the words are no command.
     BadWords,
+    /// 21: a line of the script is bad.
+    BadScript,
     /// 22: a file cannot be read.
     CannotRead,
     /// 23: a file has more than 4,194,304 bytes.
@@ -34,6 +36,7 @@ impl Status {
             Status::Budget => 10,
             Status::GuestFault => 11,
             Status::BadWords => 20,
+            Status::BadScript => 21,
             Status::CannotRead => 22,
             Status::TooLong => 23,
             Status::SinkFault => 24,

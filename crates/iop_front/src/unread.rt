@@ -1,15 +1,17 @@
 ghost use Rattle.std.specs.Prelude.{◌≡◌};
 
-use crate::words::ModuleWord;
+use iop_script::ScriptFault;
 use std::alloc::AllocError;
 
-/// Why the modules of a command were not read: the first word whose file decides.
+/// Why the files of a command were not all read: the first that decides.
 #[derive(Clone, Copy, Debug)]
 pub(crate) enum Unread<'a> {
-    /// Its file cannot be read.
-    Unreadable(ModuleWord<'a>),
-    /// Its file is too long.
-    TooLong(ModuleWord<'a>),
+    /// The file of this name cannot be read.
+    Unreadable(&'a str),
+    /// The file of this name is too long.
+    TooLong(&'a str),
+    /// The script has a bad line, the first of which has this number.
+    BadScript(u32),
     /// There is no memory.
     NoMemory,
 }
@@ -21,5 +23,18 @@ impl<'a> From<AllocError> for Unread<'a> {
 
     fn from(_: AllocError) -> Self {
         Unread::NoMemory
+    }
+}
+
+impl<'a> From<ScriptFault> for Unread<'a> {
+    ghost use Rattle.iop_front.specs.Faults.{unread_of};
+
+    ghost from_gives = { λ fault unread. unread ≡ unread_of fault };
+
+    fn from(fault: ScriptFault) -> Self {
+        match fault {
+            ScriptFault::Line(number) => Unread::BadScript(number),
+            ScriptFault::Memory => Unread::NoMemory,
+        }
     }
 }

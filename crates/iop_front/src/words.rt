@@ -1,7 +1,7 @@
 ghost use Rattle.std.specs.Prelude.{◌≡◌, ◌≤◌, ◌&&◌, nat_le, true, length, map, string_bytes, option_map};
 ghost use Rattle.std.specs.List.{list_all};
 ghost use Rattle.iop_machine.specs.declared.module.TheConstants.{MOST_MODULES};
-ghost use Rattle.iop_front.specs.Words.{is_module_word, modules_named};
+ghost use Rattle.iop_front.specs.Words.{is_name, is_module_word, modules_named};
 ghost use Rattle.iop_front.specs.declared.limits.TheConstants.{LONGEST_WORD};
 
 use crate::limits::LONGEST_WORD;
@@ -14,7 +14,7 @@ pub(crate) struct ModuleWord<'a> {
     ghost short: { length text.now ≤ LONGEST_WORD },
 }
 
-/// The words of a command, each of which names a module's file.
+/// The words of a command that name modules' files.
 #[derive(Clone, Copy, Debug)]
 pub(crate) struct ModuleWords<'a> {
     pub(crate) texts: &'a [String],
@@ -23,7 +23,7 @@ pub(crate) struct ModuleWords<'a> {
 }
 
 impl<'a> ModuleWords<'a> {
-    /// The words of a command, if they name modules.
+    /// The words that name modules, if they do.
     pub(crate) fn of(words: &'a [String]) -> Option<Self>
         ensures { option_map (λ named. map string_bytes named.texts.now) result
             ≡ modules_named (map string_bytes words.now) }
@@ -43,16 +43,23 @@ fn is_module_count(count: usize) -> bool
     (1..=MOST_MODULES).contains(&count)
 }
 
+/// Tells whether a word may name a file: it is `-`, or has one byte at least and does not begin
+/// with `-`.
+pub(crate) fn is_name(word: &str) -> bool
+    ensures { result ≡ is_name word.now }
+{
+    match word.as_bytes() {
+        [] => false,
+        [_] => true,
+        [first, ..] => *first != b'-',
+    }
+}
+
 /// Tells whether a word names a module.
 fn is_module(word: &str) -> bool
     ensures { result ≡ is_module_word word.now }
 {
-    let bytes = word.as_bytes();
-    match bytes {
-        [] => false,
-        [_] => true,
-        [first, ..] => *first != b'-' && bytes.len() <= LONGEST_WORD,
-    }
+    is_name(word) && word.len() <= LONGEST_WORD
 }
 
 /// Tells whether each word names a module.

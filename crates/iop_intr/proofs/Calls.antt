@@ -7,7 +7,7 @@ use Rattle.std.proofs.lemmas.Option.{slice_get-get_or}
 use Rattle.std.proofs.lemmas.Bool.{lt-ltb, le-ltb, eq-eqb, ne_eqb, and_parts}
 use Rattle.iop_base.specs.declared.code.Code.{Code}
 use Rattle.iop_base.specs.declared.code.TheConstants.Code.{OK, ILLEGAL_INTERRUPT, LINE_DISABLED, HANDLER_FOUND, HANDLER_NOT_FOUND}
-use Rattle.iop_intr.specs.InterruptLines.{IrqLine, line_of, on_line, is_deliverable, register_line, release_line, enable_line, disable_line, registering, releasing, enabling, disabling, raising, delivering, finished, finishing}
+use Rattle.iop_intr.specs.InterruptLines.{IrqLine, line_of, on_line, is_ready, is_deliverable, register_line, release_line, enable_line, disable_line, registering, releasing, enabling, disabling, raising, delivering, finished, finishing}
 use Rattle.iop_intr.specs.LineSets.{has, ChangesOnly}
 use Rattle.iop_intr.specs.LineViews.{line_in, lines_in}
 use Rattle.iop_intr.specs.declared.handler.Handler.{Handler}
@@ -136,6 +136,10 @@ module _ (a : Inside) {lines : List IrqLine} (view : lines_in a ≡ lines) (n : 
     pub is_deliverable_is :
         is_deliverable (line_of lines n) ≡ (has a.raised n && has a.enabled n && has a.handled n)
     is_deliverable_is = rw (is_handled, line_is a view n below) refl
+
+    -- whether it can be delivered once it is raised, by two of them
+    pub is_ready_is : is_ready (line_of lines n) ≡ (has a.enabled n && has a.handled n)
+    is_ready_is = rw (is_handled, line_is a view n below) refl
 
     pub its_handler_is : is_deliverable (line_of lines n) ≡ true → (d : Handler) →
         (line_of lines n).handler ≡ Some (get_or a.handlers n d)

@@ -34,8 +34,8 @@ enables value l other some = rw (ne_eqb value 0 other, some) refl
 stays : (value : ℕ) (l : IrqLine) → value ≢ 0 → l.handler ≡ None → finished value l ≡ l
 stays value l other none = rw (ne_eqb value 0 other, none) refl
 
-pub results : ResultsEnableOrDisable
-results lines n within = record {
+pub results_enable_or_disable : ResultsEnableOrDisable
+results_enable_or_disable lines n within = record {
   zero = changes (finished 0) lines n _ within refl;
   another = λ value other some. changes (finished value) lines n _ within
       (enables value (line_of lines n) other some);

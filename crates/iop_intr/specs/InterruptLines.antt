@@ -67,6 +67,10 @@ disabling = on_line disable_line
 abbrev pub raising : List IrqLine → ℕ → List IrqLine
 raising = changed (λ l. record l { raised = true })
 
+-- whether a line can be delivered once it is raised
+abbrev pub is_ready : IrqLine → Bool
+is_ready l = l.enabled && is_some l.handler
+
 abbrev pub is_deliverable : IrqLine → Bool
 is_deliverable l = l.raised && l.enabled && is_some l.handler
 

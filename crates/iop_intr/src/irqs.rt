@@ -1,5 +1,5 @@
 ghost use Rattle.std.specs.Prelude.{◌≡◌, ◌<◌, IfSome, Some, replicate};
-ghost use Rattle.iop_intr.specs.InterruptLines.{idle, line_of, IsDeliverable, handler_of, registering, releasing, enabling, disabling, raising, deliverable, delivering, finishing};
+ghost use Rattle.iop_intr.specs.InterruptLines.{idle, line_of, is_ready, IsDeliverable, handler_of, registering, releasing, enabling, disabling, raising, deliverable, delivering, finishing};
 ghost use Rattle.iop_intr.specs.declared.irqs.TheConstants.{IRQ_LINES};
 
 use crate::handler::Handler;
@@ -130,6 +130,15 @@ impl Irqs {
         ensures { self.new ≡ raising self.old line }
     {
         self.raised.insert(line as u32);
+    }
+
+    /// Says whether a line below `IRQ_LINES` is enabled and has a handler, so that it can be
+    /// delivered once it is raised.
+    pub fn is_ready(&self, line: u8) -> bool
+        requires { line < IRQ_LINES }
+        ensures { result ≡ is_ready (line_of self.now line) }
+    {
+        self.enabled.has(line as u32) && self.handled.has(line as u32)
     }
 
     /// Finds the lowest line that is raised, enabled and has a handler. None exactly where there is

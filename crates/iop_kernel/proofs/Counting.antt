@@ -1,5 +1,5 @@
 -- Each service of the kernel does to the counts of semaphores what the history of calls counts.
-use Rattle.std.proofs.Common.{◌≡◌, ℕ, ◌<◌, ◌==◌, Bool, true, false, Option, Some, None, List, length, refl, arith}
+use Rattle.std.proofs.Common.{◌≡◌, ℕ, ◌<◌, ◌==◌, Bool, true, false, Option, Some, None, List, length, refl, sym, subst, arith}
 use Rattle.std.proofs.lemmas.Bool.{cond_both}
 use Rattle.iop_base.specs.declared.code.TheConstants.Code.{ILLEGAL_CONTEXT}
 use Rattle.iop_libs.specs.Calls.{Sight, After, argument, calls_row, registers_header, registers_at, table_place}
@@ -17,16 +17,17 @@ use Rattle.iop_sysmem.specs.BlockMap.{BlockMap}
 use Rattle.iop_thread.specs.declared.thread.TheConstants.{LOADER}
 use Rattle.irx_tables.specs.Exports.{header_of}
 use Rattle.iop_kernel.specs.Histories.{is_signal, is_take, called_by, called_of, called}
+use Rattle.iop_kernel.specs.Handlers.{return_handler}
 use Rattle.iop_kernel.specs.Laws.{KeepsObjects}
 use Rattle.iop_kernel.specs.Serving.{call_of, serves_core, serves_board, serves, answers_by, calls_library, calls, services}
 use Rattle.iop_kernel.specs.Running.{exit_thread, returns_by, return_module}
-use Rattle.iop_kernel.specs.System.{Core, Left, System, Served, argument as core_argument, caller, words_place}
+use Rattle.iop_kernel.specs.System.{Core, Left, System, Served, in_handler, argument as core_argument, caller, words_place}
 use Rattle.iop_kernel.specs.declared.call.Call.{Call}
-use Rattle.iop_kernel.specs.declared.call.Call.TheVariants.{Library, ThreadReturn, ModuleReturn}
+use Rattle.iop_kernel.specs.declared.call.Call.TheVariants.{Library, ThreadReturn, HandlerReturn, ModuleReturn}
 use Rattle.iop_kernel.specs.declared.semaphores.TheConstants.{SEMAPHORE_WORDS}
 use Rattle.iop_kernel.proofs.ObjectsKept.{same_objects}
 use Rattle.iop_kernel.proofs.ObjectsSpared.{spares_semaphores}
-use Rattle.iop_kernel.proofs.ObjectsStaying.{exits_spare}
+use Rattle.iop_kernel.proofs.ObjectsStaying.{exits_spare, handler_return_leaves}
 use Rattle.iop_kernel.proofs.ServicesStaying.{serves_stays}
 use Rattle.iop_kernel.proofs.CountingTables.{CountsBy, none_changes}
 use Rattle.iop_kernel.proofs.CountingCalls.{other_counts}
@@ -150,13 +151,13 @@ module _ (s : System) (registers : 2 < length s.core.cpu.regs) (library number :
       let d = answers_by library number between answer in
       CountsBy s.core.kernel.semaphores d.left.state.core.kernel.semaphores (called_by s d o)
 
-  row_counts : (o : Option Row)
-      → RowCounts o (calls_row sight blocks libraries false o).answer
-  row_counts None =
+  row_counts : (inside : Bool) (o : Option Row)
+      → RowCounts o (calls_row sight blocks libraries inside o).answer
+  row_counts inside None =
       none_changes s.core.kernel.semaphores s.core.kernel.semaphores None (λ n. (refl, refl))
       (omega arith) (λ n. refl)
-  row_counts (Some row) =
-      cond_both (allows row.context false) _ _
+  row_counts inside (Some row) =
+      cond_both (allows row.context inside) _ _
       (λ (after : After). RowCounts (Some row) after.answer)
       (λ allowed. allowed_counts row.service)
       (λ elsewhere.
@@ -174,9 +175,10 @@ module _ (s : System) (registers : 2 < length s.core.cpu.regs) where
   unfolding calls_library
   library_counts library number =
       let sight : Sight = record { memory = s.memory; cpu = s.core.cpu } in
-      let done = calls_row sight s.blocks s.libraries false (row_of library number) in
+      let inside = in_handler s.core.kernel in
+      let done = calls_row sight s.blocks s.libraries inside (row_of library number) in
       row_counts s registers library number sight s.blocks done.blocks s.libraries done.libraries
-      (row_of library number)
+      inside (row_of library number)
 
   -- what is no service of a library
   ended : (left : Semaphores) → KeepsObjects s.core.kernel.semaphores left
@@ -203,6 +205,12 @@ module _ (s : System) (registers : 2 < length s.core.cpu.regs) where
       ((exits_spare s.core (caller s.core)).semaphores refl)
   calls_count (Some ModuleReturn) =
       ended (return_module s.core).state.kernel.semaphores (returns_keep (caller s.core))
+  calls_count (Some HandlerReturn) =
+      let left = (return_handler s.core).state.kernel.semaphores in
+      ended left
+      (subst (KeepsObjects s.core.kernel.semaphores)
+      (sym (handler_return_leaves s.core s.core.kernel.handler).semaphores)
+      (same_objects s.core.kernel.semaphores))
   calls_count (Some (Library library number)) = library_counts library number
 
 -- each service counts as it is called, where the processor has its registers

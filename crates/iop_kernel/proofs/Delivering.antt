@@ -1,5 +1,5 @@
 -- Each service of the kernel does to the messages of mailboxes what the history of calls tells.
-use Rattle.std.proofs.Common.{◌≡◌, ℕ, ◌<◌, ◌==◌, Bool, true, false, Option, Some, None, List, length, refl, arith}
+use Rattle.std.proofs.Common.{◌≡◌, ℕ, ◌<◌, ◌==◌, Bool, true, false, Option, Some, None, List, length, refl, sym, subst, arith}
 use Rattle.std.proofs.lemmas.Bool.{cond_both}
 use Rattle.iop_base.specs.declared.code.TheConstants.Code.{ILLEGAL_CONTEXT}
 use Rattle.iop_libs.specs.Calls.{Sight, After, argument, calls_row, registers_header, registers_at, table_place}
@@ -18,17 +18,18 @@ use Rattle.iop_thread.specs.declared.thread.TheConstants.{LOADER}
 use Rattle.irx_tables.specs.Exports.{header_of}
 use Rattle.iop_kernel.specs.Boards.{board_of}
 use Rattle.iop_kernel.specs.Histories.{is_send, is_receive, called_by, called_of, called}
+use Rattle.iop_kernel.specs.Handlers.{return_handler}
 use Rattle.iop_kernel.specs.Laws.{KeepsObjects}
 use Rattle.iop_kernel.specs.Overdue.{NoneOverdue}
 use Rattle.iop_kernel.specs.Serving.{call_of, serves_core, serves_board, serves, answers_by, calls_library, calls, services}
 use Rattle.iop_kernel.specs.Running.{exit_thread, returns_by, return_module}
-use Rattle.iop_kernel.specs.System.{Core, Left, System, Served, argument as core_argument, caller, words_place}
+use Rattle.iop_kernel.specs.System.{Core, Left, System, Served, in_handler, argument as core_argument, caller, words_place}
 use Rattle.iop_kernel.specs.declared.call.Call.{Call}
-use Rattle.iop_kernel.specs.declared.call.Call.TheVariants.{Library, ThreadReturn, ModuleReturn}
+use Rattle.iop_kernel.specs.declared.call.Call.TheVariants.{Library, ThreadReturn, HandlerReturn, ModuleReturn}
 use Rattle.iop_kernel.specs.declared.mailboxes.TheConstants.{MAILBOX_WORDS}
 use Rattle.iop_kernel.proofs.ObjectsKept.{same_objects}
 use Rattle.iop_kernel.proofs.ObjectsSpared.{spares_mailboxes}
-use Rattle.iop_kernel.proofs.ObjectsStaying.{exits_spare}
+use Rattle.iop_kernel.proofs.ObjectsStaying.{exits_spare, handler_return_leaves}
 use Rattle.iop_kernel.proofs.ServicesStaying.{serves_stays}
 use Rattle.iop_kernel.proofs.DeliveringTables.{DeliversBy, none_changes}
 use Rattle.iop_kernel.proofs.DeliveringCalls.{other_delivers}
@@ -160,13 +161,13 @@ module _ (s : System) (registers : 2 < length s.core.cpu.regs)
       let d = answers_by library number between answer in
       DeliversBy s.core.kernel.mailboxes d.left.state.core.kernel.mailboxes (called_by s d o)
 
-  row_delivers : (o : Option Row)
-      → RowDelivers o (calls_row sight blocks libraries false o).answer
-  row_delivers None =
+  row_delivers : (inside : Bool) (o : Option Row)
+      → RowDelivers o (calls_row sight blocks libraries inside o).answer
+  row_delivers inside None =
       none_changes s.core.kernel.mailboxes s.core.kernel.mailboxes None (λ n. (refl, refl))
       (omega arith) (λ n. refl)
-  row_delivers (Some row) =
-      cond_both (allows row.context false) _ _
+  row_delivers inside (Some row) =
+      cond_both (allows row.context inside) _ _
       (λ (after : After). RowDelivers (Some row) after.answer)
       (λ allowed. allowed_delivers row.service)
       (λ elsewhere. refused s.core registers row.service ILLEGAL_CONTEXT refl)
@@ -184,9 +185,10 @@ module _ (s : System) (registers : 2 < length s.core.cpu.regs)
   unfolding calls_library
   library_delivers library number =
       let sight : Sight = record { memory = s.memory; cpu = s.core.cpu } in
-      let done = calls_row sight s.blocks s.libraries false (row_of library number) in
+      let inside = in_handler s.core.kernel in
+      let done = calls_row sight s.blocks s.libraries inside (row_of library number) in
       row_delivers s registers overdue library number sight s.blocks done.blocks
-      s.libraries done.libraries (row_of library number)
+      s.libraries done.libraries inside (row_of library number)
 
   -- what is no service of a library
   ended : (left : Mailboxes) → KeepsObjects s.core.kernel.mailboxes left
@@ -213,6 +215,12 @@ module _ (s : System) (registers : 2 < length s.core.cpu.regs)
       ((exits_spare s.core (caller s.core)).mailboxes refl)
   calls_deliver (Some ModuleReturn) =
       ended (return_module s.core).state.kernel.mailboxes (returns_keep (caller s.core))
+  calls_deliver (Some HandlerReturn) =
+      let left = (return_handler s.core).state.kernel.mailboxes in
+      ended left
+      (subst (KeepsObjects s.core.kernel.mailboxes)
+      (sym (handler_return_leaves s.core s.core.kernel.handler).mailboxes)
+      (same_objects s.core.kernel.mailboxes))
   calls_deliver (Some (Library library number)) = library_delivers library number
 
 -- each service delivers as it is called, where the processor has its registers

@@ -11,7 +11,7 @@ use Rattle.iop_thread.specs.Standing as threads
 use Rattle.iop_thread.specs.declared.threads.Threads.{Threads}
 use Rattle.iop_kernel.specs.Dispatching.{dispatched, dispatches}
 use Rattle.iop_kernel.specs.Standing.{Stands, Dispatches}
-use Rattle.iop_kernel.specs.System.{Core, may_switch}
+use Rattle.iop_kernel.specs.System.{Core, may_dispatch}
 use Rattle.iop_kernel.specs.declared.kernel.Kernel.{Kernel as Program}
 use Rattle.iop_kernel.proofs.PlacingServices.{dispatches_place}
 use Rattle.iop_kernel.proofs.Standing.{holds_with}
@@ -22,7 +22,7 @@ both_on {a} {b} e f = rw (e, f) refl
 
 module _ {R : Type 0} (stands_for : R → List Entry → Type 0) (c : Core) (p : Program R)
     (t : Threads R) (cpu : Cpu) (old new : Output) (id : ℕ) (h : Stands stands_for p c.kernel)
-    (may : may_switch c.kernel ≡ true) where
+    (may : may_dispatch c.kernel ≡ true) where
   -- the dispatch of the threads is that of the kernel
   made_is : (d : operations.Dispatch) → operations.dispatches c.kernel.threads c.cpu ≡ Some d
       → dispatches c ≡ Some (dispatched c.kernel d)

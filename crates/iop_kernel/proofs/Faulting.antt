@@ -16,6 +16,7 @@ use Rattle.iop_services.specs.declared.service.Service.TheVariants as service
 use Rattle.iop_sysmem.specs.Allocating.{allocating}
 use Rattle.iop_sysmem.specs.BlockMap.{BlockMap}
 use Rattle.iop_thread.specs.Operations as threads
+use Rattle.iop_time.specs.ClockTime.{ticks_of}
 use Rattle.iop_thread.specs.ThreadTable.{thread_of, has_room}
 use Rattle.iop_thread.specs.declared.param.Param.{Param}
 use Rattle.iop_thread.specs.declared.thread.Thread.{Thread}
@@ -26,19 +27,21 @@ use Rattle.iop_kernel.specs.Status.{refers_it, refers_to, refers_at}
 use Rattle.iop_kernel.specs.Boards.{Board, board_of, on_board, optional_place}
 use Rattle.iop_kernel.specs.Semaphores.{LiveSemaphore, refers_sema_to, refers_sema_at}
 use Rattle.iop_kernel.specs.Serving.{call_of, wanted, serves_board, serves, answers_by, calls_library, calls, services}
-use Rattle.iop_kernel.specs.System.{Core, Left, System, Done, Served, argument, caller, silent, after_pieces, on_core, words_place}
+use Rattle.iop_kernel.specs.System.{Core, Left, System, Done, Served, in_handler, argument, caller, silent, after_pieces, on_core, words_place}
 use Rattle.iop_kernel.specs.declared.after.After.TheVariants.{Resume, Fault}
 use Rattle.iop_kernel.specs.declared.call.Call.{Call}
-use Rattle.iop_kernel.specs.declared.call.Call.TheVariants.{Library, ThreadReturn, ModuleReturn}
+use Rattle.iop_kernel.specs.declared.call.Call.TheVariants.{Library, ThreadReturn, HandlerReturn, ModuleReturn}
 use Rattle.iop_kernel.specs.declared.event_flags.TheConstants.{FLAG_WORDS, FLAG_STATUS_WORDS}
 use Rattle.iop_kernel.specs.declared.mailboxes.TheConstants.{MAILBOX_WORDS, MAILBOX_STATUS_WORDS}
 use Rattle.iop_kernel.specs.declared.semaphores.TheConstants.{SEMAPHORE_WORDS, SEMAPHORE_STATUS_WORDS}
 use Rattle.iop_kernel.specs.declared.status.TheConstants.{STATUS_WORDS}
 use Rattle.iop_kernel.specs.declared.creating.TheConstants.{PARAM_WORDS, FROM_ABOVE}
+use Rattle.iop_kernel.specs.declared.timing.TheConstants.{TIME_WORDS}
 use Rattle.iop_kernel.proofs.FaultingAlone.{FaultsAlone, resumed, both, BoardAlone}
 use Rattle.iop_kernel.proofs.FaultingEventFlags.{creates_flag_alone, sets_flag_alone, waits_flag_alone, polls_flag_alone, refers_flag_alone}
+use Rattle.iop_kernel.proofs.FaultingBoards.{disables_line_alone, suspends_alone, writes_time_alone, converts_alone}
 use Rattle.iop_kernel.proofs.FaultingMailboxes.{creates_mbx_alone, sends_alone, waits_mbx_alone, polls_mbx_alone, refers_mbx_alone}
-use Rattle.iop_kernel.proofs.FaultingThreads.{exits_alone, returns_alone, serves_core_alone, creates_sema_alone, deletes_alone, exits_by_alone}
+use Rattle.iop_kernel.proofs.FaultingThreads.{exits_alone, returns_alone, returns_handler_alone, sets_alarm_alone, serves_core_alone, creates_sema_alone, deletes_alone, exits_by_alone}
 
 -- where a service faults, it leaves all as it was, and gives nothing
 abbrev pub ServedAlone : System → Served → Type 0
@@ -122,6 +125,26 @@ module _ (s : System) where
   -- a service that looks at the kernel and at memory
   board_alone : (x : Service) → ServedAlone s (on_board s (serves_board (board_of s) x))
   unfolding serves_board
+  board_alone service.DisableIntr =
+      let place = optional_place s.memory (argument s.core 1) in
+      on_board_alone _ (disables_line_alone (board_of s) (argument s.core 0) place)
+  board_alone service.CpuSuspendIntr =
+      on_board_alone _ (suspends_alone (board_of s) (words_place s.memory (argument s.core 0) 1))
+  board_alone service.GetSystemTime =
+      let place = words_place s.memory (argument s.core 0) TIME_WORDS in
+      on_board_alone _ (writes_time_alone (board_of s) s.core.kernel.clock place)
+  board_alone service.SetAlarm =
+      let place = words_place s.memory (argument s.core 0) TIME_WORDS in
+      on_core_alone _
+      (sets_alarm_alone s.core s.memory place (argument s.core 1) (argument s.core 2))
+  board_alone service.USec2SysClock =
+      let place = words_place s.memory (argument s.core 1) TIME_WORDS in
+      on_board_alone _ (writes_time_alone (board_of s) (ticks_of (argument s.core 0)) place)
+  board_alone service.SysClock2USec =
+      let time = words_place s.memory (argument s.core 0) TIME_WORDS in
+      let seconds = words_place s.memory (argument s.core 1) 1 in
+      on_board_alone _
+      (converts_alone (board_of s) time seconds (words_place s.memory (argument s.core 2) 1))
   board_alone service.CreateSema =
       let place = words_place s.memory (argument s.core 0) SEMAPHORE_WORDS in
       on_core_alone _ (creates_sema_alone s.core s.memory place)
@@ -229,20 +252,22 @@ module _ (s : System) where
     allowed_alone row false = resumes_alone _ refl
 
     -- a call of a row
-    row_alone : (o : Option Row)
-        → ServedAlone s (given (row_pieces sight false o) (calls_row sight s.blocks s.libraries false o))
-    row_alone None = resumes_alone _ refl
-    row_alone (Some row) = allowed_alone row (allows row.context false)
+    row_alone : (inside : Bool) (o : Option Row) → ServedAlone s
+        (given (row_pieces sight inside o) (calls_row sight s.blocks s.libraries inside o))
+    row_alone inside None = resumes_alone _ refl
+    row_alone inside (Some row) = allowed_alone row (allows row.context inside)
 
     -- a service of a library
     library_alone : ServedAlone s (calls_library library number s)
     unfolding calls_library
-    library_alone = row_alone (row_of library number)
+    library_alone = row_alone (in_handler s.core.kernel) (row_of library number)
 
   -- whatever is called
-  calls_alone : (o : Option Call) → ServedAlone s (calls s o)
+  pub calls_alone : (o : Option Call) → ServedAlone s (calls s o)
   calls_alone None = λ kind e. (refl, refl)
   calls_alone (Some ThreadReturn) = on_core_alone _ (exits_alone s.core (caller s.core))
+  calls_alone (Some HandlerReturn) =
+      on_core_alone _ (returns_handler_alone s.core s.core.kernel.handler)
   calls_alone (Some ModuleReturn) = on_core_alone _ (returns_alone s.core (caller s.core))
   calls_alone (Some (Library library number)) = library_alone library number
 

@@ -15,6 +15,7 @@ use Rattle.iop_thread.specs.ThreadTable.{ThreadTable, thread_of, priority_of, is
 use Rattle.iop_thread.specs.declared.thread.Thread.{Thread}
 use Rattle.iop_thread.specs.declared.thread.TheConstants.{LOADER}
 use Rattle.iop_thread.specs.declared.wait.Wait.{Wait}
+use Rattle.iop_time.specs.ClockTime.{ticks_of, moment_after}
 use Rattle.iop_kernel.specs.Deleting.{Owner, deletes_by, exits_deleted, exits_deleted_by}
 use Rattle.iop_kernel.specs.Naming.{named, is_nobody_else}
 use Rattle.iop_kernel.specs.Ordering.{answers_change, changes_named, changes_if_priority, after_leaving, rotates_to, rotates_own, rotates_by}
@@ -24,6 +25,9 @@ use Rattle.iop_kernel.specs.Waits.{is_code}
 use Rattle.iop_kernel.specs.Waiting.{releases_from, releases_it, sleeps_by, cancels_of}
 use Rattle.iop_kernel.specs.Serving.{serves_core}
 use Rattle.iop_kernel.specs.System.{Core, argument, caller, may_switch}
+use Rattle.iop_kernel.specs.Handlers.{returns_handler}
+use Rattle.iop_kernel.specs.Timing.{waits_until, delay_thread, sets_alarm_at}
+use Rattle.iop_kernel.specs.declared.active_handler.ActiveHandler.{ActiveHandler}
 use Rattle.iop_kernel.proofs.FaultingAlone.{FaultsAlone, resumed, switched, returned, faulted, both}
 use Rattle.iop_kernel.proofs.FaultingEventFlags.{deletes_flag_alone}
 use Rattle.iop_kernel.proofs.FaultingMailboxes.{deletes_mbx_alone}
@@ -103,6 +107,28 @@ module _ (c : Core) where
   cancels_alone None = resumed c _
   cancels_alone (Some id) = resumed c _
 
+  -- the thread that calls waits until a moment
+  waits_until_alone : (moment : ℕ) (o : Option ℕ) → FaultsAlone c (waits_until c moment o)
+  waits_until_alone moment None = faulted c _
+  waits_until_alone moment (Some thread) = switched c _
+
+  -- or for a time
+  delay_alone : (us : ℕ) → FaultsAlone c (delay_thread c us)
+  delay_alone us =
+      both c (may_switch c.kernel) _ _
+      (waits_until_alone (moment_after c.kernel.clock (ticks_of us)) (caller c)) (resumed c _)
+
+  -- a handler returns, if one runs
+  pub returns_handler_alone : (o : Option ActiveHandler) → FaultsAlone c (returns_handler c o)
+  returns_handler_alone None = faulted c _
+  returns_handler_alone (Some handler) = switched c _
+
+  -- an alarm is set, by the place of the ticks
+  pub sets_alarm_alone : (memory : Memory) (o : Option ℕ) (handler arg : ℕ)
+      → FaultsAlone c (sets_alarm_at c memory o handler arg)
+  sets_alarm_alone memory None handler arg = faulted c _
+  sets_alarm_alone memory (Some place) handler arg = resumed c _
+
   -- a semaphore is made, by the place of the words
   pub creates_sema_alone : (memory : Memory) (o : Option ℕ)
       → FaultsAlone c (creates_sema_at c memory o)
@@ -133,6 +159,14 @@ module _ (c : Core) where
   -- a service that looks at the kernel alone
   pub serves_core_alone : (x : Service) → FaultsAlone c (serves_core c x)
   unfolding serves_core
+  serves_core_alone service.RegisterIntrHandler = resumed c _
+  serves_core_alone service.ReleaseIntrHandler = resumed c _
+  serves_core_alone service.EnableIntr = resumed c _
+  serves_core_alone service.CpuDisableIntr =
+      both c c.kernel.interrupts _ _ (resumed c _) (resumed c _)
+  serves_core_alone service.CpuEnableIntr = resumed c _
+  serves_core_alone service.CpuResumeIntr = resumed c _
+  serves_core_alone service.QueryIntrContext = resumed c _
   serves_core_alone service.StartThread = both c _ _ _ (resumed c _) (resumed c _)
   serves_core_alone service.ExitThread = exits_alone (caller c)
   serves_core_alone service.TerminateThread =
@@ -152,9 +186,12 @@ module _ (c : Core) where
   serves_core_alone service.CancelWakeupThread = cancels_alone (named (caller c) (argument c 0))
   serves_core_alone service.SuspendThread =
       both c (is_nobody_else c (argument c 0)) _ _ (resumed c _)
-      (both c (is_it (caller c) (argument c 0) && not c.kernel.dispatching) _ _ (resumed c _)
+      (both c (is_it c.kernel.threads.running (argument c 0) && not c.kernel.dispatching) _ _
+      (resumed c _)
       (resumed c _))
   serves_core_alone service.ResumeThread = both c _ _ _ (resumed c _) (resumed c _)
+  serves_core_alone service.DelayThread = delay_alone (argument c 0)
+  serves_core_alone service.CancelAlarm = resumed c _
   serves_core_alone service.DeleteSema =
       deletes_sema_alone (object_of c.kernel.semaphores.live (argument c 0))
   serves_core_alone service.SignalSema =

@@ -61,10 +61,14 @@ module _ {R : Type 0} (stands_for : R → List Entry → Type 0) where
           clock = woken.clock;
           interrupts = woken.interrupts;
           dispatching = woken.dispatching;
+          handler = woken.handler;
+          cause = woken.cause;
           threads = woken.threads;
           semaphores = woken.semaphores;
           event_flags = refl;
           mailboxes = woken.mailboxes;
+          timers = woken.timers;
+          irqs = woken.irqs;
         };
         order = ap (λ s. all_woken threads (threads_for s id)) same
             ∙ ap (all_woken h.threads) (sym out.order) ∙ h.order;

@@ -19,6 +19,8 @@ use Rattle.iop_thread.specs.Placing.{IsPlaced}
 use Rattle.iop_thread.specs.ThreadTable.{thread_of, has_room}
 use Rattle.iop_thread.specs.declared.param.Param.{Param}
 use Rattle.iop_thread.specs.declared.thread.Thread.{Thread}
+use Rattle.iop_time.specs.ClockTime.{ticks_of}
+use Rattle.iop_thread.proofs.Waits.{moves_waits}
 use Rattle.iop_kernel.specs.Laws.{Follows}
 use Rattle.iop_kernel.specs.Creating.{creates_on, creates_at, creates_with, creates_from}
 use Rattle.iop_kernel.specs.Deleting.{owner_of, on_owner, Owner}
@@ -26,23 +28,26 @@ use Rattle.iop_kernel.specs.Naming.{named}
 use Rattle.iop_kernel.specs.Status.{refers_it, refers_to, refers_at}
 use Rattle.iop_kernel.specs.Boards.{Board, board_of, on_board, optional_place}
 use Rattle.iop_kernel.specs.Serving.{call_of, wanted, serves_board, serves, answers_by, calls_library, calls, services}
-use Rattle.iop_kernel.specs.System.{Core, Left, System, Done, Served, argument, caller, opened, silent, after_pieces, on_core, words_place}
+use Rattle.iop_kernel.specs.System.{Core, Left, System, Done, Served, in_handler, argument, caller, opened, silent, after_pieces, on_core, words_place}
 use Rattle.iop_kernel.specs.declared.after.After.{After}
 use Rattle.iop_kernel.specs.declared.after.After.TheVariants.{Resume, Switch, ModuleReturned, Fault}
 use Rattle.iop_kernel.specs.declared.call.Call.{Call}
-use Rattle.iop_kernel.specs.declared.call.Call.TheVariants.{Library, ThreadReturn, ModuleReturn}
+use Rattle.iop_kernel.specs.declared.call.Call.TheVariants.{Library, ThreadReturn, HandlerReturn, ModuleReturn}
 use Rattle.iop_kernel.specs.declared.event_flags.TheConstants.{FLAG_WORDS, FLAG_STATUS_WORDS}
 use Rattle.iop_kernel.specs.declared.mailboxes.TheConstants.{MAILBOX_WORDS, MAILBOX_STATUS_WORDS}
 use Rattle.iop_kernel.specs.declared.semaphores.TheConstants.{SEMAPHORE_WORDS, SEMAPHORE_STATUS_WORDS}
 use Rattle.iop_kernel.specs.declared.status.TheConstants.{STATUS_WORDS}
 use Rattle.iop_kernel.specs.declared.creating.TheConstants.{PARAM_WORDS, FROM_ABOVE}
+use Rattle.iop_kernel.specs.declared.timing.TheConstants.{TIME_WORDS}
 use Rattle.iop_kernel.proofs.Faulting.{services_alone}
 use Rattle.iop_kernel.proofs.Becoming.{Becomes, CoreBecomes, OwnerBecomes, BoardBecomes, becomes_of}
 use Rattle.iop_kernel.proofs.FollowingEventFlags.{creates_flag_becomes, sets_flag_becomes, waits_flag_becomes, polls_flag_becomes, refers_flag_becomes}
+use Rattle.iop_kernel.proofs.FollowingInterrupts.{disables_line_becomes, suspends_become, returns_handler_becomes}
 use Rattle.iop_kernel.proofs.FollowingMailboxes.{creates_mbx_becomes, sends_become, waits_mbx_become, polls_mbx_become, refers_mbx_become}
 use Rattle.iop_kernel.proofs.FollowingSemaphores.{creates_sema_become, refers_sema_become}
 use Rattle.iop_kernel.proofs.FollowingThreads.{exits_become, returns_become, serves_core_becomes, delete_becomes, exits_deleted_by_become}
-use Rattle.iop_thread.proofs.Waits.{moves_waits}
+use Rattle.iop_kernel.proofs.FollowingTiming.{writes_time_becomes, sets_alarm_becomes, converts_become}
+use Rattle.iop_kernel.proofs.RunningThread.{caller_runs}
 
 -- what a call leaves where a module returned: interrupts on and dispatch enabled, and nothing given
 abbrev returned : System → System × List Piece
@@ -64,8 +69,12 @@ follows_by s id (ModuleReturned word) left pieces alone h =
     (h.0, ap (λ (p : System × List Piece). p.0) h.1, ap (λ (p : System × List Piece). p.1) h.1)
 follows_by s id (Fault kind) left pieces alone h = alone kind refl
 
-module _ (s : System) (id : ℕ) (runs : caller s.core ≡ Some id)
+module _ (s : System) (id : ℕ) (called : caller s.core ≡ Some id)
     (placed : IsPlaced s.core.kernel.threads) where
+  -- it is the one that runs
+  runs : s.core.kernel.threads.running ≡ Some id
+  runs = caller_runs s.core id called
+
   -- of two ways, both are so
   either : (b : Bool) (x y : Served) → ServedBecomes s id x → ServedBecomes s id y
       → ServedBecomes s id (cond b x y)
@@ -139,54 +148,77 @@ module _ (s : System) (id : ℕ) (runs : caller s.core ≡ Some id)
   -- a service that looks at the kernel and at memory
   board_becomes : (x : Service) → ServedBecomes s id (on_board s (serves_board (board_of s) x))
   unfolding serves_board
+  board_becomes service.DisableIntr =
+      let place = optional_place s.memory (argument s.core 1) in
+      on_board_becomes _ (disables_line_becomes (board_of s) id called (argument s.core 0) place)
+  board_becomes service.CpuSuspendIntr =
+      let place = words_place s.memory (argument s.core 0) 1 in
+      on_board_becomes _ (suspends_become (board_of s) id called place)
+  board_becomes service.GetSystemTime =
+      let place = words_place s.memory (argument s.core 0) TIME_WORDS in
+      on_board_becomes _ (writes_time_becomes (board_of s) id called s.core.kernel.clock place)
+  board_becomes service.SetAlarm =
+      let place = words_place s.memory (argument s.core 0) TIME_WORDS in
+      let handler = argument s.core 1 in
+      on_core_becomes _
+      (sets_alarm_becomes s.core id called s.memory place handler (argument s.core 2))
+  board_becomes service.USec2SysClock =
+      let place = words_place s.memory (argument s.core 1) TIME_WORDS in
+      let ticks = ticks_of (argument s.core 0) in
+      on_board_becomes _ (writes_time_becomes (board_of s) id called ticks place)
+  board_becomes service.SysClock2USec =
+      let time = words_place s.memory (argument s.core 0) TIME_WORDS in
+      let seconds = words_place s.memory (argument s.core 1) 1 in
+      on_board_becomes _ (converts_become (board_of s) id called time seconds
+      (words_place s.memory (argument s.core 2) 1))
   board_becomes service.CreateSema =
       let at = argument s.core 0 in
       on_core_becomes _
-      (creates_sema_become s.core id runs placed s.memory (words_place s.memory at SEMAPHORE_WORDS))
+      (creates_sema_become s.core id called placed s.memory (words_place s.memory at SEMAPHORE_WORDS))
   board_becomes service.ReferSemaStatus =
       let place = words_place s.memory (argument s.core 1) SEMAPHORE_STATUS_WORDS in
-      on_board_becomes _ (refers_sema_become (board_of s) id runs (argument s.core 0) place)
+      on_board_becomes _ (refers_sema_become (board_of s) id called (argument s.core 0) place)
   board_becomes service.CreateEventFlag =
       let place = words_place s.memory (argument s.core 0) FLAG_WORDS in
-      on_core_becomes _ (creates_flag_becomes s.core id runs placed s.memory place)
+      on_core_becomes _ (creates_flag_becomes s.core id called placed s.memory place)
   board_becomes service.SetEventFlag =
       let o = object_of s.core.kernel.event_flags.live (argument s.core 0) in
       on_board_becomes _
-      (sets_flag_becomes (board_of s) id runs placed (argument s.core 1) o)
+      (sets_flag_becomes (board_of s) id called placed (argument s.core 1) o)
   board_becomes service.WaitEventFlag =
       let w = wanted s.core in
       let place = optional_place s.memory w.place in
       on_board_becomes _
-      (waits_flag_becomes (board_of s) id runs placed (argument s.core 0) w place)
+      (waits_flag_becomes (board_of s) id called placed (argument s.core 0) w place)
   board_becomes service.PollEventFlag =
       let w = wanted s.core in
       let place = optional_place s.memory w.place in
       on_board_becomes _
-      (polls_flag_becomes (board_of s) id runs placed (argument s.core 0) w place)
+      (polls_flag_becomes (board_of s) id called placed (argument s.core 0) w place)
   board_becomes service.ReferEventFlagStatus =
       let place = words_place s.memory (argument s.core 1) FLAG_STATUS_WORDS in
       on_board_becomes _
-      (refers_flag_becomes (board_of s) id runs placed (argument s.core 0) place)
+      (refers_flag_becomes (board_of s) id called placed (argument s.core 0) place)
   board_becomes service.CreateMbx =
       let place = words_place s.memory (argument s.core 0) MAILBOX_WORDS in
-      on_core_becomes _ (creates_mbx_becomes s.core id runs placed s.memory place)
+      on_core_becomes _ (creates_mbx_becomes s.core id called placed s.memory place)
   board_becomes service.SendMbx =
       let one = argument s.core 0 in
-      on_board_becomes _ (sends_become (board_of s) id runs placed one (argument s.core 1)
+      on_board_becomes _ (sends_become (board_of s) id called placed one (argument s.core 1)
       (mailboxes.takes_waiter_of s.core.kernel.mailboxes one))
   board_becomes service.ReceiveMbx =
       let at = argument s.core 0 in
-      on_board_becomes _ (waits_mbx_become (board_of s) id runs placed at (argument s.core 1)
+      on_board_becomes _ (waits_mbx_become (board_of s) id called placed at (argument s.core 1)
       (words_place s.memory at 1))
   board_becomes service.PollMbx =
       let place = words_place s.memory (argument s.core 0) 1 in
       on_board_becomes _
-      (polls_mbx_become (board_of s) id runs placed (argument s.core 1) place)
+      (polls_mbx_become (board_of s) id called placed (argument s.core 1) place)
   board_becomes service.ReferMbxStatus =
       let place = words_place s.memory (argument s.core 1) MAILBOX_STATUS_WORDS in
       on_board_becomes _
-      (refers_mbx_become (board_of s) id runs placed (argument s.core 0) place)
-  board_becomes other = on_core_becomes _ (serves_core_becomes s.core id runs placed other)
+      (refers_mbx_become (board_of s) id called placed (argument s.core 0) place)
+  board_becomes other = on_core_becomes _ (serves_core_becomes s.core id called placed other)
 
   -- a service that the libraries do not have
   serves_becomes : (x : Service) → ServedBecomes s id (serves s x)
@@ -195,10 +227,10 @@ module _ (s : System) (id : ℕ) (runs : caller s.core ≡ Some id)
   serves_becomes service.ReferThreadStatus =
       refers_become (argument s.core 0) (words_place s.memory (argument s.core 1) STATUS_WORDS)
   serves_becomes service.DeleteThread =
-      on_owner_becomes _ (delete_becomes (owner_of s) id runs placed (argument s.core 0))
+      on_owner_becomes _ (delete_becomes (owner_of s) id called placed (argument s.core 0))
   serves_becomes service.ExitDeleteThread =
       on_owner_becomes _
-      (exits_deleted_by_become (owner_of s) id runs placed (caller s.core) refl)
+      (exits_deleted_by_become (owner_of s) id called placed (caller s.core) refl)
   serves_becomes other = board_becomes other
 
   -- what the libraries look at
@@ -258,30 +290,32 @@ module _ (s : System) (id : ℕ) (runs : caller s.core ≡ Some id)
     allowed_becomes row false = runs
 
     -- a call of a row
-    row_becomes : (o : Option Row)
-        → GivenBecomes (row_pieces sight false o) (calls_row sight s.blocks s.libraries false o)
-    row_becomes None = runs
-    row_becomes (Some row) = allowed_becomes row (allows row.context false)
+    row_becomes : (inside : Bool) (o : Option Row)
+        → GivenBecomes (row_pieces sight inside o) (calls_row sight s.blocks s.libraries inside o)
+    row_becomes inside None = runs
+    row_becomes inside (Some row) = allowed_becomes row (allows row.context inside)
 
     -- a service of a library
     library_becomes : ServedBecomes s id (calls_library library number s)
     unfolding calls_library
-    library_becomes = row_becomes (row_of library number)
+    library_becomes = row_becomes (in_handler s.core.kernel) (row_of library number)
 
   -- whatever is called
   calls_become : (o : Option Call) → ServedBecomes s id (calls s o)
   calls_become None = tt
   calls_become (Some ThreadReturn) =
-      on_core_becomes _ (exits_become s.core id runs placed (caller s.core) refl)
+      on_core_becomes _ (exits_become s.core id called placed (caller s.core) refl)
+  calls_become (Some HandlerReturn) =
+      on_core_becomes _ (returns_handler_becomes s.core id called s.core.kernel.handler refl)
   calls_become (Some ModuleReturn) =
-      on_core_becomes _ (returns_become s.core id runs placed (caller s.core) refl)
+      on_core_becomes _ (returns_become s.core id called placed (caller s.core) refl)
   calls_become (Some (Library library number)) = library_becomes library number
 
 -- what follows a `syscall` of any code
 pub services_follow : (s : System) (code id : ℕ) → IsPlaced s.core.kernel.threads
     → caller s.core ≡ Some id → let d = services s code in
     Follows d.left.after s id d.left.state d.pieces
-services_follow s code id placed runs =
+services_follow s code id placed called =
     let d = services s code in
     follows_by s id d.left.after d.left.state d.pieces (services_alone s code)
-    (calls_become s id runs placed (call_of code))
+    (calls_become s id called placed (call_of code))

@@ -14,12 +14,17 @@ use Rattle.iop_thread.specs.declared.wait.Wait.TheVariants.{Semaphore}
 use Rattle.iop_thread.proofs.Waits.{moves_waits}
 use Rattle.iop_kernel.specs.Boards.{Board}
 use Rattle.iop_kernel.specs.Semaphores.{LiveSemaphore, creates_sema_at, deletes_sema, signals_by, waits_for_sema, takes_or_waits, wait_sema, refers_sema_to, refers_sema_at}
-use Rattle.iop_kernel.specs.System.{Core, may_switch, caller, code_word}
+use Rattle.iop_kernel.specs.System.{Core, may_switch, caller, running_registers, code_word}
 use Rattle.iop_kernel.specs.Waits.{is_code, threads_of}
 use Rattle.iop_kernel.proofs.Becoming.{CoreBecomes, BoardBecomes}
 use Rattle.iop_kernel.proofs.WaitsEnding.{all_running}
+use Rattle.iop_kernel.proofs.RunningThread.{caller_runs}
 
-module _ (c : Core) (id : ℕ) (runs : caller c ≡ Some id) (placed : IsPlaced c.kernel.threads) where
+module _ (c : Core) (id : ℕ) (calls : caller c ≡ Some id) (placed : IsPlaced c.kernel.threads) where
+  -- it is the one that runs
+  runs : c.kernel.threads.running ≡ Some id
+  runs = caller_runs c id calls
+
   abbrev moves : MovesWaits c.kernel.threads
   moves = moves_waits c.kernel.threads placed
 
@@ -45,7 +50,7 @@ module _ (c : Core) (id : ℕ) (runs : caller c ≡ Some id) (placed : IsPlaced 
   -- the thread that calls waits for one
   waits_for_become : (at : ℕ) (o : Option ℕ) → CoreBecomes c id (waits_for_sema c at o)
   waits_for_become at None = tt
-  waits_for_become at (Some thread) = (moves.blocks (Semaphore at) c.cpu).running
+  waits_for_become at (Some thread) = (moves.blocks (Semaphore at) (running_registers c)).running
 
   -- where the count is 0
   takes_or_waits_become : (at : ℕ) (r : Code × Semaphores)
@@ -60,12 +65,16 @@ module _ (c : Core) (id : ℕ) (runs : caller c ≡ Some id) (placed : IsPlaced 
       cond_both (may_switch c.kernel) _ _ (CoreBecomes c id)
       (λ may. takes_or_waits_become at (semaphores.takes c.kernel.semaphores at)) (λ may_not. runs)
 
-module _ (b : Board) (id : ℕ) (runs : caller b.core ≡ Some id) where
+module _ (b : Board) (id : ℕ) (calls : caller b.core ≡ Some id) where
+  -- it is the one that runs
+  it_runs : b.core.kernel.threads.running ≡ Some id
+  it_runs = caller_runs b.core id calls
+
   -- the status of a semaphore is written, if it is found
   refers_sema_to_become : (place : ℕ) (o : Option LiveSemaphore)
       → BoardBecomes b id (refers_sema_to b place o)
-  refers_sema_to_become place None = runs
-  refers_sema_to_become place (Some o) = runs
+  refers_sema_to_become place None = it_runs
+  refers_sema_to_become place (Some o) = it_runs
 
   -- by the place of the words, if they have one
   pub refers_sema_become : (at : ℕ) (o : Option ℕ) → BoardBecomes b id (refers_sema_at b at o)

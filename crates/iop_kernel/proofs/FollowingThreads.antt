@@ -1,6 +1,6 @@
 -- What becomes of the thread that calls a service which looks at the kernel alone: it runs on, or
 -- none runs.
-use Rattle.std.proofs.Common.{◌≡◌, ℕ, ◌==◌, ◌||◌, ◌&&◌, not, Bool, true, false, if◌then◌else◌, Option, Some, None, Result, Ok, Err, refl, ap, ◌∙◌, arith}
+use Rattle.std.proofs.Common.{◌≡◌, ℕ, ◌==◌, ◌||◌, ◌&&◌, not, Bool, true, false, if◌then◌else◌, Option, Some, None, Result, Ok, Err, refl, ap, subst, ◌∙◌, arith}
 use Rattle.std.proofs.lemmas.Bool.{cond_both}
 use Rattle.std.proofs.lemmas.Bool.Decides.{nat_tests}
 use Rattle.iop_base.specs.declared.code.Code.{Code}
@@ -18,8 +18,9 @@ use Rattle.iop_thread.specs.Waits.{MovesWaits}
 use Rattle.iop_thread.specs.declared.thread.Thread.{Thread}
 use Rattle.iop_thread.specs.declared.thread.TheConstants.{LOADER}
 use Rattle.iop_thread.specs.declared.wait.Wait.{Wait}
-use Rattle.iop_thread.specs.declared.wait.Wait.TheVariants.{Sleep}
+use Rattle.iop_thread.specs.declared.wait.Wait.TheVariants.{Sleep, Delay}
 use Rattle.iop_thread.proofs.Placed.{keeps_places}
+use Rattle.iop_time.specs.ClockTime.{ticks_of, moment_after}
 use Rattle.iop_thread.proofs.Waits.{moves_waits}
 use Rattle.iop_kernel.specs.Deleting.{Owner, deletes_by, delete_thread, exits_deleted, exits_deleted_by}
 use Rattle.iop_kernel.specs.Naming.{is_nobody_else, named}
@@ -28,15 +29,26 @@ use Rattle.iop_kernel.specs.Running.{ended, exits_by, returns_by, start_thread, 
 use Rattle.iop_kernel.specs.Waits.{wakes_with}
 use Rattle.iop_kernel.specs.Waiting.{releases_from, releases_it, release_wait, sleeps_by, sleep_thread, wakeup_thread, cancels_of, suspend_thread, resume_thread}
 use Rattle.iop_kernel.specs.Serving.{serves_core}
-use Rattle.iop_kernel.specs.System.{Core, Left, may_switch, caller, opened, answered, with_threads, argument, code_word}
+use Rattle.iop_kernel.specs.Timing.{waits_until, delay_thread}
+use Rattle.iop_kernel.specs.System.{Core, Left, may_switch, caller, running_registers, opened, answered, with_threads, argument, code_word}
 use Rattle.iop_kernel.proofs.Becoming.{CoreBecomes, OwnerBecomes, runner}
 use Rattle.iop_kernel.proofs.FollowingEventFlags.{deletes_flag_becomes}
 use Rattle.iop_kernel.proofs.FollowingMailboxes.{deletes_mbx_become}
 use Rattle.iop_kernel.proofs.FollowingSemaphores.{deletes_sema_become, signals_become, wait_sema_becomes}
 use Rattle.iop_kernel.proofs.WaitsEnding.{leaves_threads, requeues_threads}
-use Rattle.iop_kernel.proofs.RunningThread.{RunsOn, running_terminates, running_rotates, none_rotates, running_suspends}
+use Rattle.iop_kernel.proofs.RunningThread.{RunsOn, running_terminates, running_rotates, none_rotates, running_suspends, caller_runs}
 
-module _ (c : Core) (id : ℕ) (runs : caller c ≡ Some id) (placed : IsPlaced c.kernel.threads) where
+module _ (c : Core) (id : ℕ) (calls : caller c ≡ Some id) (placed : IsPlaced c.kernel.threads) where
+  -- it is the one that runs
+  runs : c.kernel.threads.running ≡ Some id
+  runs = caller_runs c id calls
+
+  -- a thread that does not call does not run
+  runs_not : (at : ℕ) → is_it (caller c) at ≡ false → is_it c.kernel.threads.running at ≡ false
+  runs_not at other =
+      let same : caller c ≡ c.kernel.threads.running = cc (calls, runs) in
+      subst (λ (o : Option ℕ). is_it o at ≡ false) same other
+
   abbrev table : ThreadTable
   table = c.kernel.threads
 
@@ -51,7 +63,7 @@ module _ (c : Core) (id : ℕ) (runs : caller c ≡ Some id) (placed : IsPlaced 
   -- the thread that calls is the loader's, if the test says so
   is_loader : (at : ℕ) → caller c ≡ Some at → (at == LOADER) ≡ true → id ≡ LOADER
   is_loader at is loader =
-      let same : at ≡ id = cc (is, runs) in grind (arith, nat_tests, same, loader)
+      let same : at ≡ id = cc (is, calls) in grind (arith, nat_tests, same, loader)
 
   -- the thread that calls ends
   pub exits_become : (o : Option ℕ) → caller c ≡ o → CoreBecomes c id (exits_by c o)
@@ -77,7 +89,7 @@ module _ (c : Core) (id : ℕ) (runs : caller c ≡ Some id) (placed : IsPlaced 
       → CoreBecomes c id (terminates_by c at r)
   terminates_become at (Err code, t) on = runs
   terminates_become at (Ok wait, t) on =
-      let left : Core = if is_it (caller c) at then opened c else c in
+      let left : Core = if is_it c.kernel.threads.running at then opened c else c in
       ap runner (leaves_threads (with_threads left t).kernel at wait) ∙ on ∙ runs
 
   -- a thread is ended, unless it is the one that calls
@@ -85,7 +97,8 @@ module _ (c : Core) (id : ℕ) (runs : caller c ≡ Some id) (placed : IsPlaced 
   terminate_becomes at =
       either (is_nobody_else c at || at == LOADER) _ _ (λ refused. runs) (λ other.
       let it : is_it (caller c) at ≡ false = grind (arith, nat_tests, other) in
-      terminates_become at (threads.terminates table at) (running_terminates table placed at it))
+      terminates_become at (threads.terminates table at)
+      (running_terminates table placed at (runs_not at it)))
 
   -- dispatch is enabled or disabled
   set_becomes : (enabled : Bool) → CoreBecomes c id (set_dispatch c enabled)
@@ -111,15 +124,15 @@ module _ (c : Core) (id : ℕ) (runs : caller c ≡ Some id) (placed : IsPlaced 
   changes_if_priority_become at (Some priority) = changes_named_become priority (named (caller c) at)
 
   -- a thread that calls does not go on where none runs
-  left_becomes : (d : Core) (o : Option ℕ) → caller c ≡ o → caller d ≡ None
+  left_becomes : (d : Core) (o : Option ℕ) → caller c ≡ o → d.kernel.threads.running ≡ None
       → CoreBecomes c id (record { state = d; after = after_leaving c o })
-  left_becomes d None is none = absurd (cc (is, runs))
+  left_becomes d None is none = absurd (cc (is, calls))
   left_becomes d (Some at) is none = none
 
   -- the threads of a priority are rotated
   rotates_become : (priority : ℕ) → CoreBecomes c id (rotates_to c priority)
   rotates_become priority =
-      let registers = (answered c 0).cpu in
+      let registers = running_registers (answered c 0) in
       either (not (has_priority priority (running_thread table))) _ _
       (λ other.
       running_rotates table placed priority registers (grind (arith, nat_tests, other)) ∙ runs)
@@ -160,13 +173,25 @@ module _ (c : Core) (id : ℕ) (runs : caller c ≡ Some id) (placed : IsPlaced 
   -- the thread that calls waits, unless there is a wakeup
   sleeps_become : (r : Bool × ThreadTable) → RunsOn table r.1 → CoreBecomes c id (sleeps_by c r)
   sleeps_become (true, t) on = on ∙ runs
-  sleeps_become (false, t) on = (moves.blocks Sleep c.cpu).running
+  sleeps_become (false, t) on = (moves.blocks Sleep (running_registers c)).running
 
   -- it sleeps, where another may run
   sleep_becomes : CoreBecomes c id (sleep_thread c)
   sleep_becomes =
       either (may_switch c.kernel) _ _
       (λ may. sleeps_become (threads.takes_wakeup table) moves.takes_wakeup.running)
+      (λ may_not. runs)
+
+  -- it waits until a moment
+  waits_until_become : (moment : ℕ) (o : Option ℕ) → CoreBecomes c id (waits_until c moment o)
+  waits_until_become moment None = tt
+  waits_until_become moment (Some thread) = (moves.blocks Delay (running_registers c)).running
+
+  -- or for a time, where another may run
+  delay_becomes : (us : ℕ) → CoreBecomes c id (delay_thread c us)
+  delay_becomes us =
+      either (may_switch c.kernel) _ _
+      (λ may. waits_until_become (moment_after c.kernel.clock (ticks_of us)) (caller c))
       (λ may_not. runs)
 
   -- a thread is woken
@@ -185,8 +210,8 @@ module _ (c : Core) (id : ℕ) (runs : caller c ≡ Some id) (placed : IsPlaced 
   suspend_becomes at =
       either (is_nobody_else c at) _ _ (λ refused. runs) (λ other.
       let it : is_it (caller c) at ≡ false = grind (arith, nat_tests, other) in
-      either (is_it (caller c) at && not c.kernel.dispatching) _ _ (λ cannot. runs)
-      (λ can. running_suspends table placed at c.cpu it ∙ runs))
+      either (is_it table.running at && not c.kernel.dispatching) _ _ (λ cannot. runs)
+      (λ can. running_suspends table placed at (running_registers c) (runs_not at it) ∙ runs))
 
   -- a thread is resumed
   resume_becomes : (at : ℕ) → CoreBecomes c id (resume_thread c at)
@@ -197,6 +222,14 @@ module _ (c : Core) (id : ℕ) (runs : caller c ≡ Some id) (placed : IsPlaced 
   -- each service that looks at the kernel alone
   pub serves_core_becomes : (x : Service) → CoreBecomes c id (serves_core c x)
   unfolding serves_core
+  serves_core_becomes service.RegisterIntrHandler = runs
+  serves_core_becomes service.ReleaseIntrHandler = runs
+  serves_core_becomes service.EnableIntr = runs
+  serves_core_becomes service.CpuDisableIntr =
+      either c.kernel.interrupts _ _ (λ on. runs) (λ off. runs)
+  serves_core_becomes service.CpuEnableIntr = runs
+  serves_core_becomes service.CpuResumeIntr = runs
+  serves_core_becomes service.QueryIntrContext = runs
   serves_core_becomes service.StartThread = start_becomes (argument c 0) (argument c 1)
   serves_core_becomes service.ExitThread = exits_become (caller c) refl
   serves_core_becomes service.TerminateThread = terminate_becomes (argument c 0)
@@ -213,21 +246,27 @@ module _ (c : Core) (id : ℕ) (runs : caller c ≡ Some id) (placed : IsPlaced 
   serves_core_becomes service.CancelWakeupThread = cancels_become (named (caller c) (argument c 0))
   serves_core_becomes service.SuspendThread = suspend_becomes (argument c 0)
   serves_core_becomes service.ResumeThread = resume_becomes (argument c 0)
+  serves_core_becomes service.DelayThread = delay_becomes (argument c 0)
+  serves_core_becomes service.CancelAlarm = runs
   serves_core_becomes service.DeleteSema =
-      deletes_sema_become c id runs placed (object_of c.kernel.semaphores.live (argument c 0))
+      deletes_sema_become c id calls placed (object_of c.kernel.semaphores.live (argument c 0))
   serves_core_becomes service.SignalSema =
-      signals_become c id runs placed (semaphores.signals c.kernel.semaphores (argument c 0))
-  serves_core_becomes service.WaitSema = wait_sema_becomes c id runs placed (argument c 0)
+      signals_become c id calls placed (semaphores.signals c.kernel.semaphores (argument c 0))
+  serves_core_becomes service.WaitSema = wait_sema_becomes c id calls placed (argument c 0)
   serves_core_becomes service.PollSema = runs
   serves_core_becomes service.DeleteEventFlag =
-      deletes_flag_becomes c id runs placed (object_of c.kernel.event_flags.live (argument c 0))
+      deletes_flag_becomes c id calls placed (object_of c.kernel.event_flags.live (argument c 0))
   serves_core_becomes service.ClearEventFlag = runs
   serves_core_becomes service.DeleteMbx =
-      deletes_mbx_become c id runs placed (object_of c.kernel.mailboxes.live (argument c 0))
+      deletes_mbx_become c id calls placed (object_of c.kernel.mailboxes.live (argument c 0))
   serves_core_becomes other = tt
 
-module _ (o : Owner) (id : ℕ) (runs : caller o.core ≡ Some id)
+module _ (o : Owner) (id : ℕ) (calls : caller o.core ≡ Some id)
     (placed : IsPlaced o.core.kernel.threads) where
+  -- it is the one that runs
+  it_runs : o.core.kernel.threads.running ≡ Some id
+  it_runs = caller_runs o.core id calls
+
   abbrev owned : MovesWaits o.core.kernel.threads
   owned = moves_waits o.core.kernel.threads placed
 
@@ -238,13 +277,13 @@ module _ (o : Owner) (id : ℕ) (runs : caller o.core ≡ Some id)
   -- a dormant thread is deleted, by what that answers
   deletes_become : (r : Result ℕ Code × ThreadTable) → RunsOn o.core.kernel.threads r.1
       → OwnerBecomes o id (deletes_by o r)
-  deletes_become (Ok stack, t) on = on ∙ runs
-  deletes_become (Err code, t) on = runs
+  deletes_become (Ok stack, t) on = on ∙ it_runs
+  deletes_become (Err code, t) on = it_runs
 
   -- the thread of an id is deleted
   pub delete_becomes : (at : ℕ) → OwnerBecomes o id (delete_thread o at)
   delete_becomes at =
-      cond_both (at == 0 || at == LOADER) _ _ (OwnerBecomes o id) (λ refused. runs)
+      cond_both (at == 0 || at == LOADER) _ _ (OwnerBecomes o id) (λ refused. it_runs)
       (λ other. deletes_become (threads.deletes o.core.kernel.threads at)
       (owned.deletes at).running)
 
@@ -261,6 +300,6 @@ module _ (o : Owner) (id : ℕ) (runs : caller o.core ≡ Some id)
   exits_deleted_by_become (Some at) is =
       let left = (ended o.core).kernel.threads in
       cond_both (at == LOADER) _ _ (OwnerBecomes o id)
-      (λ loader. (is_loader o.core id runs placed at is loader, refl))
+      (λ loader. (is_loader o.core id calls placed at is loader, refl))
       (λ other. exits_deleted_become (threads.deletes left at)
       ((moves_waits left ended_placed).deletes at).running)

@@ -1,6 +1,5 @@
 -- What the services of thevent keep of the kernel, and what they store.
-use Rattle.std.proofs.Common.{◌≡◌, ℕ, true, Option, Some, None, Result, Ok, Err, List, [], ◌∷◌, option_map, ◌==◌, refl, sym, subst}
-use Rattle.std.proofs.lemmas.Bool.{cond_both}
+use Rattle.std.proofs.Common.{◌≡◌, ℕ, true, Option, Some, None, Result, Ok, Err, List, [], ◌∷◌, refl, sym, subst}
 use Rattle.iop_base.specs.declared.code.Code.{Code}
 use Rattle.iop_base.specs.declared.code.TheConstants.Code.{OK, FLAG_CONDITION, OBJECT_DELETED}
 use Rattle.iop_event.specs.EventFlags as flags
@@ -15,7 +14,7 @@ use Rattle.iop_kernel.specs.EventFlags.{LiveFlag, creates_flag_at, deletes_flag,
 use Rattle.iop_kernel.specs.System.{Core, System, may_switch, caller, with_threads, with_event_flags, code_word, answered, words_place}
 use Rattle.iop_kernel.specs.Waits.{is_code, threads_of, wakes_all}
 use Rattle.iop_kernel.specs.declared.event_flags.TheConstants.{FLAG_STATUS_WORDS}
-use Rattle.iop_kernel.proofs.KeepingBoards.{BoardKeeps, WordsFit, quiet_keeps, writes_keeps, board_keeps_both}
+use Rattle.iop_kernel.proofs.KeepingBoards.{BoardKeeps, WordsFit, PlaceFits, optional_fits, quiet_keeps, writes_keeps, board_keeps_both}
 use Rattle.iop_kernel.proofs.KeepingCore.{CoreKeeps, Keeps, nothing_changes, keeps_then, only_answered, objects_change, waits_keep, goes_on}
 use Rattle.iop_kernel.proofs.KeepingMeetings.{met_of, set_flags, threads_met, meets_core, meets_stored}
 use Rattle.iop_kernel.proofs.KeepingMemory.{stores_written, words_inside}
@@ -49,43 +48,42 @@ module _ (c : Core) where
       keeps_then (flags_change _) (waits_keep _ (EventFlag one) may)
 
 -- the waits of several threads end
-waits_end : (c : Core) (id : ℕ) → caller c ≡ Some id → (ids : List ℕ) (word : ℕ)
+waits_end : (c : Core) (ids : List ℕ) (word : ℕ)
     → CoreKeeps c (with_threads c (wakes_all c.kernel.threads ids word))
-waits_end c id runs ids word = goes_on c id runs _ (λ h. record {
+waits_end c ids word = goes_on c _ (λ h. record {
   placed = all_placed ids c.kernel.threads word h.placed;
   straight = all_straight ids c.kernel.threads word h.threads;
   on = all_running ids c.kernel.threads word h.placed;
 })
 
 -- an event flag is deleted, if it is found
-pub deletes_flag_keeps : (c : Core) (id : ℕ) → caller c ≡ Some id → (o : Option LiveFlag)
-    → Keeps c (deletes_flag c o)
-deletes_flag_keeps c id runs None = only_answered c _
-deletes_flag_keeps c id runs (Some o) =
+pub deletes_flag_keeps : (c : Core) (o : Option LiveFlag) → Keeps c (deletes_flag c o)
+deletes_flag_keeps c None = only_answered c _
+deletes_flag_keeps c (Some o) =
     let ids = threads_of o.waiters in
     let word = code_word OBJECT_DELETED in
-    keeps_then (waits_end c id runs ids word)
+    keeps_then (waits_end c ids word)
     (answers_flags (with_threads c (wakes_all c.kernel.threads ids word)) _ _)
 
 module _ (s : System) where
   -- those that were met are woken, and the event flags have changed
-  wakes_keep : (id : ℕ) → caller s.core ≡ Some id → (left : EventFlags) (met : List Met)
+  wakes_keep : (left : EventFlags) (met : List Met)
       → BoardKeeps s (wakes_met (record (board_of s) { core = with_event_flags s.core left }) met)
-  wakes_keep id runs left met =
+  wakes_keep left met =
       let now : Board = record (board_of s) { core = with_event_flags s.core left } in
       let woken = subst (CoreKeeps now.core) (sym (meets_core met now))
-      (waits_end now.core id runs (threads_met met) (code_word OK)) in
+      (waits_end now.core (threads_met met) (code_word OK)) in
       record {
         core = keeps_then (keeps_then (flags_change s.core left) woken) (only_answered _ _);
         memory = stores_written s _ _ (meets_stored met now);
       }
 
   -- bits are set, if the event flag is found
-  pub sets_flag_keeps : (id : ℕ) → caller s.core ≡ Some id → (bits : ℕ) (o : Option LiveFlag)
+  pub sets_flag_keeps : (bits : ℕ) (o : Option LiveFlag)
       → BoardKeeps s (sets_flag (board_of s) bits o)
-  sets_flag_keeps id runs bits None = quiet_keeps s _ (only_answered s.core _)
-  sets_flag_keeps id runs bits (Some o) =
-      wakes_keep id runs (set_flags s.core o bits) (met_of o bits)
+  sets_flag_keeps bits None = quiet_keeps s _ (only_answered s.core _)
+  sets_flag_keeps bits (Some o) =
+      wakes_keep (set_flags s.core o bits) (met_of o bits)
 
   -- by what the test came to
   polls_keep : (place : Option ℕ) → WordsFit s.memory place 1 → (r : Result ℕ Code × EventFlags)
@@ -106,22 +104,8 @@ module _ (s : System) where
       (λ unmet. quiet_keeps s _ (waits_for_keeps s.core one wanted may (caller s.core)))
       (polls_keep place fits (Err code, left))
 
-  -- a place that is a word's, or none
-  abbrev PlaceFits : Option (Option ℕ) → Type 0
-  PlaceFits o = (place : Option ℕ) → o ≡ Some place → WordsFit s.memory place 1
-
-  -- so is the place of a word where 0 stands for none
-  word_fits : (o : Option ℕ) → WordsFit s.memory o 1 → PlaceFits (option_map (λ p. Some p) o)
-  word_fits None fits place e p is = absurd (cc e)
-  word_fits (Some at) fits place e p is = fits p (cc (e, is))
-
-  optional_fits : (at : ℕ) → PlaceFits (optional_place s.memory at)
-  optional_fits at =
-      cond_both (at == 0) _ _ PlaceFits (λ none place e p is. absurd (cc (e, is)))
-      (λ some. word_fits (words_place s.memory at 1) (words_inside s.memory at 1))
-
   -- where another may run, by the place for the pattern
-  waits_flag_at_keeps : (one : ℕ) (wanted : Wanted) (o : Option (Option ℕ)) → PlaceFits o
+  waits_flag_at_keeps : (one : ℕ) (wanted : Wanted) (o : Option (Option ℕ)) → PlaceFits s o
       → BoardKeeps s (waits_flag_at (board_of s) one wanted o)
   waits_flag_at_keeps one wanted None fits = quiet_keeps s _ (nothing_changes s.core)
   waits_flag_at_keeps one wanted (Some place) fits =
@@ -134,10 +118,10 @@ module _ (s : System) where
       (waits_flag_at (board_of s) one wanted (optional_place s.memory wanted.place))
   waits_flag_keeps one wanted =
       waits_flag_at_keeps one wanted (optional_place s.memory wanted.place)
-      (optional_fits wanted.place)
+      (optional_fits s wanted.place)
 
   -- where the thread that calls does not wait
-  polls_flag_at_keeps : (one : ℕ) (wanted : Wanted) (o : Option (Option ℕ)) → PlaceFits o
+  polls_flag_at_keeps : (one : ℕ) (wanted : Wanted) (o : Option (Option ℕ)) → PlaceFits s o
       → BoardKeeps s (polls_flag_at (board_of s) one wanted o)
   polls_flag_at_keeps one wanted None fits = quiet_keeps s _ (nothing_changes s.core)
   polls_flag_at_keeps one wanted (Some place) fits =
@@ -148,7 +132,7 @@ module _ (s : System) where
       (polls_flag_at (board_of s) one wanted (optional_place s.memory wanted.place))
   polls_flag_keeps one wanted =
       polls_flag_at_keeps one wanted (optional_place s.memory wanted.place)
-      (optional_fits wanted.place)
+      (optional_fits s wanted.place)
 
   -- the status of an event flag is written, if it is found
   refers_flag_to_keeps : (place : ℕ) → WordsFit s.memory (Some place) FLAG_STATUS_WORDS

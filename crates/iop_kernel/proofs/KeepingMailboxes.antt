@@ -56,7 +56,7 @@ module _ (c : Core) where
       (λ room. queues_by_keeps one message (message_priority memory x.attr message))
       (λ full. only_answered c _)
 
-module _ (c : Core) (id : ℕ) (runs : caller c ≡ Some id) where
+module _ (c : Core) where
   -- one is deleted, if it is found
   pub deletes_mbx_keeps : (o : Option LiveMailbox) → Keeps c (deletes_mbx c o)
   deletes_mbx_keeps None = only_answered c _
@@ -64,7 +64,7 @@ module _ (c : Core) (id : ℕ) (runs : caller c ≡ Some id) where
       let ids = threads_of (in_order (waiters_by_priority o.state.attr) o.waiters) in
       let word = code_word OBJECT_DELETED in
       let woken = wakes_all c.kernel.threads ids word in
-      keeps_then (goes_on c id runs woken (λ h. record {
+      keeps_then (goes_on c woken (λ h. record {
         placed = all_placed ids c.kernel.threads word h.placed;
         straight = all_straight ids c.kernel.threads word h.threads;
         on = all_running ids c.kernel.threads word h.placed;
@@ -72,19 +72,18 @@ module _ (c : Core) (id : ℕ) (runs : caller c ≡ Some id) where
 
 module _ (s : System) where
   -- a message is sent, by who waits
-  pub sends_keep : (id : ℕ) → caller s.core ≡ Some id → (one message : ℕ)
-      (r : Result (Option (Waiter ℕ)) Code × Mailboxes)
+  pub sends_keep : (one message : ℕ) (r : Result (Option (Waiter ℕ)) Code × Mailboxes)
       → BoardKeeps s (sends_by (board_of s) one message r)
-  sends_keep id runs one message (Err code, left) = quiet_keeps s _ (only_answered s.core _)
-  sends_keep id runs one message (Ok (Some waiter), left) =
+  sends_keep one message (Err code, left) = quiet_keeps s _ (only_answered s.core _)
+  sends_keep one message (Ok (Some waiter), left) =
       let now = with_mailboxes s.core left in
       writes_keeps s (words_place s.memory waiter.wants 1) (message ∷ []) _
-      (keeps_then (mailboxes_change s.core left) (goes_on now id runs _ (λ h. record {
+      (keeps_then (mailboxes_change s.core left) (goes_on now _ (λ h. record {
         placed = (places now h).wakes waiter.thread (code_word OK);
         straight = (straights now h).wakes waiter.thread (code_word OK);
         on = ((moves now h).wakes waiter.thread (code_word OK)).running;
       }))) (words_inside s.memory waiter.wants 1)
-  sends_keep id runs one message (Ok None, left) =
+  sends_keep one message (Ok None, left) =
       quiet_keeps s _
       (queues_keep s.core s.memory one message (state_of s.core.kernel.mailboxes one))
 

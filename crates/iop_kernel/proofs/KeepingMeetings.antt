@@ -57,7 +57,7 @@ stores_lines-append clock (x ∷ stores) more memory =
     (stores_lines clock (after_stores next stores) more))
 
 -- some stores and then others
-stored_then : (clock : ℕ) (old between new : Memory) (pieces more : List Piece)
+pub stored_then : (clock : ℕ) (old between new : Memory) (pieces more : List Piece)
     → Stored clock old between pieces → Stored clock between new more
     → Stored clock old new (pieces ++ more)
 stored_then clock old between new pieces more g h = record {

@@ -1,5 +1,5 @@
 -- What the services that look at the kernel and at blocks keep.
-use Rattle.std.proofs.Common.{◌≡◌, ℕ, ◌==◌, ◌||◌, Option, Some, None, Result, Ok, Err, refl}
+use Rattle.std.proofs.Common.{ℕ, ◌==◌, ◌||◌, Option, Some, None, Result, Ok, Err, refl}
 use Rattle.std.proofs.lemmas.Bool.{cond_both}
 use Rattle.iop_base.specs.declared.code.Code.{Code}
 use Rattle.iop_thread.specs.Operations as threads
@@ -8,7 +8,7 @@ use Rattle.iop_thread.specs.declared.thread.TheConstants.{LOADER}
 use Rattle.iop_kernel.specs.Laws.{AreKept}
 use Rattle.iop_kernel.specs.Deleting.{Owner, with_blocks, deletes_by, delete_thread, exits_deleted, exits_deleted_by}
 use Rattle.iop_kernel.specs.Running.{ended}
-use Rattle.iop_kernel.specs.System.{Core, Left, caller}
+use Rattle.iop_kernel.specs.System.{Core, Left}
 use Rattle.iop_kernel.proofs.KeepingCore.{HoldsAlone, CoreKeeps, Keeps, keeps_then, nothing_changes, only_answered, opened_keeps, CanStand, with_them, places, straights, moves, ended_keeps, GoOn, answers_on}
 use Rattle.iop_kernel.proofs.KeepingBlocks.{same_blocks, freeing_keeps}
 
@@ -22,12 +22,12 @@ only_core : (o : Owner) (left : Left Core) → Keeps o.core left
     → OwnerKeeps o (with_blocks o.blocks left)
 only_core o left h = record { core = h; blocks = same_blocks o.blocks }
 
-module _ (o : Owner) (id : ℕ) (runs : caller o.core ≡ Some id) where
+module _ (o : Owner) where
   -- a dormant thread is deleted
   deletes_by_keeps : (r : Result ℕ Code × ThreadTable) → (HoldsAlone o.core → GoOn o.core r.1)
       → OwnerKeeps o (deletes_by o r)
   deletes_by_keeps (Ok stack, t) go =
-      record { core = answers_on o.core id runs t _ go; blocks = freeing_keeps o.blocks stack }
+      record { core = answers_on o.core t _ go; blocks = freeing_keeps o.blocks stack }
   deletes_by_keeps (Err code, t) go = only_core o _ (only_answered o.core _)
 
   -- the thread of an id is deleted
@@ -59,5 +59,5 @@ module _ (o : Owner) (id : ℕ) (runs : caller o.core ≡ Some id) where
       (λ other. exits_deleted_keeps (threads.deletes (ended o.core).kernel.threads at) (λ h. record {
         placed = (places (ended o.core) h).deletes at;
         straight = (straights (ended o.core) h).deletes at;
-        awake = λ none. refl;
+        awake = λ none. record { dispatching = refl; interrupts = λ outside. refl };
       }))

@@ -45,7 +45,7 @@ module _ (c : Core) where
       (λ may. takes_or_waits_keeps at may (semaphores.takes c.kernel.semaphores at))
       (λ may_not. only_answered c _)
 
-module _ (c : Core) (id : ℕ) (runs : caller c ≡ Some id) where
+module _ (c : Core) where
   -- one is deleted, if it is found
   pub deletes_sema_keeps : (o : Option LiveSemaphore) → Keeps c (deletes_sema c o)
   deletes_sema_keeps None = only_answered c _
@@ -53,7 +53,7 @@ module _ (c : Core) (id : ℕ) (runs : caller c ≡ Some id) where
       let ids = threads_of (in_order (semaphores.by_priority o.state) o.waiters) in
       let word = code_word OBJECT_DELETED in
       let woken = wakes_all c.kernel.threads ids word in
-      keeps_then (goes_on c id runs woken (λ h. record {
+      keeps_then (goes_on c woken (λ h. record {
         placed = all_placed ids c.kernel.threads word h.placed;
         straight = all_straight ids c.kernel.threads word h.threads;
         on = all_running ids c.kernel.threads word h.placed;
@@ -65,7 +65,7 @@ module _ (c : Core) (id : ℕ) (runs : caller c ≡ Some id) where
   signals_keep (Ok None, left) = answers_semaphores c left _
   signals_keep (Ok (Some thread), left) =
       let now = with_semaphores c left in
-      keeps_then (semaphores_change c left) (answers_on now id runs _ _ (λ h. record {
+      keeps_then (semaphores_change c left) (answers_on now _ _ (λ h. record {
         placed = (places now h).wakes thread (code_word OK);
         straight = (straights now h).wakes thread (code_word OK);
         on = ((moves now h).wakes thread (code_word OK)).running;

@@ -3,7 +3,7 @@ use Rattle.std.proofs.Common.{◌≡◌, ◌+◌, ℕ, true, false, Option, Some
 use Rattle.std.specs.Prelude.{option_map, option_and_then, unwrap_or, Result, Ok, Err}
 use Rattle.iop_base.specs.Numbers.{word_at}
 use Rattle.iop_base.specs.declared.code.Code.{Code}
-use Rattle.iop_base.specs.declared.code.TheConstants.Code.{OK, NO_MESSAGE}
+use Rattle.iop_base.specs.declared.code.TheConstants.Code.{OK, NO_MESSAGE, UNKNOWN_MAILBOX}
 use Rattle.iop_mbx.specs.Mailboxes as mailboxes
 use Rattle.iop_mbx.specs.Mailboxes.{Mailbox, Mailboxes, without_messages, messages_of, next_message, takes_waiter, takes_waiter_of, waiter_for}
 use Rattle.iop_mbx.specs.declared.mailbox.Mailbox as declared
@@ -28,10 +28,14 @@ holds_mailboxes stands_for h now = record {
   clock = h.clock;
   interrupts = h.interrupts;
   dispatching = h.dispatching;
+  handler = h.handler;
+  cause = h.cause;
   threads = h.threads;
   semaphores = h.semaphores;
   event_flags = h.event_flags;
   mailboxes = now;
+  timers = h.timers;
+  irqs = h.irqs;
 }
 
 -- a mailbox is made of the words at a place
@@ -201,3 +205,19 @@ refers_live b s id at place x waiters messages next is stands e w m n =
     sym (ap (refers_mbx_at b id) stands)
     ∙ ap (λ s. refers_mbx_to b place (object_of s.live id)) is
     ∙ refers_for b place (object_of s.live id) x waiters messages next e w m n
+
+-- by the mailbox of the id
+untold_for : (b : Board) (place : ℕ) (o : Option LiveMailbox)
+    → None ≡ option_map without_messages (option_map (λ p. p.state) o)
+    → refers_mbx_to b place o ≡ quiet b.memory (answers b.core UNKNOWN_MAILBOX)
+untold_for b place None e = refl
+untold_for b place (Some o) e = cc
+
+-- there is none
+pub refers_none : (b : Board) (id at place : ℕ)
+    → Some place ≡ words_place b.memory at MAILBOX_STATUS_WORDS
+    → None ≡ option_map without_messages (state_of b.core.kernel.mailboxes id)
+    → refer_mbx_status b id at ≡ quiet b.memory (answers b.core UNKNOWN_MAILBOX)
+refers_none b id at place stands e =
+    sym (ap (refers_mbx_at b id) stands)
+    ∙ untold_for b place (object_of b.core.kernel.mailboxes.live id) e

@@ -66,10 +66,14 @@ module _ {R : Type 0} (stands_for : R → List Entry → Type 0) where
           clock = woken.clock;
           interrupts = woken.interrupts;
           dispatching = woken.dispatching;
+          handler = woken.handler;
+          cause = woken.cause;
           threads = woken.threads;
           semaphores = woken.semaphores;
           event_flags = woken.event_flags;
           mailboxes = refl;
+          timers = woken.timers;
+          irqs = woken.irqs;
         };
         order = ap (λ s. all_woken threads (threads_waiting s id)) same
             ∙ ap (all_woken threads) rest

@@ -170,10 +170,14 @@ module _ {R : Type 0} (stands_for : R → List Entry → Type 0) (b : Board) (id
               clock = woken.clock;
               interrupts = woken.interrupts;
               dispatching = woken.dispatching;
+              handler = woken.handler;
+              cause = woken.cause;
               threads = woken.threads;
               semaphores = woken.semaphores;
               event_flags = refl;
               mailboxes = woken.mailboxes;
+              timers = woken.timers;
+              irqs = woken.irqs;
             };
             boards = ap (λ m. meets_all (board kernel b.core.cpu m) rest) stored
                 ∙ sym (ap (λ (s : Settled). meets_all here s.met) next.settled) ∙ h.boards;
@@ -236,10 +240,14 @@ module _ {R : Type 0} (stands_for : R → List Entry → Type 0) (b : Board) (id
               clock = h.holds.clock;
               interrupts = h.holds.interrupts;
               dispatching = h.holds.dispatching;
+              handler = h.holds.handler;
+              cause = h.holds.cause;
               threads = h.holds.threads;
               semaphores = h.holds.semaphores;
               event_flags = h.settled ∙ sym all;
               mailboxes = h.holds.mailboxes;
+              timers = h.holds.timers;
+              irqs = h.holds.irqs;
             };
             processor = answered;
           };

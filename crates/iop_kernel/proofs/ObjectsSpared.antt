@@ -1,6 +1,6 @@
--- What becomes of the objects that threads wait for, but for those that wait: each kind is left as
--- it was, if it is to be spared.
-use Rattle.std.proofs.Common.{◌≡◌, ℕ, Bool, true, false, Option, Some, refl, sym, subst}
+-- What becomes of the parts of the kernel but its threads: each is left as it was, if it is to be
+-- spared; of the objects that threads wait for, but for those that wait.
+use Rattle.std.proofs.Common.{◌≡◌, ℕ, Bool, true, false, if◌then◌else◌, Option, Some, refl, sym, ap, subst, ◌∙◌}
 use Rattle.iop_event.specs.EventFlags.{EventFlags}
 use Rattle.iop_mbx.specs.Mailboxes as mailboxes
 use Rattle.iop_mbx.specs.Mailboxes.{Mailboxes}
@@ -9,78 +9,129 @@ use Rattle.iop_sema.specs.Semaphores.{Semaphores}
 use Rattle.iop_services.specs.declared.service.Service.{Service}
 use Rattle.iop_services.specs.declared.service.Service.TheVariants as service
 use Rattle.iop_thread.specs.declared.wait.Wait.{Wait}
-use Rattle.iop_thread.specs.declared.wait.Wait.TheVariants.{Semaphore, EventFlag, Mailbox}
+use Rattle.iop_thread.specs.declared.wait.Wait.TheVariants.{Delay, Semaphore, EventFlag, Mailbox}
 use Rattle.iop_kernel.specs.Laws.{KeepsObjects}
 use Rattle.iop_kernel.specs.System.{Kernel}
 use Rattle.iop_kernel.specs.Waits.{leaves_object, requeues_at}
 use Rattle.iop_kernel.proofs.ObjectsKept.{same_objects, drops_keep, requeues_keep}
 
--- the objects of each kind that is to be spared are left as they were
-pub record ObjectsStay (semas flags boxes : Bool) (k l : Kernel) : Type 0 where
-  pub semaphores : semas ≡ true → KeepsObjects k.semaphores l.semaphores
-  pub event_flags : flags ≡ true → KeepsObjects k.event_flags l.event_flags
-  pub mailboxes : boxes ≡ true → KeepsObjects k.mailboxes l.mailboxes
+-- which parts of the kernel are to be spared
+pub record Parts : Type 0 where
+  pub semaphores : Bool
+  pub event_flags : Bool
+  pub mailboxes : Bool
+  pub timers : Bool
+  pub irqs : Bool
 
--- those of all kinds are
+-- all of them
+abbrev pub all_parts : Parts
+all_parts = record {
+  semaphores = true;
+  event_flags = true;
+  mailboxes = true;
+  timers = true;
+  irqs = true;
+}
+
+-- all but the semaphores, the event flags, the mailboxes, the alarms and delays, or the lines
+abbrev pub but_semaphores : Parts
+but_semaphores = record all_parts { semaphores = false }
+
+abbrev pub but_event_flags : Parts
+but_event_flags = record all_parts { event_flags = false }
+
+abbrev pub but_mailboxes : Parts
+but_mailboxes = record all_parts { mailboxes = false }
+
+abbrev pub but_timers : Parts
+but_timers = record all_parts { timers = false }
+
+abbrev pub but_irqs : Parts
+but_irqs = record all_parts { irqs = false }
+
+-- each part that is to be spared is left as it was, and no handler begins or ends
+pub record PartsStay (spared : Parts) (k l : Kernel) : Type 0 where
+  pub semaphores : spared.semaphores ≡ true → KeepsObjects k.semaphores l.semaphores
+  pub event_flags : spared.event_flags ≡ true → KeepsObjects k.event_flags l.event_flags
+  pub mailboxes : spared.mailboxes ≡ true → KeepsObjects k.mailboxes l.mailboxes
+  pub timers : spared.timers ≡ true → l.timers ≡ k.timers
+  pub irqs : spared.irqs ≡ true → l.irqs ≡ k.irqs
+  pub handler : l.handler ≡ k.handler
+
+-- all parts are
 abbrev pub AllStay : (k l : Kernel) → Type 0
-AllStay k l = ObjectsStay true true true k l
+AllStay k l = PartsStay all_parts k l
 
--- no object changes
-pub objects_stay : (semas flags boxes : Bool) (k l : Kernel) → l.semaphores ≡ k.semaphores
-    → l.event_flags ≡ k.event_flags → l.mailboxes ≡ k.mailboxes
-    → ObjectsStay semas flags boxes k l
-objects_stay semas flags boxes k l a b c = record {
-  semaphores = λ is. subst (KeepsObjects k.semaphores) (sym a) (same_objects k.semaphores);
-  event_flags = λ is. subst (KeepsObjects k.event_flags) (sym b) (same_objects k.event_flags);
-  mailboxes = λ is. subst (KeepsObjects k.mailboxes) (sym c) (same_objects k.mailboxes);
+-- a kernel with those parts of another that are to be spared
+abbrev pub with_parts : Parts → (k l : Kernel) → Kernel
+with_parts spared k l = record l {
+  semaphores = if spared.semaphores then k.semaphores else l.semaphores;
+  event_flags = if spared.event_flags then k.event_flags else l.event_flags;
+  mailboxes = if spared.mailboxes then k.mailboxes else l.mailboxes;
+  timers = if spared.timers then k.timers else l.timers;
+  irqs = if spared.irqs then k.irqs else l.irqs;
+  handler = k.handler;
 }
 
--- or semaphores alone
-pub only_semaphores : (k l : Kernel) → l.event_flags ≡ k.event_flags → l.mailboxes ≡ k.mailboxes
-    → ObjectsStay false true true k l
-only_semaphores k l b c = record {
-  semaphores = λ is. absurd (cc is);
-  event_flags = λ is. subst (KeepsObjects k.event_flags) (sym b) (same_objects k.event_flags);
-  mailboxes = λ is. subst (KeepsObjects k.mailboxes) (sym c) (same_objects k.mailboxes);
+-- one of two, where it is the first if that is to be taken
+first_of_two : {A : Type 0} (b : Bool) (x y : A) → y ≡ (if b then x else y) → b ≡ true → y ≡ x
+first_of_two true x y e is = e
+first_of_two false x y e is = absurd (cc is)
+
+-- a kernel that has them is left so
+pub parts_stay : (spared : Parts) (k l : Kernel) → l ≡ with_parts spared k l
+    → PartsStay spared k l
+parts_stay spared k l e = record {
+  semaphores = λ is.
+      let same = first_of_two spared.semaphores k.semaphores l.semaphores
+      (ap (λ (m : Kernel). m.semaphores) e) is in
+      subst (KeepsObjects k.semaphores) (sym same) (same_objects k.semaphores);
+  event_flags = λ is.
+      let same = first_of_two spared.event_flags k.event_flags l.event_flags
+      (ap (λ (m : Kernel). m.event_flags) e) is in
+      subst (KeepsObjects k.event_flags) (sym same) (same_objects k.event_flags);
+  mailboxes = λ is.
+      let same = first_of_two spared.mailboxes k.mailboxes l.mailboxes
+      (ap (λ (m : Kernel). m.mailboxes) e) is in
+      subst (KeepsObjects k.mailboxes) (sym same) (same_objects k.mailboxes);
+  timers = first_of_two spared.timers k.timers l.timers (ap (λ (m : Kernel). m.timers) e);
+  irqs = first_of_two spared.irqs k.irqs l.irqs (ap (λ (m : Kernel). m.irqs) e);
+  handler = ap (λ (m : Kernel). m.handler) e;
 }
 
--- or event flags alone
-pub only_event_flags : (k l : Kernel) → l.semaphores ≡ k.semaphores → l.mailboxes ≡ k.mailboxes
-    → ObjectsStay true false true k l
-only_event_flags k l a c = record {
-  semaphores = λ is. subst (KeepsObjects k.semaphores) (sym a) (same_objects k.semaphores);
-  event_flags = λ is. absurd (cc is);
-  mailboxes = λ is. subst (KeepsObjects k.mailboxes) (sym c) (same_objects k.mailboxes);
-}
+-- no part changes
+pub all_stay : (k l : Kernel) → l ≡ with_parts all_parts k l → AllStay k l
+all_stay = parts_stay all_parts
 
--- or mailboxes alone
-pub only_mailboxes : (k l : Kernel) → l.semaphores ≡ k.semaphores → l.event_flags ≡ k.event_flags
-    → ObjectsStay true true false k l
-only_mailboxes k l a b = record {
-  semaphores = λ is. subst (KeepsObjects k.semaphores) (sym a) (same_objects k.semaphores);
-  event_flags = λ is. subst (KeepsObjects k.event_flags) (sym b) (same_objects k.event_flags);
-  mailboxes = λ is. absurd (cc is);
-}
-
--- a thread no longer waits
+-- a thread no longer waits; its delay may go
 pub leaving_stays : (k : Kernel) (thread : ℕ) (wait : Option Wait)
-    → AllStay k (leaves_object k thread wait)
+    → PartsStay but_timers k (leaves_object k thread wait)
+leaving_stays k thread (Some Delay) = parts_stay but_timers k _ refl
 leaving_stays k thread (Some (Semaphore id)) = record {
   semaphores = λ is. drops_keep k.semaphores id thread;
   event_flags = λ is. same_objects k.event_flags;
   mailboxes = λ is. same_objects k.mailboxes;
+  timers = λ is. refl;
+  irqs = λ is. refl;
+  handler = refl;
 }
 leaving_stays k thread (Some (EventFlag id)) = record {
   semaphores = λ is. same_objects k.semaphores;
   event_flags = λ is. drops_keep k.event_flags id thread;
   mailboxes = λ is. same_objects k.mailboxes;
+  timers = λ is. refl;
+  irqs = λ is. refl;
+  handler = refl;
 }
 leaving_stays k thread (Some (Mailbox id)) = record {
   semaphores = λ is. same_objects k.semaphores;
   event_flags = λ is. same_objects k.event_flags;
   mailboxes = λ is. drops_keep k.mailboxes id thread;
+  timers = λ is. refl;
+  irqs = λ is. refl;
+  handler = refl;
 }
-leaving_stays k thread other = objects_stay true true true k k refl refl refl
+leaving_stays k thread other = parts_stay but_timers k k refl
 
 -- or has another priority
 pub requeueing_stays : (k : Kernel) (thread priority : ℕ) (wait : Option Wait)
@@ -91,11 +142,17 @@ requeueing_stays k thread priority (Some (Semaphore id)) = record {
       requeues_keep k.semaphores id by_priority thread priority;
   event_flags = λ is. same_objects k.event_flags;
   mailboxes = λ is. same_objects k.mailboxes;
+  timers = λ is. refl;
+  irqs = λ is. refl;
+  handler = refl;
 }
 requeueing_stays k thread priority (Some (EventFlag id)) = record {
   semaphores = λ is. same_objects k.semaphores;
   event_flags = λ is. requeues_keep k.event_flags id false thread priority;
   mailboxes = λ is. same_objects k.mailboxes;
+  timers = λ is. refl;
+  irqs = λ is. refl;
+  handler = refl;
 }
 requeueing_stays k thread priority (Some (Mailbox id)) = record {
   semaphores = λ is. same_objects k.semaphores;
@@ -103,16 +160,25 @@ requeueing_stays k thread priority (Some (Mailbox id)) = record {
   mailboxes = λ is.
       let by_priority = mailboxes.is_by_priority k.mailboxes id in
       requeues_keep k.mailboxes id by_priority thread priority;
+  timers = λ is. refl;
+  irqs = λ is. refl;
+  handler = refl;
 }
-requeueing_stays k thread priority other = objects_stay true true true k k refl refl refl
+requeueing_stays k thread priority other = all_stay k k refl
 
--- so from a kernel with the same objects
-pub from_same : (k l m : Kernel) → l.semaphores ≡ k.semaphores → l.event_flags ≡ k.event_flags
-    → l.mailboxes ≡ k.mailboxes → AllStay l m → AllStay k m
-from_same k l m a b c h = record {
-  semaphores = λ is. subst (λ (s : Semaphores). KeepsObjects s m.semaphores) a (h.semaphores is);
-  event_flags = λ is. subst (λ (s : EventFlags). KeepsObjects s m.event_flags) b (h.event_flags is);
-  mailboxes = λ is. subst (λ (s : Mailboxes). KeepsObjects s m.mailboxes) c (h.mailboxes is);
+-- so from a kernel with the same parts
+pub from_same : (spared : Parts) (k l m : Kernel) → k ≡ with_parts all_parts l k
+    → PartsStay spared l m → PartsStay spared k m
+from_same spared k l m e h = record {
+  semaphores = λ is. subst (λ (s : Semaphores). KeepsObjects s m.semaphores)
+      (sym (ap (λ (x : Kernel). x.semaphores) e)) (h.semaphores is);
+  event_flags = λ is. subst (λ (s : EventFlags). KeepsObjects s m.event_flags)
+      (sym (ap (λ (x : Kernel). x.event_flags) e)) (h.event_flags is);
+  mailboxes = λ is. subst (λ (s : Mailboxes). KeepsObjects s m.mailboxes)
+      (sym (ap (λ (x : Kernel). x.mailboxes) e)) (h.mailboxes is);
+  timers = λ is. h.timers is ∙ sym (ap (λ (x : Kernel). x.timers) e);
+  irqs = λ is. h.irqs is ∙ sym (ap (λ (x : Kernel). x.irqs) e);
+  handler = h.handler ∙ sym (ap (λ (x : Kernel). x.handler) e);
 }
 
 -- whether a service is to spare the semaphores
@@ -143,7 +209,33 @@ spares_mailboxes service.ReceiveMbx = false
 spares_mailboxes service.PollMbx = false
 spares_mailboxes other = true
 
+-- the alarms and delays: a wait that ends may be a delay
+unfoldable pub spares_timers : Service → Bool
+spares_timers service.TerminateThread = false
+spares_timers service.ReleaseWaitThread = false
+spares_timers service.DelayThread = false
+spares_timers service.SetAlarm = false
+spares_timers service.CancelAlarm = false
+spares_timers other = true
+
+-- the interrupt lines
+unfoldable pub spares_irqs : Service → Bool
+spares_irqs service.RegisterIntrHandler = false
+spares_irqs service.ReleaseIntrHandler = false
+spares_irqs service.EnableIntr = false
+spares_irqs service.DisableIntr = false
+spares_irqs other = true
+
+-- what a service is to spare
+abbrev pub spared_by : Service → Parts
+spared_by x = record {
+  semaphores = spares_semaphores x;
+  event_flags = spares_event_flags x;
+  mailboxes = spares_mailboxes x;
+  timers = spares_timers x;
+  irqs = spares_irqs x;
+}
+
 -- what a service of all of them leaves
 abbrev pub ServiceStays : Service → (k l : Kernel) → Type 0
-ServiceStays x k l =
-    ObjectsStay (spares_semaphores x) (spares_event_flags x) (spares_mailboxes x) k l
+ServiceStays x k l = PartsStay (spared_by x) k l

@@ -8,6 +8,12 @@ use Rattle.iop_kernel.specs.System.{System}
 
 -- a service that does not look at memory
 pub record LooksAway (x : Service) : Type 0 where
+  pub disable_intr : x ≡ service.DisableIntr → ⊥
+  pub cpu_suspend_intr : x ≡ service.CpuSuspendIntr → ⊥
+  pub get_system_time : x ≡ service.GetSystemTime → ⊥
+  pub set_alarm : x ≡ service.SetAlarm → ⊥
+  pub usec_to_clock : x ≡ service.USec2SysClock → ⊥
+  pub clock_to_usec : x ≡ service.SysClock2USec → ⊥
   pub create_sema : x ≡ service.CreateSema → ⊥
   pub refer_sema_status : x ≡ service.ReferSemaStatus → ⊥
   pub create_event_flag : x ≡ service.CreateEventFlag → ⊥
@@ -25,6 +31,12 @@ pub record LooksAway (x : Service) : Type 0 where
 pub board_other : (b : Board) (x : Service) → LooksAway x
     → serves_board b x ≡ quiet b.memory (serves_core b.core x)
 unfolding serves_board
+board_other b service.DisableIntr other = absurd (other.disable_intr refl)
+board_other b service.CpuSuspendIntr other = absurd (other.cpu_suspend_intr refl)
+board_other b service.GetSystemTime other = absurd (other.get_system_time refl)
+board_other b service.SetAlarm other = absurd (other.set_alarm refl)
+board_other b service.USec2SysClock other = absurd (other.usec_to_clock refl)
+board_other b service.SysClock2USec other = absurd (other.clock_to_usec refl)
 board_other b service.CreateSema other = absurd (other.create_sema refl)
 board_other b service.ReferSemaStatus other = absurd (other.refer_sema_status refl)
 board_other b service.CreateEventFlag other = absurd (other.create_event_flag refl)

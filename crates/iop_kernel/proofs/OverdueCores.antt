@@ -14,16 +14,20 @@ use Rattle.iop_thread.specs.ThreadTable.{ThreadTable, thread_of, priority_of, ha
 use Rattle.iop_thread.specs.declared.thread.Thread.{Thread}
 use Rattle.iop_thread.specs.declared.thread.TheConstants.{LOADER}
 use Rattle.iop_thread.specs.declared.wait.Wait.{Wait}
-use Rattle.iop_thread.specs.declared.wait.Wait.TheVariants.{Sleep}
+use Rattle.iop_thread.specs.declared.wait.Wait.TheVariants.{Sleep, Delay}
+use Rattle.iop_time.specs.ClockTime.{ticks_of, moment_after}
+use Rattle.iop_time.specs.Timers.{delays}
+use Rattle.iop_kernel.specs.Interrupts.{disable_interrupts}
 use Rattle.iop_kernel.specs.Naming.{named, is_nobody_else}
 use Rattle.iop_kernel.specs.Ordering.{set_dispatch, answers_change, changes_named, changes_if_priority, rotates_to, rotates_own, rotates_by}
 use Rattle.iop_kernel.specs.Overdue.{NoneOverdue}
 use Rattle.iop_kernel.specs.Running.{ended, start_thread, exits_by, returns_by, terminates_by, terminate_thread}
 use Rattle.iop_kernel.specs.Serving.{serves_core}
-use Rattle.iop_kernel.specs.System.{Core, argument, caller, opened, answered, with_threads, may_switch, code_word}
+use Rattle.iop_kernel.specs.System.{Core, argument, caller, running_registers, opened, answered, with_threads, with_timers, may_switch, code_word}
+use Rattle.iop_kernel.specs.Timing.{waits_until, delay_thread}
 use Rattle.iop_kernel.specs.Waiting.{releases_from, releases_it, release_wait, sleeps_by, sleep_thread, wakeup_thread, cancels_of, suspend_thread, resume_thread}
 use Rattle.iop_kernel.specs.Waits.{core_leaves}
-use Rattle.iop_kernel.proofs.OverdueKernels.{InTimeLeft, sleepers, with_other_threads, opened_in_time, leaves_in_time, requeues_in_time}
+use Rattle.iop_kernel.proofs.OverdueKernels.{InTimeLeft, sleepers, with_other_threads, blocked_in_time, beside_in_time, opened_in_time, leaves_in_time, requeues_in_time}
 use Rattle.iop_kernel.proofs.OverdueSemaphores.{delete_sema_in_time, signal_sema_in_time, wait_sema_in_time, poll_sema_in_time}
 use Rattle.iop_kernel.proofs.OverdueEventFlags.{delete_flag_in_time, clear_flag_in_time}
 use Rattle.iop_kernel.proofs.OverdueMailboxes.{delete_mbx_in_time}
@@ -92,14 +96,7 @@ module _ (c : Core) (h : NoneOverdue c.kernel) where
   set_in_time : (enabled : Bool) → InTimeLeft (set_dispatch c enabled)
   set_in_time enabled =
       cond_both c.kernel.interrupts _ _ InTimeLeft
-      (λ on. record {
-        semaphores = h.semaphores;
-        event_flags = h.event_flags;
-        mailboxes = h.mailboxes;
-        sleepers = h.sleepers;
-        asks = h.asks;
-      })
-      (λ off. h)
+      (λ on. beside_in_time c.kernel h _ _ _ _ _ _) (λ off. h)
 
   -- a priority changes
   answers_change_in_time : (id priority : ℕ) (r : Result (Option Wait) Code × ThreadTable)
@@ -123,9 +120,10 @@ module _ (c : Core) (h : NoneOverdue c.kernel) where
   -- the threads of a priority are rotated
   rotated_in_time : (priority : ℕ)
       → NoneOverdue (with_threads (answered c 0)
-      (threads.rotates c.kernel.threads priority (answered c 0).cpu)).kernel
+      (threads.rotates c.kernel.threads priority (running_registers (answered c 0)))).kernel
   rotated_in_time priority =
-      threads_in_time _ ((sleepers c.kernel h).rotates priority (answered c 0).cpu tt)
+      threads_in_time _
+      ((sleepers c.kernel h).rotates priority (running_registers (answered c 0)) tt)
 
   -- by whether the running thread has the priority
   rotates_in_time : (priority : ℕ) → InTimeLeft (rotates_to c priority)
@@ -170,7 +168,8 @@ module _ (c : Core) (h : NoneOverdue c.kernel) where
       → InTimeLeft (sleeps_by c r)
   sleeps_in_time (true, t) so none = threads_in_time t so
   sleeps_in_time (false, t) so none =
-      threads_in_time _ ((sleepers c.kernel h).blocks Sleep c.cpu tt (λ asleep. none refl))
+      threads_in_time _
+      ((sleepers c.kernel h).blocks Sleep (running_registers c) tt (λ asleep. none refl))
 
   -- where another thread may run
   sleep_in_time : InTimeLeft (sleep_thread c)
@@ -198,7 +197,8 @@ module _ (c : Core) (h : NoneOverdue c.kernel) where
       cond_both (is_nobody_else c id) _ _ InTimeLeft (λ refused. h)
       (λ other.
       cond_both (is_it c.kernel.threads.running id && not c.kernel.dispatching) _ _ InTimeLeft
-      (λ refused. h) (λ may. threads_in_time _ ((sleepers c.kernel h).suspends id c.cpu tt)))
+      (λ refused. h)
+      (λ may. threads_in_time _ ((sleepers c.kernel h).suspends id (running_registers c) tt)))
 
   -- it is resumed
   resume_in_time : (id : ℕ) → InTimeLeft (resume_thread c id)
@@ -206,9 +206,39 @@ module _ (c : Core) (h : NoneOverdue c.kernel) where
       cond_both (is_nobody_else c id) _ _ InTimeLeft (λ refused. h)
       (λ other. threads_in_time _ ((sleepers c.kernel h).resumes id))
 
+  -- interrupts are turned off, if they are on
+  disables_in_time : InTimeLeft (disable_interrupts c)
+  disables_in_time =
+      cond_both c.kernel.interrupts _ _ InTimeLeft (λ on. beside_in_time c.kernel h _ _ _ _ _ _)
+      (λ off. h)
+
+  -- the thread that calls waits until a moment
+  waits_until_in_time : (moment : ℕ) (who : Option ℕ) → InTimeLeft (waits_until c moment who)
+  waits_until_in_time moment None = h
+  waits_until_in_time moment (Some thread) =
+      let delayed = with_timers c (delays c.kernel.timers moment thread) in
+      blocked_in_time delayed.kernel (beside_in_time c.kernel h _ _ _ _ _ _) Delay
+      (running_registers c) (λ asleep. cc asleep)
+
+  -- where another thread may run
+  delay_in_time : (us : ℕ) → InTimeLeft (delay_thread c us)
+  delay_in_time us =
+      cond_both (may_switch c.kernel) _ _ InTimeLeft
+      (λ may. waits_until_in_time (moment_after c.kernel.clock (ticks_of us)) (caller c))
+      (λ cannot. h)
+
   -- a service that looks at the kernel alone
   pub serves_core_in_time : (x : Service) → InTimeLeft (serves_core c x)
   unfolding serves_core
+  serves_core_in_time service.RegisterIntrHandler = beside_in_time c.kernel h _ _ _ _ _ _
+  serves_core_in_time service.ReleaseIntrHandler = beside_in_time c.kernel h _ _ _ _ _ _
+  serves_core_in_time service.EnableIntr = beside_in_time c.kernel h _ _ _ _ _ _
+  serves_core_in_time service.CpuDisableIntr = disables_in_time
+  serves_core_in_time service.CpuEnableIntr = beside_in_time c.kernel h _ _ _ _ _ _
+  serves_core_in_time service.CpuResumeIntr = beside_in_time c.kernel h _ _ _ _ _ _
+  serves_core_in_time service.QueryIntrContext = h
+  serves_core_in_time service.DelayThread = delay_in_time (argument c 0)
+  serves_core_in_time service.CancelAlarm = beside_in_time c.kernel h _ _ _ _ _ _
   serves_core_in_time service.StartThread = start_in_time (argument c 0) (argument c 1)
   serves_core_in_time service.ExitThread = exits_in_time (caller c)
   serves_core_in_time service.TerminateThread = terminate_in_time (argument c 0)

@@ -12,8 +12,8 @@ use Rattle.iop_thread.specs.Operations as threads
 use Rattle.iop_thread.proofs.Sleepers.{operations_keep_sleepers}
 use Rattle.iop_kernel.specs.Dispatching.{Dispatched, dispatched, dispatches}
 use Rattle.iop_kernel.specs.Overdue.{NoneOverdue}
-use Rattle.iop_kernel.specs.System.{Kernel, Core, beginning, may_switch}
-use Rattle.iop_kernel.proofs.OverdueKernels.{sleepers, with_other_threads}
+use Rattle.iop_kernel.specs.System.{Kernel, Core, beginning, may_dispatch}
+use Rattle.iop_kernel.proofs.OverdueKernels.{sleepers, with_other_threads, beside_in_time}
 
 -- at first there is no object, and the loader's thread does not wait
 pub opening_overdue : NoneOverdue beginning
@@ -47,7 +47,7 @@ dispatched_by c d h false made = cc
 pub dispatches_overdue : (c : Core) (d : Dispatched) → NoneOverdue c.kernel
     → dispatches c ≡ Some d → NoneOverdue d.core.kernel
 unfolding dispatches
-dispatches_overdue c d h made = dispatched_by c d h (may_switch c.kernel) made
+dispatches_overdue c d h made = dispatched_by c d h (may_dispatch c.kernel) made
 
 -- the loader's thread becomes ready
 pub begins_overdue : (k : Kernel) (registers : Cpu) → NoneOverdue k
@@ -62,10 +62,4 @@ ends_running_overdue k h = with_other_threads k h _ (sleepers k h).ends_running
 -- the moment is another
 pub clock_overdue : (k : Kernel) (moment : ℕ) → NoneOverdue k
     → NoneOverdue (record k { clock = moment })
-clock_overdue k moment h = record {
-  semaphores = h.semaphores;
-  event_flags = h.event_flags;
-  mailboxes = h.mailboxes;
-  sleepers = h.sleepers;
-  asks = h.asks;
-}
+clock_overdue k moment h = beside_in_time k h _ _ _ _ _ _

@@ -23,7 +23,7 @@ use Rattle.iop_thread.specs.declared.wait.Wait.TheVariants.{EventFlag}
 use Rattle.iop_kernel.specs.Boards.{Board, word_in, optional_place}
 use Rattle.iop_kernel.specs.EventFlags.{LiveFlag, creates_flag_at, create_event_flag, deletes_flag, delete_event_flag, clear_event_flag, leaves_flags, waits_for_bits, meets_one, meets_all, sets_flag, set_event_flag, polls_by, tests_or_waits, waits_flag_at, wait_event_flag, polls_flag_at, poll_event_flag, refers_flag_to, refers_flag_at, refer_event_flag_status}
 use Rattle.iop_kernel.specs.Overdue.{NoneOverdue}
-use Rattle.iop_kernel.specs.System.{Kernel, Core, caller, may_switch, code_word, words_place, with_event_flags}
+use Rattle.iop_kernel.specs.System.{Kernel, Core, caller, running_registers, may_switch, code_word, words_place, with_event_flags}
 use Rattle.iop_kernel.specs.Waits.{threads_of}
 use Rattle.iop_kernel.specs.declared.event_flags.TheConstants.{FLAG_WORDS, FLAG_STATUS_WORDS}
 use Rattle.iop_kernel.proofs.OverdueConditions.{IsUnmet, unmet_cleared, none_overdue_after, is_settled}
@@ -114,8 +114,8 @@ module _ (c : Core) (h : NoneOverdue c.kernel) where
       let left = objects.waits k.event_flags id w in
       let awaited = with_other_flags k h left
       (flags_wait k.event_flags all id w x known some unmet) in
-      blocked_in_time (with_event_flags c left).kernel awaited (EventFlag id) c.cpu
-      (λ asleep. cc asleep)
+      blocked_in_time (with_event_flags c left).kernel awaited (EventFlag id)
+      (running_registers c) (λ asleep. cc asleep)
 
 -- those that are met are woken, whatever is written to memory
 meets_in_time : (b : Board) → NoneOverdue b.core.kernel → (met : List Met)

@@ -1,7 +1,8 @@
 -- No wait is overdue when other threads or objects stand in the kernel.
-use Rattle.std.proofs.Common.{◌≡◌, ℕ, true, Option, Some, List, [], ◌∷◌}
+use Rattle.std.proofs.Common.{◌≡◌, ℕ, Bool, true, Option, Some, List, [], ◌∷◌}
 use Rattle.iop_exec.specs.declared.cpu.Cpu.{Cpu}
 use Rattle.iop_event.specs.EventFlags.{EventFlags}
+use Rattle.iop_intr.specs.InterruptLines.{IrqLine}
 use Rattle.iop_mbx.specs.Mailboxes as mailboxes
 use Rattle.iop_mbx.specs.Mailboxes.{Mailboxes, Mailbox}
 use Rattle.iop_sema.specs.Semaphores as semaphores
@@ -13,9 +14,11 @@ use Rattle.iop_thread.specs.ThreadTable.{ThreadTable}
 use Rattle.iop_thread.specs.declared.wait.Wait.{Wait}
 use Rattle.iop_thread.specs.declared.wait.Wait.TheVariants as waits
 use Rattle.iop_thread.proofs.Sleepers.{keeps_sleepers}
+use Rattle.iop_time.specs.Timers.{Timers}
 use Rattle.iop_kernel.specs.Boards.{Board}
 use Rattle.iop_kernel.specs.Overdue.{NoneOverdue, CountIsZero, HasNoMessage}
 use Rattle.iop_kernel.specs.System.{Kernel, Core, Left, Done}
+use Rattle.iop_kernel.specs.declared.active_handler.ActiveHandler.{ActiveHandler}
 use Rattle.iop_kernel.specs.Waits.{wakes_all, leaves_object, requeues_at}
 use Rattle.iop_kernel.proofs.OverdueFlags.{InTime, flags_drop, flags_requeue}
 use Rattle.iop_kernel.proofs.OverdueIdle.{idle_drops, idle_requeues}
@@ -107,9 +110,18 @@ module _ (k : Kernel) (h : NoneOverdue k) where
     asks = h.asks;
   }
 
-  -- interrupts are on and dispatch is enabled
-  pub opened_in_time : NoneOverdue (record k { interrupts = true; dispatching = true })
-  opened_in_time = record {
+  -- no object and no thread changes
+  pub beside_in_time : (clock : ℕ) (interrupts dispatching : Bool)
+      (handler : Option ActiveHandler) (timers : Timers) (irqs : List IrqLine)
+      → NoneOverdue (record k {
+        clock = clock;
+        interrupts = interrupts;
+        dispatching = dispatching;
+        handler = handler;
+        timers = timers;
+        irqs = irqs;
+      })
+  beside_in_time clock interrupts dispatching handler timers irqs = record {
     semaphores = h.semaphores;
     event_flags = h.event_flags;
     mailboxes = h.mailboxes;
@@ -117,8 +129,13 @@ module _ (k : Kernel) (h : NoneOverdue k) where
     asks = h.asks;
   }
 
-  -- a thread is no longer among those that wait for the object of its wait
+  -- interrupts are on and dispatch is enabled
+  pub opened_in_time : NoneOverdue (record k { interrupts = true; dispatching = true })
+  opened_in_time = beside_in_time _ _ _ _ _ _
+
+  -- a thread is no longer among those that wait for the object of its wait, or for a time
   pub leaves_in_time : (thread : ℕ) (wait : Option Wait) → NoneOverdue (leaves_object k thread wait)
+  leaves_in_time thread (Some waits.Delay) = beside_in_time _ _ _ _ _ _
   leaves_in_time thread (Some (waits.Semaphore id)) =
       with_other_semaphores _ (idle_drops IsZero k.semaphores h.semaphores id thread)
   leaves_in_time thread (Some (waits.EventFlag id)) =

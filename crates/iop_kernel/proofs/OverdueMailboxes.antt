@@ -16,7 +16,7 @@ use Rattle.iop_thread.specs.declared.wait.Wait.TheVariants.{Mailbox}
 use Rattle.iop_kernel.specs.Boards.{Board, word_in}
 use Rattle.iop_kernel.specs.Mailboxes.{LiveMailbox, creates_mbx_at, create_mbx, deletes_mbx, delete_mbx, message_priority, waits_for_message, queues_by, queues_message, sends_by, send_mbx, receives_by, receives_or_waits, waits_mbx_at, receive_mbx, polls_mbx_at, poll_mbx, refers_mbx_to, refers_mbx_at, refer_mbx_status}
 use Rattle.iop_kernel.specs.Overdue.{NoneOverdue, HasNoMessage}
-use Rattle.iop_kernel.specs.System.{Kernel, Core, caller, may_switch, code_word, words_place, with_mailboxes}
+use Rattle.iop_kernel.specs.System.{Kernel, Core, caller, running_registers, may_switch, code_word, words_place, with_mailboxes}
 use Rattle.iop_kernel.specs.Waits.{threads_of}
 use Rattle.iop_kernel.specs.declared.mailboxes.TheConstants.{MAILBOX_WORDS, MAILBOX_STATUS_WORDS}
 use Rattle.iop_kernel.proofs.OverdueIdle.{none_chosen, all_chosen, idle_chosen, idle_waits, idle_changes, idle_takes, idle_creates, idle_deletes}
@@ -100,8 +100,8 @@ module _ (c : Core) (h : NoneOverdue c.kernel) where
       let left = objects.waits k.mailboxes id w in
       let awaited = with_other_mailboxes k h left
       (idle_waits IsClear k.mailboxes h.mailboxes id w x known clear) in
-      blocked_in_time (with_mailboxes c left).kernel awaited (Mailbox id) c.cpu
-      (λ asleep. cc asleep)
+      blocked_in_time (with_mailboxes c left).kernel awaited (Mailbox id)
+      (running_registers c) (λ asleep. cc asleep)
 
   -- a message is received
   received : (id : ℕ) (x : StateOfMailbox) → state_of k.mailboxes id ≡ Some x → (one : Choice ℕ)

@@ -19,7 +19,7 @@ use Rattle.iop_thread.specs.declared.wait.Wait.TheVariants.{Semaphore}
 use Rattle.iop_kernel.specs.Boards.{Board, word_in}
 use Rattle.iop_kernel.specs.Overdue.{NoneOverdue, CountIsZero}
 use Rattle.iop_kernel.specs.Semaphores.{LiveSemaphore, creates_sema_at, create_sema, deletes_sema, delete_sema, signals_by, signal_sema, waits_for_sema, takes_or_waits, wait_sema, poll_sema, leaves_semaphores, refers_sema_to, refers_sema_at, refer_sema_status}
-use Rattle.iop_kernel.specs.System.{Kernel, Core, caller, may_switch, code_word, with_semaphores, words_place}
+use Rattle.iop_kernel.specs.System.{Kernel, Core, caller, running_registers, may_switch, code_word, with_semaphores, words_place}
 use Rattle.iop_kernel.specs.Waits.{threads_of}
 use Rattle.iop_kernel.specs.declared.semaphores.TheConstants.{SEMAPHORE_WORDS, SEMAPHORE_STATUS_WORDS}
 use Rattle.iop_kernel.proofs.OverdueIdle.{all_chosen, idle_chosen, idle_waits, idle_changes, idle_takes, idle_creates, idle_deletes}
@@ -112,8 +112,8 @@ module _ (c : Core) (h : NoneOverdue c.kernel) where
       let left = objects.waits k.semaphores id w in
       let awaited = with_other_semaphores k h left
       (idle_waits IsZero k.semaphores h.semaphores id w x known zero) in
-      blocked_in_time (with_semaphores c left).kernel awaited (Semaphore id) c.cpu
-      (λ asleep. cc asleep)
+      blocked_in_time (with_semaphores c left).kernel awaited (Semaphore id)
+      (running_registers c) (λ asleep. cc asleep)
 
   -- one of the count is taken
   abbrev fewer : declared.Semaphore → declared.Semaphore

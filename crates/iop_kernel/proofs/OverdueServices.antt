@@ -1,9 +1,11 @@
 -- No wait is overdue, whatever is served.
-use Rattle.std.proofs.Common.{ℕ, ◌==◌, ◌||◌, false, Option, Some, None, Result, Ok, Err}
+use Rattle.std.proofs.Common.{ℕ, ◌==◌, ◌||◌, Option, Some, None, Result, Ok, Err, List}
 use Rattle.std.proofs.lemmas.Bool.{cond_both}
 use Rattle.iop_base.specs.BlockSizes.{block_len}
 use Rattle.iop_base.specs.declared.code.Code.{Code}
+use Rattle.iop_base.specs.declared.code.TheConstants.Code.{ILLEGAL_INTERRUPT}
 use Rattle.iop_exec.specs.Row.{reg}
+use Rattle.iop_intr.specs.InterruptLines.{IrqLine, disabling}
 use Rattle.iop_libs.specs.Calls.{Sight, calls_row}
 use Rattle.iop_libs.specs.declared.answer.Answer.{Answer}
 use Rattle.iop_libs.specs.declared.answer.Answer.TheVariants.{Value, Unlisted, Fault, Other}
@@ -18,22 +20,28 @@ use Rattle.iop_thread.specs.ThreadTable.{ThreadTable, thread_of, has_room}
 use Rattle.iop_thread.specs.declared.param.Param.{Param}
 use Rattle.iop_thread.specs.declared.thread.Thread.{Thread}
 use Rattle.iop_thread.specs.declared.thread.TheConstants.{LOADER}
-use Rattle.iop_kernel.specs.Boards.{Board, board_of}
+use Rattle.iop_time.specs.ClockTime.{ticks_of}
+use Rattle.iop_kernel.specs.Boards.{Board, board_of, optional_place}
 use Rattle.iop_kernel.specs.Creating.{creates_on, creates_at, creates_with, creates_from}
 use Rattle.iop_kernel.specs.Deleting.{Owner, owner_of, deletes_by, delete_thread, exits_deleted, exits_deleted_by}
+use Rattle.iop_kernel.specs.Interrupts.{disables_by, disables_at, suspends_at}
 use Rattle.iop_kernel.specs.Naming.{named}
 use Rattle.iop_kernel.specs.Overdue.{NoneOverdue}
 use Rattle.iop_kernel.specs.Running.{ended}
 use Rattle.iop_kernel.specs.Serving.{call_of, wanted, serves_board, serves, answers_by, calls_library, calls, services}
 use Rattle.iop_kernel.specs.Status.{refers_it, refers_to, refers_at}
-use Rattle.iop_kernel.specs.System.{Left, System, Served, argument, caller, words_place}
+use Rattle.iop_kernel.specs.System.{Left, System, Served, argument, caller, in_handler, words_place}
+use Rattle.iop_kernel.specs.Timing.{sets_alarm_at, writes_time, converts_at}
+use Rattle.iop_kernel.specs.Waits.{is_code}
 use Rattle.iop_kernel.specs.declared.call.Call.{Call}
-use Rattle.iop_kernel.specs.declared.call.Call.TheVariants.{Library, ThreadReturn, ModuleReturn}
+use Rattle.iop_kernel.specs.declared.call.Call.TheVariants.{Library, ThreadReturn, HandlerReturn, ModuleReturn}
 use Rattle.iop_kernel.specs.declared.creating.TheConstants.{PARAM_WORDS, FROM_ABOVE}
 use Rattle.iop_kernel.specs.declared.status.TheConstants.{STATUS_WORDS}
+use Rattle.iop_kernel.specs.declared.timing.TheConstants.{TIME_WORDS}
 use Rattle.iop_kernel.proofs.OverdueCores.{ended_in_time, exits_in_time, returns_in_time, serves_core_in_time}
+use Rattle.iop_kernel.proofs.OverdueDeliveries.{return_handler_in_time}
 use Rattle.iop_kernel.proofs.OverdueEventFlags.{create_flag_in_time, set_flag_in_time, wait_flag_in_time, poll_flag_in_time, refer_flag_in_time}
-use Rattle.iop_kernel.proofs.OverdueKernels.{InTimeDone, sleepers, with_other_threads, opened_in_time}
+use Rattle.iop_kernel.proofs.OverdueKernels.{InTimeDone, sleepers, with_other_threads, beside_in_time, opened_in_time}
 use Rattle.iop_kernel.proofs.OverdueMailboxes.{create_mbx_in_time, send_mbx_in_time, receive_mbx_in_time, poll_mbx_in_time, refer_mbx_in_time}
 use Rattle.iop_kernel.proofs.OverdueSemaphores.{create_sema_in_time, refer_sema_in_time}
 
@@ -74,10 +82,63 @@ module _ (o : Owner) (h : NoneOverdue o.core.kernel) where
       (λ other. exits_deleted_in_time (threads.deletes k.threads id)
       ((sleepers k (ended_in_time o.core h)).deletes id))
 
+module _ (b : Board) (h : NoneOverdue b.core.kernel) where
+  -- an alarm is set, by the place of the ticks
+  sets_alarm_in_time : (place : Option ℕ) (handler arg : ℕ)
+      → NoneOverdue (sets_alarm_at b.core b.memory place handler arg).state.kernel
+  sets_alarm_in_time None handler arg = h
+  sets_alarm_in_time (Some place) handler arg = beside_in_time b.core.kernel h _ _ _ _ _ _
+
+  -- the number of a line that is disabled is written
+  disables_by_in_time : (line : ℕ) (place : Option ℕ) (r : Code × List IrqLine)
+      → InTimeDone (disables_by b line place r)
+  disables_by_in_time line place (code, left) =
+      cond_both (is_code code ILLEGAL_INTERRUPT) _ _ InTimeDone (λ illegal. h)
+      (λ other. beside_in_time b.core.kernel h _ _ _ _ _ _)
+
+  -- by the place for the number
+  disables_line_in_time : (line : ℕ) (o : Option (Option ℕ)) → InTimeDone (disables_at b line o)
+  disables_line_in_time line None = h
+  disables_line_in_time line (Some place) =
+      disables_by_in_time line place (disabling b.core.kernel.irqs line)
+
+  -- interrupts are turned off, by the place for the word
+  suspends_in_time : (o : Option ℕ) → InTimeDone (suspends_at b o)
+  suspends_in_time None = h
+  suspends_in_time (Some place) = beside_in_time b.core.kernel h _ _ _ _ _ _
+
+  -- a time is written
+  writes_time_in_time : (ticks : ℕ) (o : Option ℕ) → InTimeDone (writes_time b ticks o)
+  writes_time_in_time ticks None = h
+  writes_time_in_time ticks (Some place) = h
+
+  -- the seconds of a time and its other microseconds are written
+  converts_in_time : (time seconds rest : Option ℕ) → InTimeDone (converts_at b time seconds rest)
+  converts_in_time None seconds rest = h
+  converts_in_time (Some time) None rest = h
+  converts_in_time (Some time) (Some seconds) None = h
+  converts_in_time (Some time) (Some seconds) (Some rest) = h
+
 -- a service that looks at the kernel and at memory
 board_in_time : (b : Board) → NoneOverdue b.core.kernel → (x : Service)
     → InTimeDone (serves_board b x)
 unfolding serves_board
+board_in_time b h service.DisableIntr =
+    disables_line_in_time b h (argument b.core 0) (optional_place b.memory (argument b.core 1))
+board_in_time b h service.CpuSuspendIntr =
+    suspends_in_time b h (words_place b.memory (argument b.core 0) 1)
+board_in_time b h service.GetSystemTime =
+    writes_time_in_time b h b.core.kernel.clock
+    (words_place b.memory (argument b.core 0) TIME_WORDS)
+board_in_time b h service.SetAlarm =
+    sets_alarm_in_time b h (words_place b.memory (argument b.core 0) TIME_WORDS)
+    (argument b.core 1) (argument b.core 2)
+board_in_time b h service.USec2SysClock =
+    writes_time_in_time b h (ticks_of (argument b.core 0))
+    (words_place b.memory (argument b.core 1) TIME_WORDS)
+board_in_time b h service.SysClock2USec =
+    converts_in_time b h (words_place b.memory (argument b.core 0) TIME_WORDS)
+    (words_place b.memory (argument b.core 1) 1) (words_place b.memory (argument b.core 2) 1)
 board_in_time b h service.CreateSema = create_sema_in_time b.core h b.memory (argument b.core 0)
 board_in_time b h service.ReferSemaStatus =
     refer_sema_in_time b h (argument b.core 0) (argument b.core 1)
@@ -169,7 +230,8 @@ library_in_time : (s : System) → NoneOverdue s.core.kernel → (library number
 unfolding calls_library
 library_in_time s h library number =
     let sight : Sight = record { memory = s.memory; cpu = s.core.cpu } in
-    let called = calls_row sight s.blocks s.libraries false (row_of library number) in
+    let inside = in_handler s.core.kernel in
+    let called = calls_row sight s.blocks s.libraries inside (row_of library number) in
     let between : System = record s { blocks = called.blocks; libraries = called.libraries } in
     answers_in_time between h library number called.answer
 
@@ -178,6 +240,7 @@ calls_in_time : (s : System) → NoneOverdue s.core.kernel → (o : Option Call)
     → InTimeServed (calls s o)
 calls_in_time s h None = h
 calls_in_time s h (Some ThreadReturn) = exits_in_time s.core h (caller s.core)
+calls_in_time s h (Some HandlerReturn) = return_handler_in_time s.core h
 calls_in_time s h (Some ModuleReturn) = returns_in_time s.core h (caller s.core)
 calls_in_time s h (Some (Library library number)) = library_in_time s h library number
 

@@ -10,7 +10,7 @@ use Rattle.iop_thread.specs.Operations as threads
 use Rattle.iop_thread.specs.Placing as threads_placing
 use Rattle.iop_thread.specs.States.{is_dormant, wait_in}
 use Rattle.iop_thread.specs.ThreadTable.{ThreadTable, thread_of, priority_of, has_priority, running_thread, is_it}
-use Rattle.iop_thread.specs.Waits.{wait_of}
+use Rattle.iop_thread.specs.Waits.{WaitBut, wait_of, running_but}
 use Rattle.iop_thread.specs.declared.thread.Thread.{Thread}
 use Rattle.iop_thread.specs.declared.thread.TheConstants.{LOADER}
 use Rattle.iop_thread.specs.declared.wait.Wait.{Wait}
@@ -21,14 +21,16 @@ use Rattle.iop_kernel.specs.Ordering.{set_dispatch, answers_change, changes_name
 use Rattle.iop_kernel.specs.Placing.{IsPlaced}
 use Rattle.iop_kernel.specs.Running.{start_thread, exits_by, returns_by, terminates_by, terminate_thread}
 use Rattle.iop_kernel.specs.Serving.{serves_core}
-use Rattle.iop_kernel.specs.System.{Core, argument, caller, opened, answered, with_threads, may_switch, code_word}
+use Rattle.iop_kernel.specs.System.{Core, argument, caller, running_registers, opened, answered, with_threads, may_switch, code_word}
 use Rattle.iop_kernel.specs.Waiting.{releases_from, releases_it, release_wait, sleeps_by, sleep_thread, wakeup_thread, cancels_of, suspend_thread, resume_thread}
 use Rattle.iop_kernel.specs.Waits.{core_leaves}
-use Rattle.iop_kernel.proofs.PlacingBasics.{Placed, PlacedThreads, stand, places, moves, open_placed, ended_places}
-use Rattle.iop_kernel.proofs.PlacingThreads.{AllAskAlike, AreForSame, sleep_for_none, same_after_wakeup, alike_on, alike_but, placed_requeues, placed_leaves, running_waits_not}
+use Rattle.iop_kernel.proofs.PlacingBasics.{Placed, PlacedThreads, stand, stand_on, places, moves, same_live, wait_on, beside_placed, open_placed, ended_places}
+use Rattle.iop_kernel.proofs.PlacingAlike.{AllAskAlike, AreForSame, sleep_for_none, same_after_wakeup, alike_on, alike_but}
+use Rattle.iop_kernel.proofs.PlacingThreads.{placed_requeues, placed_leaves, running_waits_not}
 use Rattle.iop_kernel.proofs.PlacingEventFlags.{clear_event_flag_places}
 use Rattle.iop_kernel.proofs.PlacingMailboxes.{delete_mbx_places}
 use Rattle.iop_kernel.proofs.PlacingMeetings.{delete_event_flag_places}
+use Rattle.iop_kernel.proofs.PlacingTiming.{disables_places, delay_thread_places, cancels_places}
 use Rattle.iop_kernel.proofs.PlacingSemaphores.{delete_sema_places, signal_sema_places, wait_sema_places, poll_sema_places}
 
 module _ (c : Core) (h : IsPlaced c.kernel) where
@@ -36,10 +38,8 @@ module _ (c : Core) (h : IsPlaced c.kernel) where
   start_places : (id argument : ℕ) → Placed (start_thread c id argument)
   start_places id argument =
       cond_both (id == 0 || id == LOADER) _ _ Placed (λ refused. h)
-      (λ other. stand c.kernel h _ (record {
-        placed = (places c.kernel h).starts id argument;
-        alike = alike_on ((moves c.kernel h).starts id argument).waits;
-      }))
+      (λ other. stand_on c.kernel h ((places c.kernel h).starts id argument)
+      ((moves c.kernel h).starts id argument))
 
   -- the thread that calls ends
   pub exits_place : (who : Option ℕ) → Placed (exits_by c who)
@@ -72,46 +72,43 @@ module _ (c : Core) (h : IsPlaced c.kernel) where
       there = rw found refl
 
   -- the thread that ended leaves the object of its wait
-  leaves_place : (id : ℕ) (left : ThreadTable) (wait : Option Wait) → threads_placing.IsPlaced left
-      → ((t : ℕ) → wait_of left t ≡ (if id == t then None else wait_of c.kernel.threads t))
+  leaves_place : (id : ℕ) (left : ThreadTable) (wait : Option Wait) (running : Option ℕ)
+      → threads_placing.IsPlaced left
+      → WaitBut c.kernel.threads left (Some id) None running
       → wait_of c.kernel.threads id ≡ wait
       → (b : Bool)
       → IsPlaced (core_leaves (with_threads (if b then opened c else c) left) id wait).kernel
-  leaves_place id left wait placed now was true =
-      placed_leaves (opened c).kernel left (open_placed c.kernel h) placed id now wait was
-  leaves_place id left wait placed now was false =
-      placed_leaves c.kernel left h placed id now wait was
+  leaves_place id left wait running placed now was true =
+      placed_leaves (opened c).kernel left (open_placed c.kernel h) placed id now.waits now.live
+      wait was
+  leaves_place id left wait running placed now was false =
+      placed_leaves c.kernel left h placed id now.waits now.live wait was
 
   -- by what the end of the thread came to
-  terminates_place : (id : ℕ) (r : Result (Option Wait) Code × ThreadTable)
+  terminates_place : (id : ℕ) (running : Option ℕ) (r : Result (Option Wait) Code × ThreadTable)
       → threads_placing.IsPlaced r.1
-      → ((t : ℕ) → wait_of r.1 t ≡ (if id == t then None else wait_of c.kernel.threads t))
+      → WaitBut c.kernel.threads r.1 (Some id) None running
       → ((wait : Option Wait) → r.0 ≡ Ok wait → wait_of c.kernel.threads id ≡ wait)
       → Placed (terminates_by c id r)
-  terminates_place id (Err code, t) placed now was = h
-  terminates_place id (Ok wait, t) placed now was =
-      leaves_place id t wait placed now (was wait refl) (is_it c.kernel.threads.running id)
+  terminates_place id running (Err code, t) placed now was = h
+  terminates_place id running (Ok wait, t) placed now was =
+      leaves_place id t wait running placed now (was wait refl)
+      (is_it c.kernel.threads.running id)
 
   -- a thread is ended
   terminate_places : (id : ℕ) → Placed (terminate_thread c id)
   terminate_places id =
       let s = c.kernel.threads in
       cond_both (is_nobody_else c id || id == LOADER) _ _ Placed (λ refused. h)
-      (λ other. terminates_place id (threads.terminates s id) ((places c.kernel h).terminates id)
-      ((moves c.kernel h).terminates id).waits
+      (λ other. terminates_place id (running_but s id) (threads.terminates s id)
+      ((places c.kernel h).terminates id) ((moves c.kernel h).terminates id)
       (λ wait did. told_by id wait (thread_of s.live id) refl did))
 
   -- dispatch is enabled or disabled
   set_places : (enabled : Bool) → Placed (set_dispatch c enabled)
   set_places enabled =
       cond_both c.kernel.interrupts _ _ Placed
-      (λ on. record {
-        threads = h.threads;
-        semaphores = h.semaphores;
-        event_flags = h.event_flags;
-        mailboxes = h.mailboxes;
-      })
-      (λ off. h)
+      (λ on. beside_placed _ _ _ _ _ h) (λ off. h)
 
   -- a priority changes
   answers_change_places : (id priority : ℕ) (r : Result (Option Wait) Code × ThreadTable)
@@ -124,10 +121,9 @@ module _ (c : Core) (h : IsPlaced c.kernel) where
   changes_named_places : (priority : ℕ) (o : Option ℕ) → Placed (changes_named c priority o)
   changes_named_places priority None = h
   changes_named_places priority (Some id) =
-      answers_change_places id priority (threads.changes c.kernel.threads id priority) (record {
-        placed = (places c.kernel h).changes id priority;
-        alike = alike_on ((moves c.kernel h).changes id priority).waits;
-      })
+      answers_change_places id priority (threads.changes c.kernel.threads id priority)
+      (wait_on c.kernel h ((places c.kernel h).changes id priority)
+      ((moves c.kernel h).changes id priority))
 
   -- by the priority that the word is
   change_places : (id : ℕ) (o : Option ℕ) → Placed (changes_if_priority c id o)
@@ -137,13 +133,11 @@ module _ (c : Core) (h : IsPlaced c.kernel) where
   -- the threads of a priority are rotated
   rotated_places : (priority : ℕ)
       → IsPlaced (with_threads (answered c 0)
-      (threads.rotates c.kernel.threads priority (answered c 0).cpu)).kernel
+      (threads.rotates c.kernel.threads priority (running_registers (answered c 0)))).kernel
   rotated_places priority =
-      let registers = (answered c 0).cpu in
-      stand c.kernel h _ (record {
-        placed = (places c.kernel h).rotates priority registers tt;
-        alike = alike_on ((moves c.kernel h).rotates priority registers).waits;
-      })
+      let registers = running_registers (answered c 0) in
+      stand_on c.kernel h ((places c.kernel h).rotates priority registers tt)
+      ((moves c.kernel h).rotates priority registers)
 
   -- by whether the running thread has the priority
   rotates_place : (priority : ℕ) → Placed (rotates_to c priority)
@@ -170,9 +164,9 @@ module _ (c : Core) (h : IsPlaced c.kernel) where
   releases_from_places id None was = h
   releases_from_places id (Some wait) was =
       let word = code_word WAIT_RELEASED in
-      let now = ((moves c.kernel h).wakes id word).waits in
+      let now = (moves c.kernel h).wakes id word in
       placed_leaves c.kernel (threads.wakes c.kernel.threads id word) h
-      ((places c.kernel h).wakes id word) id now (Some wait) was
+      ((places c.kernel h).wakes id word) id now.waits now.live (Some wait) was
 
   -- by the thread of the id
   releases_it_places : (id : ℕ) (o : Option Thread) → thread_of c.kernel.threads.live id ≡ o
@@ -202,40 +196,43 @@ module _ (c : Core) (h : IsPlaced c.kernel) where
   sleeps_place : (r : Bool × ThreadTable) → PlacedThreads c.kernel r.1 → Placed (sleeps_by c r)
   sleeps_place (true, t) go = stand c.kernel h t go
   sleeps_place (false, t) go =
-      let left = threads.blocks c.kernel.threads Sleep c.cpu in
+      let registers = running_registers c in
+      let left = threads.blocks c.kernel.threads Sleep registers in
+      let placed = (places c.kernel h).blocks Sleep registers tt tt in
+      let moved = (moves c.kernel h).blocks Sleep registers in
       stand c.kernel h left (record {
-        placed = (places c.kernel h).blocks Sleep c.cpu tt tt;
-        alike = asleep_alike c.kernel.threads.running refl left
-            ((moves c.kernel h).blocks Sleep c.cpu).waits;
+        placed = placed;
+        room = same_live c.kernel h placed moved.live;
+        alike = asleep_alike c.kernel.threads.running refl left moved.waits;
       })
 
   -- where another thread may run
   sleep_places : Placed (sleep_thread c)
   sleep_places =
       cond_both (may_switch c.kernel) _ _ Placed
-      (λ may. sleeps_place (threads.takes_wakeup c.kernel.threads) (record {
-        placed = (places c.kernel h).takes_wakeup;
-        alike = alike_on (moves c.kernel h).takes_wakeup.waits;
-      }))
+      (λ may. sleeps_place (threads.takes_wakeup c.kernel.threads)
+      (wait_on c.kernel h (places c.kernel h).takes_wakeup
+      (moves c.kernel h).takes_wakeup))
       (λ cannot. h)
 
   -- a thread is woken
   wakeup_places : (id : ℕ) → Placed (wakeup_thread c id)
   wakeup_places id =
       cond_both (is_nobody_else c id) _ _ Placed (λ refused. h)
-      (λ other. stand c.kernel h _ (record {
-        placed = (places c.kernel h).wakes_up id;
-        alike = alike_but id _ ((moves c.kernel h).wakes_up id).waits
-            (same_after_wakeup (wait_of c.kernel.threads id));
+      (λ other.
+      let placed = (places c.kernel h).wakes_up id in
+      let moved = (moves c.kernel h).wakes_up id in
+      stand c.kernel h _ (record {
+        placed = placed;
+        room = same_live c.kernel h placed moved.live;
+        alike = alike_but id _ moved.waits (same_after_wakeup (wait_of c.kernel.threads id));
       }))
 
   -- its wakeups are forgotten
   cancels_place : (o : Option ℕ) → Placed (cancels_of c o)
   cancels_place None = h
-  cancels_place (Some id) = stand c.kernel h _ (record {
-    placed = (places c.kernel h).cancels id;
-    alike = alike_on ((moves c.kernel h).cancels id).waits;
-  })
+  cancels_place (Some id) = stand_on c.kernel h ((places c.kernel h).cancels id)
+      ((moves c.kernel h).cancels id)
 
   -- a thread is suspended
   suspend_places : (id : ℕ) → Placed (suspend_thread c id)
@@ -243,23 +240,26 @@ module _ (c : Core) (h : IsPlaced c.kernel) where
       cond_both (is_nobody_else c id) _ _ Placed (λ refused. h)
       (λ other. cond_both (is_it c.kernel.threads.running id && not c.kernel.dispatching) _ _ Placed
       (λ refused. h)
-      (λ may. stand c.kernel h _ (record {
-        placed = (places c.kernel h).suspends id c.cpu tt;
-        alike = alike_on ((moves c.kernel h).suspends id c.cpu).waits;
-      })))
+      (λ may. stand_on c.kernel h ((places c.kernel h).suspends id (running_registers c) tt)
+      ((moves c.kernel h).suspends id (running_registers c))))
 
   -- it is resumed
   resume_places : (id : ℕ) → Placed (resume_thread c id)
   resume_places id =
       cond_both (is_nobody_else c id) _ _ Placed (λ refused. h)
-      (λ other. stand c.kernel h _ (record {
-        placed = (places c.kernel h).resumes id;
-        alike = alike_on ((moves c.kernel h).resumes id).waits;
-      }))
+      (λ other. stand_on c.kernel h ((places c.kernel h).resumes id)
+      ((moves c.kernel h).resumes id))
 
   -- a service that looks at the kernel alone
   pub serves_core_places : (x : Service) → Placed (serves_core c x)
   unfolding serves_core
+  serves_core_places service.RegisterIntrHandler = beside_placed _ _ _ _ _ h
+  serves_core_places service.ReleaseIntrHandler = beside_placed _ _ _ _ _ h
+  serves_core_places service.EnableIntr = beside_placed _ _ _ _ _ h
+  serves_core_places service.CpuDisableIntr = disables_places c h
+  serves_core_places service.CpuEnableIntr = beside_placed _ _ _ _ _ h
+  serves_core_places service.CpuResumeIntr = beside_placed _ _ _ _ _ h
+  serves_core_places service.QueryIntrContext = h
   serves_core_places service.StartThread = start_places (argument c 0) (argument c 1)
   serves_core_places service.ExitThread = exits_place (caller c)
   serves_core_places service.TerminateThread = terminate_places (argument c 0)
@@ -276,6 +276,8 @@ module _ (c : Core) (h : IsPlaced c.kernel) where
   serves_core_places service.CancelWakeupThread = cancels_place (named (caller c) (argument c 0))
   serves_core_places service.SuspendThread = suspend_places (argument c 0)
   serves_core_places service.ResumeThread = resume_places (argument c 0)
+  serves_core_places service.DelayThread = delay_thread_places c h (argument c 0)
+  serves_core_places service.CancelAlarm = cancels_places c h (argument c 0) (argument c 1)
   serves_core_places service.DeleteSema = delete_sema_places c h (argument c 0)
   serves_core_places service.SignalSema = signal_sema_places c h (argument c 0)
   serves_core_places service.WaitSema = wait_sema_places c h (argument c 0)

@@ -11,15 +11,17 @@ use Rattle.iop_event.specs.declared.wanted.Wanted.{Wanted}
 use Rattle.iop_objects.specs.Objects.{object_of, state_of, with_state}
 use Rattle.iop_stubs.specs.Stubs.{Memory}
 use Rattle.iop_thread.specs.Operations as threads
+use Rattle.iop_thread.specs.Placing as threads_placing
 use Rattle.iop_thread.specs.ThreadTable.{ThreadTable, is_it, priority_of}
-use Rattle.iop_thread.specs.Waits.{wait_of}
+use Rattle.iop_thread.specs.Waits.{WaitBut, wait_of}
 use Rattle.iop_thread.specs.declared.wait.Wait.TheVariants.{EventFlag}
 use Rattle.iop_kernel.specs.Boards.{Board, word_in, optional_place}
 use Rattle.iop_kernel.specs.EventFlags.{LiveFlag, creates_flag_at, create_event_flag, clear_event_flag, leaves_flags, waits_for_bits, polls_by, tests_or_waits, waits_flag_at, wait_event_flag, polls_flag_at, poll_event_flag, refers_flag_to, refers_flag_at, refer_event_flag_status}
-use Rattle.iop_kernel.specs.Placing.{IsPlaced, AreWaited, is_for_semaphore, is_for_event_flag, is_for_mailbox}
-use Rattle.iop_kernel.specs.System.{Kernel, Core, caller, may_switch, with_event_flags, words_place}
+use Rattle.iop_kernel.specs.Placing.{IsPlaced, AreWaited, is_for_delay, is_for_semaphore, is_for_event_flag, is_for_mailbox}
+use Rattle.iop_kernel.specs.System.{Kernel, Core, caller, running_registers, may_switch, with_event_flags, words_place}
 use Rattle.iop_kernel.specs.declared.event_flags.TheConstants.{FLAG_WORDS, FLAG_STATUS_WORDS}
-use Rattle.iop_kernel.proofs.PlacingBasics.{Placed, PlacedBoard, places, moves}
+use Rattle.iop_kernel.proofs.PlacingBasics.{Placed, PlacedBoard, places, moves, same_live, caller_runs}
+use Rattle.iop_kernel.proofs.PlacingDelays.{delayed_alike}
 use Rattle.iop_kernel.proofs.PlacingThreads.{event_flag_kind, running_waits_not}
 use Rattle.iop_kernel.proofs.PlacingWaiters.{WaitsNow, waited_alike, waited_state, waited_creates, waited_waits, alike_now}
 
@@ -35,6 +37,7 @@ module _ (c : Core) (h : IsPlaced c.kernel) where
     semaphores = h.semaphores;
     event_flags = so;
     mailboxes = h.mailboxes;
+    delays = h.delays;
   }
 
   -- what is known of one changes
@@ -79,15 +82,15 @@ module _ (c : Core) (h : IsPlaced c.kernel) where
 
   -- the threads once the one that calls waits for an event flag
   abbrev blocked_for : ℕ → ThreadTable
-  blocked_for id = threads.blocks k.threads (EventFlag id) c.cpu
+  blocked_for id = threads.blocks k.threads (EventFlag id) (running_registers c)
 
   -- the thread that calls waits for bits
   waits_for_bits_place : (id : ℕ) (wanted : Wanted) (o : LiveFlag)
-      → object_of k.event_flags.live id ≡ Some o → (who : Option ℕ) → k.threads.running ≡ who
+      → object_of k.event_flags.live id ≡ Some o → (who : Option ℕ) → caller c ≡ who
       → Placed (waits_for_bits c id wanted who)
-  waits_for_bits_place id wanted o live None runs = h
-  waits_for_bits_place id wanted o live (Some thread) runs = record {
-    threads = (places k h).blocks (EventFlag id) c.cpu tt tt;
+  waits_for_bits_place id wanted o live None calls = h
+  waits_for_bits_place id wanted o live (Some thread) calls = record {
+    threads = placed;
     semaphores = waited_alike k.semaphores k.threads (blocked_for id) h.semaphores
         (alike_now is_for_semaphore k.threads (blocked_for id) thread
         (Some (EventFlag id)) now_waits (λ n. sym (ap (is_for_semaphore n) idle)));
@@ -100,14 +103,26 @@ module _ (c : Core) (h : IsPlaced c.kernel) where
     mailboxes = waited_alike k.mailboxes k.threads (blocked_for id) h.mailboxes
         (alike_now is_for_mailbox k.threads (blocked_for id) thread
         (Some (EventFlag id)) now_waits (λ n. sym (ap (is_for_mailbox n) idle)));
+    delays = delayed_alike h.delays (same_live k h placed moved.live)
+        (alike_now (λ n. is_for_delay) k.threads (blocked_for id) thread
+        (Some (EventFlag id)) now_waits (λ n. sym (ap is_for_delay idle)));
   }
     where
+      placed : threads_placing.IsPlaced (blocked_for id)
+      placed = (places k h).blocks (EventFlag id) (running_registers c) tt tt
+
+      moved : WaitBut k.threads (blocked_for id) k.threads.running (Some (EventFlag id)) None
+      moved = (moves k h).blocks (EventFlag id) (running_registers c)
+
+      runs : k.threads.running ≡ Some thread
+      runs = caller_runs k.handler k.threads.running thread calls
+
       idle : wait_of k.threads thread ≡ None
       idle = running_waits_not k.threads h.threads thread runs
 
       now_waits : WaitsNow k.threads (blocked_for id) thread (Some (EventFlag id))
       now_waits t =
-          ((moves k h).blocks (EventFlag id) c.cpu).waits t
+          moved.waits t
           ∙ ap (λ o. if is_it o t then Some (EventFlag id) else wait_of k.threads t) runs
 
   -- by whether it is live

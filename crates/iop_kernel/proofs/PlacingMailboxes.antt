@@ -20,7 +20,7 @@ use Rattle.iop_kernel.specs.System.{Kernel, Core, code_word, words_place, with_m
 use Rattle.iop_kernel.specs.Waits.{threads_of, wakes_all}
 use Rattle.iop_kernel.specs.declared.mailboxes.TheConstants.{MAILBOX_WORDS, MAILBOX_STATUS_WORDS}
 use Rattle.iop_kernel.proofs.PlacingBasics.{Placed, PlacedBoard}
-use Rattle.iop_kernel.proofs.PlacingEndings.{among_waiters, all_in_order, ends_all, ends_other_kind, waited_ended}
+use Rattle.iop_kernel.proofs.PlacingEndings.{among_waiters, all_in_order, ends_all, ends_other_kind, delays_woken, waited_ended}
 use Rattle.iop_kernel.proofs.PlacingObjects.{object_of_id}
 use Rattle.iop_kernel.proofs.PlacingQueues.{times_in}
 use Rattle.iop_kernel.proofs.PlacingThreads.{for_mailbox, mailbox_kind}
@@ -38,6 +38,7 @@ module _ (c : Core) (h : IsPlaced c.kernel) where
     semaphores = h.semaphores;
     event_flags = h.event_flags;
     mailboxes = so;
+    delays = h.delays;
   }
 
   -- the messages of one change
@@ -103,6 +104,7 @@ module _ (c : Core) (h : IsPlaced c.kernel) where
               (alike is_for_event_flag (λ id. refl));
           mailboxes = waited_ended k h (Mailbox o.id) ids word ask k.mailboxes
               h.mailboxes mailbox_kind o.id (λ other. refl) all;
+          delays = delays_woken k h (Mailbox o.id) ids word ask refl;
         }
 
   -- by the mailbox of the id

@@ -21,7 +21,7 @@ use Rattle.iop_kernel.specs.Placing.{IsPlaced, AreWaited, is_for_semaphore, is_f
 use Rattle.iop_kernel.specs.System.{Kernel, Core, code_word, with_event_flags, with_threads}
 use Rattle.iop_kernel.specs.Waits.{threads_of, wakes_all}
 use Rattle.iop_kernel.proofs.PlacingBasics.{Placed, PlacedBoard}
-use Rattle.iop_kernel.proofs.PlacingEndings.{among_waiters, ends_all, ends_other_kind, waited_ends, waited_ended}
+use Rattle.iop_kernel.proofs.PlacingEndings.{among_waiters, ends_all, ends_other_kind, delays_woken, waited_ends, waited_ended}
 use Rattle.iop_kernel.proofs.PlacingObjects.{object_of_id}
 use Rattle.iop_kernel.proofs.PlacingQueues.{times_in}
 use Rattle.iop_kernel.proofs.PlacingThreads.{for_event_flag, event_flag_kind}
@@ -99,6 +99,7 @@ module _ (c : Core) (h : IsPlaced c.kernel) where
           mailboxes = waited_alike k.mailboxes k.threads woken h.mailboxes
               (ends_other_kind k h (EventFlag n) ids word ask_for_flag is_for_mailbox
               (λ id. refl));
+          delays = delays_woken k h (EventFlag n) ids word ask_for_flag refl;
         }
 
   -- all that wait for the event flag of an id

@@ -12,17 +12,19 @@ use Rattle.iop_objects.specs.declared.queued.Queued.{Queued}
 use Rattle.iop_objects.specs.declared.waiter.Waiter.{Waiter}
 use Rattle.iop_stubs.specs.Stubs.{Memory}
 use Rattle.iop_thread.specs.Operations as threads
+use Rattle.iop_thread.specs.Placing as threads_placing
 use Rattle.iop_thread.specs.ThreadTable.{ThreadTable, is_it, priority_of}
-use Rattle.iop_thread.specs.Waits.{wait_of}
+use Rattle.iop_thread.specs.Waits.{WaitBut, wait_of}
 use Rattle.iop_thread.specs.declared.wait.Wait.TheVariants.{Mailbox}
 use Rattle.iop_kernel.specs.Boards.{Board}
 use Rattle.iop_kernel.specs.Mailboxes.{LiveMailbox, message_priority, waits_for_message, queues_by, queues_message, sends_by, send_mbx, receives_by, receives_or_waits, waits_mbx_at, receive_mbx, polls_mbx_at, poll_mbx}
-use Rattle.iop_kernel.specs.Placing.{IsPlaced, is_for_semaphore, is_for_event_flag, is_for_mailbox}
-use Rattle.iop_kernel.specs.System.{Kernel, Core, caller, may_switch, code_word, words_place, with_mailboxes}
-use Rattle.iop_kernel.proofs.PlacingBasics.{Placed, PlacedBoard, places, moves}
+use Rattle.iop_kernel.specs.Placing.{IsPlaced, is_for_delay, is_for_semaphore, is_for_event_flag, is_for_mailbox}
+use Rattle.iop_kernel.specs.System.{Kernel, Core, caller, running_registers, may_switch, code_word, words_place, with_mailboxes}
+use Rattle.iop_kernel.proofs.PlacingBasics.{Placed, PlacedBoard, places, moves, same_live, caller_runs}
+use Rattle.iop_kernel.proofs.PlacingDelays.{delayed_alike}
 use Rattle.iop_kernel.proofs.PlacingEndings.{chosen_waits, others_wait}
 use Rattle.iop_kernel.proofs.PlacingMailboxes.{with_them_placed, messages_placed}
-use Rattle.iop_kernel.proofs.PlacingThreads.{for_mailbox, mailbox_kind, alike_ended, running_waits_not}
+use Rattle.iop_kernel.proofs.PlacingThreads.{for_mailbox, mailbox_kind, alike_ended, delays_ended, running_waits_not}
 use Rattle.iop_kernel.proofs.PlacingWaiters.{WaitsNow, alike_now, waited_alike, waited_leaves, waited_waits}
 
 module _ (c : Core) (h : IsPlaced c.kernel) where
@@ -38,9 +40,13 @@ module _ (c : Core) (h : IsPlaced c.kernel) where
     abbrev left : ThreadTable
     left = threads.wakes k.threads thread word
 
+    -- what the end of its wait leaves of the threads
+    moved : WaitBut k.threads left (Some thread) None k.threads.running
+    moved = (moves k h).wakes thread word
+
     -- then it waits for nothing, each other for what it did
     now_left : WaitsNow k.threads left thread None
-    now_left = ((moves k h).wakes thread word).waits
+    now_left = moved.waits
 
     -- it waited for the mailbox
     was : is_for_mailbox id (wait_of k.threads thread) ≡ true
@@ -65,6 +71,8 @@ module _ (c : Core) (h : IsPlaced c.kernel) where
           mailboxes = waited_leaves k.mailboxes k.threads left h.mailboxes mailbox_kind id
               thread now_left was one.others
               (others_wait k.mailboxes k.threads h.mailboxes id ordered one chosen);
+          delays = delays_ended k left h placed thread now_left moved.live
+              (Some (Mailbox id)) wait refl;
         }
 
   -- a message is queued, if there is a mailbox and room
@@ -95,14 +103,14 @@ module _ (c : Core) (h : IsPlaced c.kernel) where
 
   -- the threads once the one that calls waits for a message
   abbrev blocked : ℕ → ThreadTable
-  blocked id = threads.blocks k.threads (Mailbox id) c.cpu
+  blocked id = threads.blocks k.threads (Mailbox id) (running_registers c)
 
   -- the thread that calls waits for it
   waits_place : (id at : ℕ) (o : LiveMailbox) → object_of k.mailboxes.live id ≡ Some o
-      → (who : Option ℕ) → k.threads.running ≡ who → Placed (waits_for_message c id at who)
-  waits_place id at o live None runs = h
-  waits_place id at o live (Some thread) runs = record {
-    threads = (places k h).blocks (Mailbox id) c.cpu tt tt;
+      → (who : Option ℕ) → caller c ≡ who → Placed (waits_for_message c id at who)
+  waits_place id at o live None calls = h
+  waits_place id at o live (Some thread) calls = record {
+    threads = placed;
     semaphores = waited_alike k.semaphores k.threads (blocked id) h.semaphores
         (alike_now is_for_semaphore k.threads (blocked id) thread
         (Some (Mailbox id)) now_waits (λ n. sym (ap (is_for_semaphore n) idle)));
@@ -115,14 +123,26 @@ module _ (c : Core) (h : IsPlaced c.kernel) where
           item = record { thread = thread; wants = at };
         })
         (Some (Mailbox id)) now_waits (λ n. refl) idle;
+    delays = delayed_alike h.delays (same_live k h placed moved.live)
+        (alike_now (λ n. is_for_delay) k.threads (blocked id) thread
+        (Some (Mailbox id)) now_waits (λ n. sym (ap is_for_delay idle)));
   }
     where
+      placed : threads_placing.IsPlaced (blocked id)
+      placed = (places k h).blocks (Mailbox id) (running_registers c) tt tt
+
+      moved : WaitBut k.threads (blocked id) k.threads.running (Some (Mailbox id)) None
+      moved = (moves k h).blocks (Mailbox id) (running_registers c)
+
+      runs : k.threads.running ≡ Some thread
+      runs = caller_runs k.handler k.threads.running thread calls
+
       idle : wait_of k.threads thread ≡ None
       idle = running_waits_not k.threads h.threads thread runs
 
       now_waits : WaitsNow k.threads (blocked id) thread (Some (Mailbox id))
       now_waits t =
-          ((moves k h).blocks (Mailbox id) c.cpu).waits t
+          moved.waits t
           ∙ ap (λ o. if is_it o t then Some (Mailbox id) else wait_of k.threads t) runs
 
   -- by whether it is live

@@ -8,7 +8,8 @@ use Rattle.iop_thread.specs.Waits.{wait_of}
 use Rattle.iop_thread.specs.declared.thread.TheConstants.{LOADER, LOADER_STACK}
 use Rattle.iop_thread.specs.declared.wait.Wait.{Wait}
 use Rattle.iop_thread.proofs.Placed.{placed_opening}
-use Rattle.iop_kernel.specs.Placing.{IsPlaced, AreWaited, is_for_semaphore, is_for_event_flag, is_for_mailbox}
+use Rattle.iop_time.specs.Timers.{no_timers}
+use Rattle.iop_kernel.specs.Placing.{IsPlaced, AreWaited, AreDelayed, is_for_delay, is_for_semaphore, is_for_event_flag, is_for_mailbox}
 use Rattle.iop_kernel.specs.System.{beginning}
 use Rattle.iop_kernel.proofs.PlacingThreads.{semaphore_kind, event_flag_kind, mailbox_kind}
 use Rattle.iop_kernel.proofs.PlacingWaiters.{IsKind}
@@ -33,6 +34,23 @@ none_waited is_for kind = record {
   given = λ k d below. absurd (omega (arith, below));
 }
 
+-- and no delay stands
+none_delayed : AreDelayed no_timers opening
+none_delayed = record {
+  delays = λ t. sym (ap (λ w. one_if (is_for_delay w)) (none_waits t));
+  kept = record {
+    next = omega arith;
+    few_alarms = omega arith;
+    few_delays = omega arith;
+    alarms = λ k d below. absurd (omega (arith, below));
+    delays = λ k d below. absurd (omega (arith, below));
+    alarms_differ = λ i j d less below. absurd (omega (arith, less, below));
+    delays_differ = λ i j d less below. absurd (omega (arith, less, below));
+    apart = λ k d below. absurd (omega (arith, below));
+  };
+  room = omega arith;
+}
+
 -- all is placed
 pub opening_placed : IsPlaced beginning
 opening_placed = record {
@@ -40,4 +58,5 @@ opening_placed = record {
   semaphores = none_waited is_for_semaphore semaphore_kind;
   event_flags = none_waited is_for_event_flag event_flag_kind;
   mailboxes = none_waited is_for_mailbox mailbox_kind;
+  delays = none_delayed;
 }

@@ -1,16 +1,18 @@
--- Where a thread runs, fewer wait for the objects of a kind than threads are live.
-use Rattle.std.proofs.Common.{◌≡◌, ◌≢◌, ℕ, zero, suc, ◌+◌, ◌<◌, ◌≤◌, ◌==◌, Bool, true, false, if◌then◌else◌, is_some, Option, Some, None, List, [], ◌∷◌, ◌++◌, length, get_or, map, flat_map, All, AllPairs, Contains, refl, ap, sym, ◌∙◌, subst, arith}
+-- Where a thread runs, fewer wait for the objects of a kind, or for a time, than threads are live.
+use Rattle.std.proofs.Common.{◌≡◌, ◌≢◌, ℕ, zero, suc, ◌+◌, ◌<◌, ◌≤◌, ◌==◌, ◌||◌, nat_eq, Bool, true, false, is_some, Option, Some, None, IfSome, List, [], ◌∷◌, length, get_or, map, All, AllPairs, Contains, refl, ap, sym, ◌∙◌, subst, arith}
+use Rattle.std.specs.List.{IsDistinct, list_any}
 use Rattle.std.proofs.lemmas.Bool.Decides.{nat_tests}
+use Rattle.std.proofs.lemmas.Cmp.{nat_eq_equiv}
 use Rattle.std.proofs.lemmas.List.{length-map}
-use Rattle.std.proofs.lemmas.List.Elements.{All-head, All-tail, Contains-get_or}
+use Rattle.std.proofs.lemmas.List.Elements.{Contains-get_or}
 use Rattle.std.proofs.lemmas.List.Kept.{AllPairs-cons}
 use Rattle.std.proofs.lemmas.List.Sums.{count_by-le-length, length-filter}
+use Rattle.std.proofs.lemmas.Map.Keys.{IsDistinct-from_apart}
+use Rattle.std.proofs.lemmas.Map.Made.{length-le_from_is_member}
 use Rattle.iop_exec.specs.Arithmetic.{one_if}
 use Rattle.iop_objects.proofs.Rooms.{leave_room}
-use Rattle.iop_objects.proofs.Totals.{AllPairs-head, AllPairs-tail}
-use Rattle.iop_objects.specs.Laws as laws
 use Rattle.iop_objects.specs.Laws.{threads_waiting}
-use Rattle.iop_objects.specs.Objects.{Object, Objects, object_of, waiters_in, waiting}
+use Rattle.iop_objects.specs.Objects.{Objects, waiting}
 use Rattle.iop_objects.specs.declared.objects.TheConstants.{MOST_WAITERS}
 use Rattle.iop_ready.specs.declared.entry.Entry.{Entry}
 use Rattle.iop_ready.specs.declared.slot.TheConstants.{MOST_THREADS}
@@ -23,21 +25,20 @@ use Rattle.iop_thread.specs.Waits.{wait_of}
 use Rattle.iop_thread.specs.declared.thread.Thread.{Thread}
 use Rattle.iop_thread.specs.declared.threads.Threads.{Threads}
 use Rattle.iop_thread.specs.declared.wait.Wait.{Wait}
+use Rattle.iop_thread.specs.declared.wait.Wait.TheVariants.{Sleep, Delay, Semaphore, EventFlag, Mailbox}
 use Rattle.iop_thread.proofs.ReadyIds.{times_first, not_contained}
-use Rattle.iop_kernel.specs.Placing.{IsPlaced, AreWaited, is_for_semaphore, is_for_event_flag, is_for_mailbox}
-use Rattle.iop_kernel.specs.Standing.{Holds, IsActive, HasRoomToWait}
-use Rattle.iop_kernel.specs.System.{Kernel}
+use Rattle.iop_time.specs.Timers.{Timers, is_delay_of}
+use Rattle.iop_time.specs.declared.clock.TheConstants.{MOST_DELAYS}
+use Rattle.iop_kernel.specs.Placing.{IsPlaced, AreWaited, is_for_delay, is_for_semaphore, is_for_event_flag, is_for_mailbox}
+use Rattle.iop_kernel.specs.Standing.{Holds, IsActive, IsUndelayed, HasRoomToWait}
+use Rattle.iop_kernel.specs.System.{Kernel, is_active}
+use Rattle.iop_kernel.specs.declared.active_handler.ActiveHandler.{ActiveHandler}
 use Rattle.iop_kernel.specs.declared.kernel.Kernel.{Kernel as Program}
-use Rattle.iop_kernel.proofs.PlacingObjects.{HaveOwnIds}
-use Rattle.iop_kernel.proofs.PlacingQueues.{times_in}
+use Rattle.iop_kernel.proofs.PlacingDelays.{delayed, undelayed}
+use Rattle.iop_kernel.proofs.PlacingLive.{ids_of, finds_member}
+use Rattle.iop_kernel.proofs.PlacingOnce.{waits_once}
 use Rattle.iop_kernel.proofs.PlacingThreads.{semaphore_kind, event_flag_kind, mailbox_kind, running_waits_not}
 use Rattle.iop_kernel.proofs.PlacingWaiters.{IsKind}
-
--- an id is in two lists as often as in each
-times_both : (id : ℕ) (xs ys : List ℕ) → times id (xs ++ ys) ≡ times id xs + times id ys
-times_both id [] ys = omega arith
-times_both id (x ∷ xs) ys =
-    omega (arith, times_first id x (xs ++ ys), times_first id x xs, times_both id xs ys)
 
 -- one that is in a list is there at least once
 often_contained : (ids : List ℕ) → All (λ id. 0 < times id ids) ids
@@ -46,6 +47,11 @@ often_contained ids = λ k d below. by _ (times _ ids) refl (Contains-get_or ids
     by : (id n : ℕ) → times id ids ≡ n → Contains ids id → 0 < times id ids
     by id zero none there = absurd (not_contained id ids none there)
     by id (suc n) some there = omega (arith, some)
+
+-- one that is found in a list is there at least once
+member_often : (q : ℕ) (ids : List ℕ) → list_any (nat_eq q) ids ≡ true → 0 < times q ids
+member_often q [] is = cc
+member_often q (x ∷ ids) is = grind (arith, nat_tests, is, member_often q ids)
 
 -- ids of which none is there twice are all different
 different : (ids : List ℕ) → ((id : ℕ) → times id ids ≤ 1) → AllPairs (λ a b. a ≢ b) ids
@@ -61,90 +67,6 @@ different (x ∷ ids) once =
         let here : (x == x) ≡ true = grind (arith, nat_tests) in
         let one : one_if (x == x) ≡ 1 = ap one_if here in
         omega (arith, one, times_first x x ids, once x)
-
-module _ {A W : Type 0} where
-  -- no object has the id of one in front of it
-  none_behind : (id : ℕ) (live : List (Object A W)) → All (λ o. id ≢ o.id) live
-      → object_of live id ≡ None
-  none_behind id [] others = refl
-  none_behind id (o ∷ live) others =
-      let first = All-head (λ (o : Object A W). id ≢ o.id) o live others in
-      let rest = All-tail (λ (o : Object A W). id ≢ o.id) o live others in
-      grind (arith, nat_tests, first, none_behind id live rest)
-
-  module _ (is_for : ℕ → Option Wait → Bool) (kind : IsKind is_for) (t : ℕ) where
-    -- how often a thread is among those that wait for the object of an id
-    abbrev often : List (Object A W) → ℕ → ℕ
-    often live id = times_in t (waiters_in (object_of live id))
-
-    -- a thread is among those that wait for all objects together at most once, and only where it
-    -- waits
-    abbrev IsOnce : List (Object A W) → Type 0
-    IsOnce live = (wait : Option Wait) → ((id : ℕ) → often live id ≡ one_if (is_for id wait))
-        → times t (flat_map laws.threads_of live) ≤ one_if (is_some wait)
-
-    module _ (o : Object A W) (live : List (Object A W)) (own : HaveOwnIds (o ∷ live)) where
-      -- behind an object none has its id, and each other one is found as before
-      behind : (id : ℕ) (b : Bool) → (o.id == id) ≡ b
-          → often live id ≡ (if b then 0 else often (o ∷ live) id)
-      behind id true it =
-          let here : o.id ≡ id = grind (arith, nat_tests, it) in
-          let none = none_behind o.id live (AllPairs-head (λ a b. a.id ≢ b.id) o live own) in
-          ap (λ (found : Option (Object A W)). times_in t (waiters_in found))
-          (subst (λ id. object_of live id ≡ None) here none)
-      behind id false other = rw other refl
-
-      one_more : IsOnce live → IsOnce (o ∷ live)
-      one_more later wait each =
-          by (is_for o.id wait) refl
-        where
-          first : times_in t o.waiters ≡ one_if (is_for o.id wait)
-          first =
-              let same : (o.id == o.id) ≡ true = grind (arith, nat_tests) in
-              let is : often (o ∷ live) o.id ≡ times_in t o.waiters = rw same refl in
-              sym is ∙ each o.id
-
-          all : times t (flat_map laws.threads_of (o ∷ live))
-              ≡ times_in t o.waiters + times t (flat_map laws.threads_of live)
-          all = times_both t (laws.threads_of o) (flat_map laws.threads_of live)
-
-          -- it waits for this one, and for none behind
-          none_else : is_for o.id wait ≡ true → (id : ℕ) (b : Bool) → (o.id == id) ≡ b
-              → often live id ≡ one_if (is_for id None)
-          none_else is id true it = behind id true it ∙ ap one_if (sym (kind.none id))
-          none_else is id false other =
-              behind id false other ∙ each id
-              ∙ ap one_if (kind.one o.id id wait is ∙ other ∙ sym (kind.none id))
-
-          -- it does not wait for this one
-          not_this : is_for o.id wait ≡ false → (id : ℕ) (b : Bool) → (o.id == id) ≡ b
-              → often live id ≡ one_if (is_for id wait)
-          not_this is id true it =
-              let here : o.id ≡ id = grind (arith, nat_tests, it) in
-              behind id true it ∙ ap one_if (sym (subst (λ id. is_for id wait ≡ false) here is))
-          not_this is id false other = behind id false other ∙ each id
-
-          some : (w : Option Wait) → is_for o.id w ≡ true → is_some w ≡ true
-          some None is = absurd (cc (is, kind.none o.id))
-          some (Some w) is = refl
-
-          by : (b : Bool) → is_for o.id wait ≡ b
-              → times t (flat_map laws.threads_of (o ∷ live)) ≤ one_if (is_some wait)
-          by true is =
-              let one = first ∙ ap one_if is in
-              let rest = later None (λ id. none_else is id (o.id == id) refl) in
-              let waits : one_if (is_some wait) ≡ 1 = ap one_if (some wait is) in
-              omega (arith, all, one, rest, waits)
-          by false is =
-              let zero = first ∙ ap one_if is in
-              let rest = later wait (λ id. not_this is id (o.id == id) refl) in
-              omega (arith, all, zero, rest)
-
-    -- so it is for each list of objects
-    waits_once : (live : List (Object A W)) → HaveOwnIds live → IsOnce live
-    waits_once [] own = λ wait each. omega arith
-    waits_once (o ∷ live) own =
-        one_more o live own (waits_once live (AllPairs-tail (λ a b. a.id ≢ b.id) o live own))
 
 -- the id that finds a thread is among the ids
 contains_live : (live : List Thread) (id : ℕ) → is_some (thread_of live id) ≡ true
@@ -185,22 +107,15 @@ module _ (s : ThreadTable) (placed : threads_placing.IsPlaced s) (one : ℕ)
           absurd (cc (is, away))
       by (Some t) found is = refl
 
-  module _ {A W : Type 0} (o : Objects A W) (is_for : ℕ → Option Wait → Bool)
-      (kind : IsKind is_for) (h : AreWaited o is_for s) where
-    abbrev ws : List ℕ
-    ws = threads_waiting o
-
-    abbrev ids : List ℕ
-    ids = map (λ t. t.id) s.live
-
-    -- a thread is among those that wait only where it waits
-    most : (t : ℕ) → times t ws ≤ one_if (is_some (wait_of s t))
-    most t = waits_once is_for kind t o.live h.ids (wait_of s t) (λ id. h.waiters id t)
-
-    -- and at most once
+  -- some threads, each there only where it waits, and at most once
+  module _ (ws : List ℕ) (most : (t : ℕ) → times t ws ≤ one_if (is_some (wait_of s t))) where
     once : (t : ℕ) (wait : Option Wait) → times t ws ≤ one_if (is_some wait) → times t ws ≤ 1
     once t None least = omega (arith, least)
     once t (Some wait) least = least
+
+    -- so they are all different
+    all_differ : AllPairs (λ a b. a ≢ b) ws
+    all_differ = different ws (λ t. once t (wait_of s t) (most t))
 
     -- one that is among them waits
     waits_some : (t : ℕ) (wait : Option Wait) → times t ws ≤ one_if (is_some wait)
@@ -208,26 +123,104 @@ module _ (s : ThreadTable) (placed : threads_placing.IsPlaced s) (one : ℕ)
     waits_some t None least there = absurd (omega (arith, least, there))
     waits_some t (Some wait) least there = refl
 
-    -- those that wait are live
-    all_live : All (Contains ids) ws
+    -- so it is live
+    often_live : (t : ℕ) → 0 < times t ws → is_some (thread_of s.live t) ≡ true
+    often_live t there = waits_live t (waits_some t (wait_of s t) (most t) there)
+
+    -- they are all live
+    all_live : All (Contains (ids_of s.live)) ws
     all_live = λ k d below.
         let id = get_or ws k d in
-        contains_live s.live id
-        (waits_live id (waits_some id (wait_of s id) (most id) (often_contained ws k d below)))
+        contains_live s.live id (often_live id (often_contained ws k d below))
 
     -- the one that runs is not among them
-    not_waiting : Contains ws one → ⊥
-    not_waiting =
+    runs_not : times one ws ≡ 0
+    runs_not =
         let idle = running_waits_not s placed one runs in
         let never : one_if (is_some (wait_of s one)) ≡ 0 = rw idle refl in
-        not_contained one ws (omega (arith, never, most one))
+        omega (arith, never, most one)
+
+    -- with it they are all different, too
+    with_running : (t : ℕ) → times t (one ∷ ws) ≤ 1
+    with_running t = by (one == t) refl (times_first t one ws)
+      where
+        by : (b : Bool) → (one == t) ≡ b → times t (one ∷ ws) ≡ one_if b + times t ws
+            → times t (one ∷ ws) ≤ 1
+        by true it all =
+            let here : one ≡ t = grind (arith, nat_tests, it) in
+            let none : times t ws ≡ 0 = subst (λ t. times t ws ≡ 0) here runs_not in
+            omega (arith, all, none)
+        by false other all = omega (arith, all, once t (wait_of s t) (most t))
+
+    -- and all live
+    members_live : (q : ℕ) → list_any (nat_eq q) (one ∷ ws) ≡ true
+        → list_any (nat_eq q) (ids_of s.live) ≡ true
+    members_live q is =
+        sym (finds_member s.live q) ∙ by (one == q) refl (member_often q (one ∷ ws) is)
+      where
+        by : (b : Bool) → (one == q) ≡ b → 0 < times q (one ∷ ws)
+            → is_some (thread_of s.live q) ≡ true
+        by true it there =
+            let here : one ≡ q = grind (arith, nat_tests, it) in
+            subst (λ q. is_some (thread_of s.live q) ≡ true) here runs_live
+        by false other there =
+            let first = times_first q one ws ∙ ap (λ b. one_if b + times q ws) other in
+            often_live q (omega (arith, first, there))
+
+    -- so they are fewer than are live
+    fewer : length ws < length s.live
+    fewer =
+        let apart = different (one ∷ ws) with_running in
+        let distinct : IsDistinct nat_eq (one ∷ ws) =
+        IsDistinct-from_apart nat_eq (one ∷ ws)
+        (λ i j d less below. let differ = apart i j d less below in
+        grind (arith, nat_tests, differ)) in
+        let few = length-le_from_is_member nat_eq_equiv (one ∷ ws) (ids_of s.live) distinct
+        members_live in
+        omega (arith, few, length-map s.live (λ t. t.id))
+
+  module _ {A W : Type 0} (o : Objects A W) (is_for : ℕ → Option Wait → Bool)
+      (kind : IsKind is_for) (h : AreWaited o is_for s) where
+    -- a thread is among those that wait only where it waits
+    most_wait : (t : ℕ) → times t (threads_waiting o) ≤ one_if (is_some (wait_of s t))
+    most_wait t = waits_once is_for kind t o.live h.ids (wait_of s t) (λ id. h.waiters id t)
 
     -- so fewer wait than are live
     pub fewer_wait : waiting o < length s.live
     fewer_wait =
-        let room = leave_room o ids one (different ws (λ t. once t (wait_of s t) (most t))) all_live
-        (contains_live s.live one runs_live) not_waiting in
+        let ws = threads_waiting o in
+        let room = leave_room o (ids_of s.live) one (all_differ ws most_wait)
+        (all_live ws most_wait) (contains_live s.live one runs_live)
+        (not_contained one ws (runs_not ws most_wait)) in
         omega (arith, room, length-map s.live (λ t. t.id))
+
+-- where a thread runs, there is room for one more delay
+pub fewer_delays : (k : Kernel) → IsPlaced k → (id : ℕ) → k.threads.running ≡ Some id
+    → length k.timers.delays < MOST_DELAYS
+fewer_delays k h id runs =
+    let ds = k.timers.delays in
+    let few = fewer k.threads h.threads id runs (delayed ds) most in
+    omega (arith, few, length-map ds (λ d. d.thread), h.delays.room)
+  where
+    by : (wait : Option Wait) → one_if (is_for_delay wait) ≤ one_if (is_some wait)
+    by None = omega arith
+    by (Some Sleep) = omega arith
+    by (Some Delay) = omega arith
+    by (Some (Semaphore id)) = omega arith
+    by (Some (EventFlag id)) = omega arith
+    by (Some (Mailbox id)) = omega arith
+
+    most : (t : ℕ) → times t (delayed k.timers.delays)
+        ≤ one_if (is_some (wait_of k.threads t))
+    most t = omega (arith, h.delays.delays t, by (wait_of k.threads t))
+
+-- the thread that runs has no delay
+pub runs_undelayed : (k : Kernel) → IsPlaced k → (id : ℕ) → k.threads.running ≡ Some id
+    → list_any (is_delay_of id) k.timers.delays ≡ false
+runs_undelayed k h id runs =
+    undelayed k.timers.delays id
+    (h.delays.delays id
+    ∙ ap (λ w. one_if (is_for_delay w)) (running_waits_not k.threads h.threads id runs))
 
 module _ {R : Type 0} {stands_for : R → List Entry → Type 0} where
   -- no more threads are live than there are places
@@ -241,29 +234,55 @@ module _ {R : Type 0} {stands_for : R → List Entry → Type 0} where
     count_by-le-length is_some t.places,
   )
 
-  -- where a thread runs there is room for one more that waits
-  pub room_to_wait : (k : Program R) (s : Kernel) (id : ℕ) → Holds stands_for k s → IsPlaced s
-      → s.threads.running ≡ Some id → HasRoomToWait k
-  room_to_wait k s id h placed runs =
-      record {
-        semaphores = subst (λ o. waiting o < MOST_WAITERS) h.semaphores
-            (room is_for_semaphore semaphore_kind placed.semaphores);
-        event_flags = subst (λ o. waiting o < MOST_WAITERS) h.event_flags
-            (room is_for_event_flag event_flag_kind placed.event_flags);
-        mailboxes = subst (λ o. waiting o < MOST_WAITERS) h.mailboxes
-            (room is_for_mailbox mailbox_kind placed.mailboxes);
-      }
-    where
-      room : {A W : Type 0} {o : Objects A W} (is_for : ℕ → Option Wait → Bool) → IsKind is_for
-          → AreWaited o is_for s.threads → waiting o < MOST_WAITERS
-      room {o = o} is_for kind waited =
-          let fewer = fewer_wait s.threads placed.threads id runs o is_for kind waited in
-          omega (arith, fewer, few_live k.threads s.threads h.threads)
+  module _ (k : Program R) (s : Kernel) (h : Holds stands_for k s) (placed : IsPlaced s) where
+    -- the thread that runs, if one does, has no delay
+    undelayed_held : IsUndelayed stands_for k
+    undelayed_held = record { kernel = s; holds = h; free = by s.threads.running refl }
+      where
+        by : (o : Option ℕ) → s.threads.running ≡ o
+            → IfSome o (λ thread. list_any (is_delay_of thread) s.timers.delays ≡ false)
+        by None runs = tt
+        by (Some id) runs = runs_undelayed s placed id runs
 
-  -- where the kernel stands and a thread runs in it, there is room
-  pub active_room : (k : Program R) → IsActive stands_for k → HasRoomToWait k
-  active_room k active = by active.0.threads.running refl active.2
-    where
-      by : (o : Option ℕ) → active.0.threads.running ≡ o → is_some o ≡ true → HasRoomToWait k
-      by None runs is = cc
-      by (Some id) runs is = room_to_wait k active.0 id active.1.holds active.1.placed runs
+    -- where a thread runs there is room for one more that waits for an object
+    room_for : {A W : Type 0} {o : Objects A W} (is_for : ℕ → Option Wait → Bool) → IsKind is_for
+        → AreWaited o is_for s.threads → (id : ℕ) → s.threads.running ≡ Some id
+        → waiting o < MOST_WAITERS
+    room_for {o = o} is_for kind waited id runs =
+        let fewer = fewer_wait s.threads placed.threads id runs o is_for kind waited in
+        omega (arith, fewer, few_live k.threads s.threads h.threads)
+
+    -- where no handler runs, but a thread or a handler does, a thread runs
+    thread_runs : is_active s ≡ true → k.handler ≡ None → (id : ℕ) × (s.threads.running ≡ Some id)
+    thread_runs active none =
+        by s.handler s.threads.running refl (h.handler ∙ none) active
+      where
+        by : (handler : Option ActiveHandler) (o : Option ℕ) → s.threads.running ≡ o
+            → handler ≡ None → (is_some handler || is_some o) ≡ true
+            → (id : ℕ) × (s.threads.running ≡ Some id)
+        by (Some handler) o runs none is = cc
+        by None None runs none is = cc
+        by None (Some id) runs none is = (id, runs)
+
+    -- so there is room for the thread that calls, if one does
+    room_to_wait : is_active s ≡ true → HasRoomToWait stands_for k
+    room_to_wait active = record {
+      undelayed = undelayed_held;
+      delays = λ none. let it = thread_runs active none in
+          subst (λ (timers : Timers). length timers.delays < MOST_DELAYS) h.timers
+          (fewer_delays s placed it.0 it.1);
+      semaphores = λ none. let it = thread_runs active none in
+          subst (λ o. waiting o < MOST_WAITERS) h.semaphores
+          (room_for is_for_semaphore semaphore_kind placed.semaphores it.0 it.1);
+      event_flags = λ none. let it = thread_runs active none in
+          subst (λ o. waiting o < MOST_WAITERS) h.event_flags
+          (room_for is_for_event_flag event_flag_kind placed.event_flags it.0 it.1);
+      mailboxes = λ none. let it = thread_runs active none in
+          subst (λ o. waiting o < MOST_WAITERS) h.mailboxes
+          (room_for is_for_mailbox mailbox_kind placed.mailboxes it.0 it.1);
+    }
+
+  -- where the kernel stands and a thread or a handler executes in it, there is room
+  pub active_room : (k : Program R) → IsActive stands_for k → HasRoomToWait stands_for k
+  active_room k active =
+      room_to_wait k active.0 active.1.holds active.1.placed active.2

@@ -5,7 +5,7 @@ use Rattle.std.proofs.lemmas.Bool.{cond_both}
 use Rattle.iop_base.specs.declared.code.Code.{Code}
 use Rattle.iop_base.specs.declared.code.TheConstants.Code.{OK, OBJECT_DELETED, SEMAPHORE_OVERFLOW, SEMAPHORE_ZERO}
 use Rattle.iop_objects.specs.Objects as objects
-use Rattle.iop_objects.specs.Objects.{Objects, object_of, state_of, waiters_of, with_state}
+use Rattle.iop_objects.specs.Objects.{object_of, state_of, waiters_of, with_state}
 use Rattle.iop_objects.specs.Queue.{Choice, chooses, in_order}
 use Rattle.iop_objects.specs.declared.waiter.Waiter.{Waiter}
 use Rattle.iop_sema.specs.Semaphores as semaphores
@@ -13,21 +13,23 @@ use Rattle.iop_sema.specs.Semaphores.{Semaphores, by_priority, with_count}
 use Rattle.iop_sema.specs.declared.semaphore.Semaphore as declared
 use Rattle.iop_stubs.specs.Stubs.{Memory}
 use Rattle.iop_thread.specs.Operations as threads
+use Rattle.iop_thread.specs.Placing as threads_placing
 use Rattle.iop_thread.specs.Placing.{times}
 use Rattle.iop_thread.specs.ThreadTable.{ThreadTable, is_it, priority_of}
-use Rattle.iop_thread.specs.Waits.{wait_of}
+use Rattle.iop_thread.specs.Waits.{WaitBut, wait_of}
 use Rattle.iop_thread.specs.declared.wait.Wait.TheVariants.{Semaphore}
 use Rattle.iop_kernel.specs.Boards.{word_in}
-use Rattle.iop_kernel.specs.Placing.{IsPlaced, AreWaited, is_for_semaphore, is_for_event_flag, is_for_mailbox}
+use Rattle.iop_kernel.specs.Placing.{IsPlaced, AreWaited, is_for_delay, is_for_semaphore, is_for_event_flag, is_for_mailbox}
 use Rattle.iop_kernel.specs.Semaphores.{LiveSemaphore, creates_sema_at, deletes_sema, delete_sema, signals_by, signal_sema, waits_for_sema, takes_or_waits, wait_sema, poll_sema, leaves_semaphores}
-use Rattle.iop_kernel.specs.System.{Kernel, Core, caller, may_switch, code_word, with_semaphores}
+use Rattle.iop_kernel.specs.System.{Kernel, Core, caller, running_registers, may_switch, code_word, with_semaphores}
 use Rattle.iop_kernel.specs.Waits.{threads_of, wakes_all}
-use Rattle.iop_kernel.proofs.PlacingEndings.{chosen_waits, others_wait, among_waiters, all_in_order, ends_all, ends_other_kind, waited_ended}
+use Rattle.iop_kernel.proofs.PlacingDelays.{delayed_alike}
+use Rattle.iop_kernel.proofs.PlacingEndings.{chosen_waits, others_wait, among_waiters, all_in_order, ends_all, ends_other_kind, delays_woken, waited_ended}
 use Rattle.iop_kernel.proofs.PlacingObjects.{object_of_id}
 use Rattle.iop_kernel.proofs.PlacingQueues.{times_in}
 use Rattle.iop_kernel.proofs.PlacingWaiters.{WaitsNow, waited_alike, waited_state, waited_creates, waited_leaves, waited_waits, alike_now}
-use Rattle.iop_kernel.proofs.PlacingThreads.{for_semaphore, semaphore_kind, alike_ended, running_waits_not}
-use Rattle.iop_kernel.proofs.PlacingBasics.{Placed, places, moves}
+use Rattle.iop_kernel.proofs.PlacingThreads.{for_semaphore, semaphore_kind, alike_ended, delays_ended, running_waits_not}
+use Rattle.iop_kernel.proofs.PlacingBasics.{Placed, places, moves, same_live, caller_runs}
 
 module _ (c : Core) (h : IsPlaced c.kernel) where
   abbrev k : Kernel
@@ -41,6 +43,7 @@ module _ (c : Core) (h : IsPlaced c.kernel) where
     semaphores = so;
     event_flags = h.event_flags;
     mailboxes = h.mailboxes;
+    delays = h.delays;
   }
 
   -- what is known of one changes
@@ -107,6 +110,7 @@ module _ (c : Core) (h : IsPlaced c.kernel) where
               (alike is_for_event_flag (λ id. refl));
           mailboxes = waited_alike k.mailboxes k.threads woken h.mailboxes
               (alike is_for_mailbox (λ id. refl));
+          delays = delays_woken k h (Semaphore o.id) ids word ask refl;
         }
 
   -- by the semaphore of the id
@@ -131,9 +135,13 @@ module _ (c : Core) (h : IsPlaced c.kernel) where
     abbrev left : ThreadTable
     left = threads.wakes k.threads thread word
 
+    -- what the end of its wait leaves of the threads
+    moved : WaitBut k.threads left (Some thread) None k.threads.running
+    moved = (moves k h).wakes thread word
+
     -- then it waits for nothing, each other for what it did
     now_left : WaitsNow k.threads left thread None
-    now_left = ((moves k h).wakes thread word).waits
+    now_left = moved.waits
 
     -- it waited for the semaphore
     was : is_for_semaphore id (wait_of k.threads thread) ≡ true
@@ -158,6 +166,8 @@ module _ (c : Core) (h : IsPlaced c.kernel) where
           mailboxes = waited_alike k.mailboxes k.threads left h.mailboxes
               (alike_ended k left h placed thread now_left is_for_mailbox
               (Some (Semaphore id)) wait (λ n. refl));
+          delays = delays_ended k left h placed thread now_left moved.live
+              (Some (Semaphore id)) wait refl;
         }
 
   -- by the choice among those that wait
@@ -186,14 +196,14 @@ module _ (c : Core) (h : IsPlaced c.kernel) where
 
   -- the threads once the one that calls waits for a semaphore
   abbrev blocked : ℕ → ThreadTable
-  blocked id = threads.blocks k.threads (Semaphore id) c.cpu
+  blocked id = threads.blocks k.threads (Semaphore id) (running_registers c)
 
   -- the thread that calls waits for it
   waits_place : (id : ℕ) (o : LiveSemaphore) → object_of k.semaphores.live id ≡ Some o
-      → (who : Option ℕ) → k.threads.running ≡ who → Placed (waits_for_sema c id who)
-  waits_place id o live None runs = h
-  waits_place id o live (Some thread) runs = record {
-    threads = (places k h).blocks (Semaphore id) c.cpu tt tt;
+      → (who : Option ℕ) → caller c ≡ who → Placed (waits_for_sema c id who)
+  waits_place id o live None calls = h
+  waits_place id o live (Some thread) calls = record {
+    threads = placed;
     semaphores = waited_waits k.semaphores k.threads (blocked id) h.semaphores semaphore_kind id o
         live (record {
           priority = priority_of k.threads.live thread;
@@ -206,14 +216,26 @@ module _ (c : Core) (h : IsPlaced c.kernel) where
     mailboxes = waited_alike k.mailboxes k.threads (blocked id) h.mailboxes
         (alike_now is_for_mailbox k.threads (blocked id) thread
         (Some (Semaphore id)) now_waits (λ n. sym (ap (is_for_mailbox n) idle)));
+    delays = delayed_alike h.delays (same_live k h placed moved.live)
+        (alike_now (λ n. is_for_delay) k.threads (blocked id) thread
+        (Some (Semaphore id)) now_waits (λ n. sym (ap is_for_delay idle)));
   }
     where
+      placed : threads_placing.IsPlaced (blocked id)
+      placed = (places k h).blocks (Semaphore id) (running_registers c) tt tt
+
+      moved : WaitBut k.threads (blocked id) k.threads.running (Some (Semaphore id)) None
+      moved = (moves k h).blocks (Semaphore id) (running_registers c)
+
+      runs : k.threads.running ≡ Some thread
+      runs = caller_runs k.handler k.threads.running thread calls
+
       idle : wait_of k.threads thread ≡ None
       idle = running_waits_not k.threads h.threads thread runs
 
       now_waits : WaitsNow k.threads (blocked id) thread (Some (Semaphore id))
       now_waits t =
-          ((moves k h).blocks (Semaphore id) c.cpu).waits t
+          moved.waits t
           ∙ ap (λ o. if is_it o t then Some (Semaphore id) else wait_of k.threads t) runs
 
   -- by whether it is live

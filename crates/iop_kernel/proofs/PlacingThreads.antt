@@ -1,5 +1,5 @@
 -- Threads and waiters are placed when the waits of threads change.
-use Rattle.std.proofs.Common.{◌≡◌, ℕ, ◌+◌, ◌==◌, nat_lt, Bool, true, false, if◌then◌else◌, Option, Some, None, List, [], ◌∷◌, refl, ap, sym, ◌∙◌, arith}
+use Rattle.std.proofs.Common.{◌≡◌, ℕ, ◌+◌, ◌≤◌, ◌==◌, nat_lt, Bool, true, false, if◌then◌else◌, Option, Some, None, List, [], ◌∷◌, length, refl, ap, sym, ◌∙◌, arith}
 use Rattle.std.proofs.lemmas.Bool.Decides.{nat_tests}
 use Rattle.iop_exec.specs.Arithmetic.{one_if}
 use Rattle.iop_mbx.specs.Mailboxes as mailboxes
@@ -9,7 +9,7 @@ use Rattle.iop_thread.specs.Placing as threads_placing
 use Rattle.iop_thread.specs.Placing.{times, is_in_state}
 use Rattle.iop_thread.specs.States.{is_running, wait_in}
 use Rattle.iop_thread.specs.ThreadTable.{ThreadTable, thread_of, is_it}
-use Rattle.iop_thread.specs.Waits.{wait_of, after_wakeup}
+use Rattle.iop_thread.specs.Waits.{wait_of, is_live}
 use Rattle.iop_thread.specs.declared.state.State.{State}
 use Rattle.iop_thread.specs.declared.state.State.TheVariants.{Dormant, Running, Ready, Waiting, Suspended, WaitingSuspended}
 use Rattle.iop_thread.specs.declared.thread.Thread.{Thread}
@@ -18,9 +18,12 @@ use Rattle.iop_thread.specs.declared.wait.Wait.TheVariants.{Sleep, Delay, Semaph
 use Rattle.iop_thread.proofs.Placed.{keeps_places}
 use Rattle.iop_thread.proofs.ReadyIds.{times_first}
 use Rattle.iop_thread.proofs.Waits.{moves_waits}
-use Rattle.iop_kernel.specs.Placing.{IsPlaced, is_for_semaphore, is_for_event_flag, is_for_mailbox}
+use Rattle.iop_time.specs.declared.clock.TheConstants.{MOST_DELAYS}
+use Rattle.iop_kernel.specs.Placing.{IsPlaced, AreDelayed, is_for_delay, is_for_semaphore, is_for_event_flag, is_for_mailbox}
 use Rattle.iop_kernel.specs.System.{Kernel}
 use Rattle.iop_kernel.specs.Waits.{leaves_object, requeues_at, wakes_all}
+use Rattle.iop_kernel.proofs.PlacingAlike.{AreForSame, AllAskAlike, same_wait, none_for_sleep}
+use Rattle.iop_kernel.proofs.PlacingDelays.{delayed_alike, delayed_drops, live_room}
 use Rattle.iop_kernel.proofs.PlacingWaiters.{IsKind, AskAlike, WaitsNow, alike_now, waited_alike, waited_requeues, waited_drops}
 
 -- an id is itself
@@ -79,73 +82,16 @@ mailbox_kind = record {
   one = λ a b wait is. ap (is_for_mailbox b) (for_mailbox a wait is);
 }
 
--- two waits are for the same objects
-pub record AreForSame (a b : Option Wait) : Type 0 where
-  pub semaphores : (id : ℕ) → is_for_semaphore id a ≡ is_for_semaphore id b
-  pub event_flags : (id : ℕ) → is_for_event_flag id a ≡ is_for_event_flag id b
-  pub mailboxes : (id : ℕ) → is_for_mailbox id a ≡ is_for_mailbox id b
-
--- a wait is for the same objects as itself
-same_wait : (wait : Option Wait) → AreForSame wait wait
-same_wait wait =
-    record { semaphores = λ id. refl; event_flags = λ id. refl; mailboxes = λ id. refl }
-
--- sleep is for none
-pub sleep_for_none : AreForSame (Some Sleep) None
-sleep_for_none =
-    record { semaphores = λ id. refl; event_flags = λ id. refl; mailboxes = λ id. refl }
-
--- nor is the end of a wait that is for none
-none_for_sleep : AreForSame None (Some Sleep)
-none_for_sleep =
-    record { semaphores = λ id. refl; event_flags = λ id. refl; mailboxes = λ id. refl }
-
--- nor is the end of a delay
-none_for_delay : AreForSame None (Some Delay)
-none_for_delay =
-    record { semaphores = λ id. refl; event_flags = λ id. refl; mailboxes = λ id. refl }
-
--- a wakeup ends sleep alone
-pub same_after_wakeup : (wait : Option Wait) → AreForSame (after_wakeup wait) wait
-same_after_wakeup None = same_wait None
-same_after_wakeup (Some Sleep) = none_for_sleep
-same_after_wakeup (Some Delay) = same_wait (Some Delay)
-same_after_wakeup (Some (Semaphore id)) = same_wait (Some (Semaphore id))
-same_after_wakeup (Some (EventFlag id)) = same_wait (Some (EventFlag id))
-same_after_wakeup (Some (Mailbox id)) = same_wait (Some (Mailbox id))
-
--- each thread waits for the objects for which it did
-pub record AllAskAlike (old left : ThreadTable) : Type 0 where
-  pub semaphores : AskAlike is_for_semaphore old left
-  pub event_flags : AskAlike is_for_event_flag old left
-  pub mailboxes : AskAlike is_for_mailbox old left
-
-module _ {old left : ThreadTable} where
-  -- where each waits on
-  pub alike_on : ((t : ℕ) → wait_of left t ≡ wait_of old t) → AllAskAlike old left
-  alike_on on = record {
-    semaphores = λ id t. ap (is_for_semaphore id) (on t);
-    event_flags = λ id t. ap (is_for_event_flag id) (on t);
-    mailboxes = λ id t. ap (is_for_mailbox id) (on t);
-  }
-
-  -- where one has another wait, which is for the same
-  pub alike_but : (thread : ℕ) (wait : Option Wait) → WaitsNow old left thread wait
-      → AreForSame wait (wait_of old thread) → AllAskAlike old left
-  alike_but thread wait now same = record {
-    semaphores = alike_now is_for_semaphore old left thread wait now same.semaphores;
-    event_flags = alike_now is_for_event_flag old left thread wait now same.event_flags;
-    mailboxes = alike_now is_for_mailbox old left thread wait now same.mailboxes;
-  }
-
 -- other threads stand in the kernel, and wait alike
 pub placed_with : (k : Kernel) (left : ThreadTable) → IsPlaced k → threads_placing.IsPlaced left
-    → AllAskAlike k.threads left → IsPlaced (record k { threads = left })
-placed_with k left h placed alike = record {
+    → length left.live ≤ MOST_DELAYS → AllAskAlike k.threads left
+    → IsPlaced (record k { threads = left })
+placed_with k left h placed room alike = record {
   threads = placed;
   semaphores = waited_alike k.semaphores k.threads left h.semaphores alike.semaphores;
   event_flags = waited_alike k.event_flags k.threads left h.event_flags alike.event_flags;
   mailboxes = waited_alike k.mailboxes k.threads left h.mailboxes alike.mailboxes;
+  delays = delayed_alike h.delays room alike.delays;
 }
 
 -- a thread has another priority among those that wait
@@ -160,6 +106,7 @@ placed_requeues k h thread priority (Some (Semaphore id)) = record {
       (semaphores.is_by_priority k.semaphores id) thread priority (λ n t. refl);
   event_flags = h.event_flags;
   mailboxes = h.mailboxes;
+  delays = h.delays;
 }
 placed_requeues k h thread priority (Some (EventFlag id)) = record {
   threads = h.threads;
@@ -167,6 +114,7 @@ placed_requeues k h thread priority (Some (EventFlag id)) = record {
   event_flags = waited_requeues k.event_flags k.threads k.threads h.event_flags id false thread
       priority (λ n t. refl);
   mailboxes = h.mailboxes;
+  delays = h.delays;
 }
 placed_requeues k h thread priority (Some (Mailbox id)) = record {
   threads = h.threads;
@@ -174,6 +122,7 @@ placed_requeues k h thread priority (Some (Mailbox id)) = record {
   event_flags = h.event_flags;
   mailboxes = waited_requeues k.mailboxes k.threads k.threads h.mailboxes id
       (mailboxes.is_by_priority k.mailboxes id) thread priority (λ n t. refl);
+  delays = h.delays;
 }
 
 -- a wait ends
@@ -187,49 +136,73 @@ module _ (k : Kernel) (left : ThreadTable) (h : IsPlaced k) (placed : threads_pl
       alike_now is_for k.threads left thread None now
       (λ id. same id ∙ sym (ap (is_for id) was))
 
-  -- it was for none
-  ends_none : (wait : Option Wait) → wait_of k.threads thread ≡ wait → AreForSame None wait
-      → IsPlaced (record k { threads = left })
-  ends_none wait was same =
-      placed_with k left h placed (record {
-        semaphores = alike_ended is_for_semaphore wait was same.semaphores;
-        event_flags = alike_ended is_for_event_flag wait was same.event_flags;
-        mailboxes = alike_ended is_for_mailbox wait was same.mailboxes;
-      })
+  module _ (live : (id : ℕ) → is_live left id ≡ is_live k.threads id) where
+    -- so there is still room for a delay of each
+    room_left : length left.live ≤ MOST_DELAYS
+    room_left = live_room k.threads left placed live h.delays.room
 
-  -- the thread is no longer among those that wait for the object of its wait
-  pub placed_leaves : (wait : Option Wait) → wait_of k.threads thread ≡ wait
-      → IsPlaced (leaves_object (record k { threads = left }) thread wait)
-  placed_leaves None was = ends_none None was (same_wait None)
-  placed_leaves (Some Sleep) was = ends_none (Some Sleep) was none_for_sleep
-  placed_leaves (Some Delay) was = ends_none (Some Delay) was none_for_delay
-  placed_leaves (Some (Semaphore id)) was = record {
-    threads = placed;
-    semaphores = waited_drops k.semaphores k.threads left h.semaphores semaphore_kind id thread now
-        (ap (is_for_semaphore id) was ∙ itself id);
-    event_flags = waited_alike k.event_flags k.threads left h.event_flags
-        (alike_ended is_for_event_flag _ was (λ n. refl));
-    mailboxes = waited_alike k.mailboxes k.threads left h.mailboxes
-        (alike_ended is_for_mailbox _ was (λ n. refl));
-  }
-  placed_leaves (Some (EventFlag id)) was = record {
-    threads = placed;
-    semaphores = waited_alike k.semaphores k.threads left h.semaphores
-        (alike_ended is_for_semaphore _ was (λ n. refl));
-    event_flags = waited_drops k.event_flags k.threads left h.event_flags event_flag_kind id thread
-        now (ap (is_for_event_flag id) was ∙ itself id);
-    mailboxes = waited_alike k.mailboxes k.threads left h.mailboxes
-        (alike_ended is_for_mailbox _ was (λ n. refl));
-  }
-  placed_leaves (Some (Mailbox id)) was = record {
-    threads = placed;
-    semaphores = waited_alike k.semaphores k.threads left h.semaphores
-        (alike_ended is_for_semaphore _ was (λ n. refl));
-    event_flags = waited_alike k.event_flags k.threads left h.event_flags
-        (alike_ended is_for_event_flag _ was (λ n. refl));
-    mailboxes = waited_drops k.mailboxes k.threads left h.mailboxes mailbox_kind id thread now
-        (ap (is_for_mailbox id) was ∙ itself id);
-  }
+    -- where it was for no time the same delays stand
+    pub delays_ended : (wait : Option Wait) → wait_of k.threads thread ≡ wait
+        → is_for_delay None ≡ is_for_delay wait → AreDelayed k.timers left
+    delays_ended wait was same =
+        delayed_alike h.delays room_left (alike_ended (λ id. is_for_delay) wait was (λ id. same))
+
+    -- it was for none
+    ends_none : (wait : Option Wait) → wait_of k.threads thread ≡ wait → AreForSame None wait
+        → IsPlaced (record k { threads = left })
+    ends_none wait was same =
+        placed_with k left h placed room_left (record {
+          semaphores = alike_ended is_for_semaphore wait was same.semaphores;
+          event_flags = alike_ended is_for_event_flag wait was same.event_flags;
+          mailboxes = alike_ended is_for_mailbox wait was same.mailboxes;
+          delays = alike_ended (λ id. is_for_delay) wait was (λ id. same.delays);
+        })
+
+    -- the thread is no longer among those that wait for the object of its wait, or for a time
+    pub placed_leaves : (wait : Option Wait) → wait_of k.threads thread ≡ wait
+        → IsPlaced (leaves_object (record k { threads = left }) thread wait)
+    placed_leaves None was = ends_none None was (same_wait None)
+    placed_leaves (Some Sleep) was = ends_none (Some Sleep) was none_for_sleep
+    placed_leaves (Some Delay) was = record {
+      threads = placed;
+      semaphores = waited_alike k.semaphores k.threads left h.semaphores
+          (alike_ended is_for_semaphore _ was (λ n. refl));
+      event_flags = waited_alike k.event_flags k.threads left h.event_flags
+          (alike_ended is_for_event_flag _ was (λ n. refl));
+      mailboxes = waited_alike k.mailboxes k.threads left h.mailboxes
+          (alike_ended is_for_mailbox _ was (λ n. refl));
+      delays = delayed_drops h.delays room_left thread now;
+    }
+    placed_leaves (Some (Semaphore id)) was = record {
+      threads = placed;
+      semaphores = waited_drops k.semaphores k.threads left h.semaphores semaphore_kind id thread
+          now (ap (is_for_semaphore id) was ∙ itself id);
+      event_flags = waited_alike k.event_flags k.threads left h.event_flags
+          (alike_ended is_for_event_flag _ was (λ n. refl));
+      mailboxes = waited_alike k.mailboxes k.threads left h.mailboxes
+          (alike_ended is_for_mailbox _ was (λ n. refl));
+      delays = delays_ended _ was refl;
+    }
+    placed_leaves (Some (EventFlag id)) was = record {
+      threads = placed;
+      semaphores = waited_alike k.semaphores k.threads left h.semaphores
+          (alike_ended is_for_semaphore _ was (λ n. refl));
+      event_flags = waited_drops k.event_flags k.threads left h.event_flags event_flag_kind id
+          thread now (ap (is_for_event_flag id) was ∙ itself id);
+      mailboxes = waited_alike k.mailboxes k.threads left h.mailboxes
+          (alike_ended is_for_mailbox _ was (λ n. refl));
+      delays = delays_ended _ was refl;
+    }
+    placed_leaves (Some (Mailbox id)) was = record {
+      threads = placed;
+      semaphores = waited_alike k.semaphores k.threads left h.semaphores
+          (alike_ended is_for_semaphore _ was (λ n. refl));
+      event_flags = waited_alike k.event_flags k.threads left h.event_flags
+          (alike_ended is_for_event_flag _ was (λ n. refl));
+      mailboxes = waited_drops k.mailboxes k.threads left h.mailboxes mailbox_kind id thread now
+          (ap (is_for_mailbox id) was ∙ itself id);
+      delays = delays_ended _ was refl;
+    }
 
 -- the thread that runs waits for nothing
 pub running_waits_not : (s : ThreadTable) → threads_placing.IsPlaced s → (id : ℕ)
@@ -254,9 +227,10 @@ running_waits_not s placed id runs =
         let wait : wait_of s id ≡ wait_in t.state = rw found refl in
         wait ∙ idle t.state (sym state ∙ is)
 
--- several waits end
+-- several waits end, and the same threads are live
 pub record AllWoken (s : ThreadTable) (ids : List ℕ) (left : ThreadTable) : Type 0 where
   pub placed : threads_placing.IsPlaced left
+  pub live : (t : ℕ) → is_live left t ≡ is_live s t
   pub waits : (t : ℕ) → wait_of left t ≡ (if nat_lt 0 (times t ids) then None else wait_of s t)
 
 -- either way it is that one
@@ -277,14 +251,16 @@ woken_by old w false n m is more =
 -- one after the other
 pub all_woken : (s : ThreadTable) → threads_placing.IsPlaced s → (ids : List ℕ) (word : ℕ)
     → AllWoken s ids (wakes_all s ids word)
-all_woken s placed [] word = record { placed = placed; waits = λ t. refl }
+all_woken s placed [] word = record { placed = placed; live = λ t. refl; waits = λ t. refl }
 all_woken s placed (id ∷ ids) word =
     let next = threads.wakes s id word in
     let woken = (keeps_places s placed).wakes id word in
     let later = all_woken next woken ids word in
+    let moved = (moves_waits s placed).wakes id word in
     record {
       placed = later.placed;
+      live = λ t. later.live t ∙ moved.live t;
       waits = λ t. later.waits t
           ∙ woken_by (wait_of s t) (wait_of next t) (id == t) (times t ids) (times t (id ∷ ids))
-          (((moves_waits s placed).wakes id word).waits t) (times_first t id ids);
+          (moved.waits t) (times_first t id ids);
     }

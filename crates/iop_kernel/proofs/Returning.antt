@@ -1,5 +1,5 @@
 -- Where a service returns the module of the loader's thread, another thread may run.
-use Rattle.std.proofs.Common.{◌≡◌, ℕ, true, false, Option, Some, None, arith}
+use Rattle.std.proofs.Common.{◌≡◌, ℕ, true, Option, Some, None, arith}
 use Rattle.iop_libs.specs.Calls.{Sight, calls_row}
 use Rattle.iop_libs.specs.declared.answer.Answer.{Answer}
 use Rattle.iop_libs.specs.declared.answer.Answer.TheVariants.{Value, Unlisted, Fault as Faulted, Other}
@@ -8,15 +8,16 @@ use Rattle.iop_services.specs.declared.service.Service.{Service}
 use Rattle.iop_services.specs.declared.service.Service.TheVariants as service
 use Rattle.iop_kernel.specs.Serving.{call_of, serves_core, serves_board, serves, answers_by, calls_library, calls, services}
 use Rattle.iop_kernel.specs.Boards.{Board, board_of}
-use Rattle.iop_kernel.specs.System.{Core, System, may_switch}
+use Rattle.iop_kernel.specs.System.{Core, System, in_handler, may_switch}
 use Rattle.iop_kernel.specs.declared.after.After.TheVariants.{ModuleReturned}
 use Rattle.iop_kernel.specs.declared.call.Call.{Call}
-use Rattle.iop_kernel.specs.declared.call.Call.TheVariants.{Library, ThreadReturn, ModuleReturn}
+use Rattle.iop_kernel.specs.declared.call.Call.TheVariants.{Library, ThreadReturn, HandlerReturn, ModuleReturn}
 
 -- a service that looks at the kernel alone
 core_opens : (c : Core) (x : Service) (value : ℕ) → (serves_core c x).after ≡ ModuleReturned value
     → may_switch (serves_core c x).state.kernel ≡ true
 unfolding serves_core
+core_opens c service.CpuDisableIntr value e = grind (arith, e)
 core_opens c service.StartThread value e = grind (arith, e)
 core_opens c service.ExitThread value e = grind (arith, e)
 core_opens c service.TerminateThread value e = grind (arith, e)
@@ -31,6 +32,7 @@ core_opens c service.WakeupThread value e = grind (arith, e)
 core_opens c service.CancelWakeupThread value e = grind (arith, e)
 core_opens c service.SuspendThread value e = grind (arith, e)
 core_opens c service.ResumeThread value e = grind (arith, e)
+core_opens c service.DelayThread value e = grind (arith, e)
 core_opens c service.DeleteSema value e = grind (arith, e)
 core_opens c service.SignalSema value e = grind (arith, e)
 core_opens c service.WaitSema value e = grind (arith, e)
@@ -45,6 +47,12 @@ board_opens : (b : Board) (x : Service) (value : ℕ)
     → (serves_board b x).left.after ≡ ModuleReturned value
     → may_switch (serves_board b x).left.state.core.kernel ≡ true
 unfolding serves_board
+board_opens b service.DisableIntr value e = grind (arith, e)
+board_opens b service.CpuSuspendIntr value e = grind (arith, e)
+board_opens b service.GetSystemTime value e = grind (arith, e)
+board_opens b service.SetAlarm value e = grind (arith, e)
+board_opens b service.USec2SysClock value e = grind (arith, e)
+board_opens b service.SysClock2USec value e = grind (arith, e)
 board_opens b service.CreateSema value e = grind (arith, e)
 board_opens b service.ReferSemaStatus value e = grind (arith, e)
 board_opens b service.CreateEventFlag value e = grind (arith, e)
@@ -86,10 +94,12 @@ calls_open : (s : System) (o : Option Call) (value : ℕ)
 unfolding calls_library
 calls_open s None value e = absurd (cc e)
 calls_open s (Some ThreadReturn) value e = grind (arith, e)
+calls_open s (Some HandlerReturn) value e = grind (arith, e)
 calls_open s (Some ModuleReturn) value e = grind (arith, e)
 calls_open s (Some (Library library number)) value e =
     let sight : Sight = record { memory = s.memory; cpu = s.core.cpu } in
-    let called = calls_row sight s.blocks s.libraries false (row_of library number) in
+    let inside = in_handler s.core.kernel in
+    let called = calls_row sight s.blocks s.libraries inside (row_of library number) in
     answers_open library number (record s { blocks = called.blocks; libraries = called.libraries })
     called.answer value e
 

@@ -63,22 +63,22 @@ module _ (test : Service → Bool) where
   service_passes sight blocks libraries other is = cc
 
   -- what they answer to a call of a row
-  call_passes : (sight : Sight) (blocks : BlockMap) (libraries : List Entry) (o : Option Row)
-      → ((row : Row) → o ≡ Some row → test row.service ≡ true)
-      → answer_passes test (calls_row sight blocks libraries false o).answer ≡ true
+  call_passes : (sight : Sight) (blocks : BlockMap) (libraries : List Entry) (inside : Bool)
+      (o : Option Row) → ((row : Row) → o ≡ Some row → test row.service ≡ true)
+      → answer_passes test (calls_row sight blocks libraries inside o).answer ≡ true
   unfolding answer_passes
-  call_passes sight blocks libraries None passes = refl
-  call_passes sight blocks libraries (Some row) passes =
-      cond_both (allows row.context false) _ _
+  call_passes sight blocks libraries inside None passes = refl
+  call_passes sight blocks libraries inside (Some row) passes =
+      cond_both (allows row.context inside) _ _
       (λ (after : After). answer_passes test after.answer ≡ true)
       (λ allowed. service_passes sight blocks libraries row.service (passes row refl))
       (λ refused. refl)
 
   -- where all services of a library pass it
   pub library_passes : (sight : Sight) (blocks : BlockMap) (libraries : List Entry)
-      (library number : ℕ) → Pass test (rows_of library)
-      → answer_passes test (calls_row sight blocks libraries false (row_of library number)).answer
+      (inside : Bool) (library number : ℕ) → Pass test (rows_of library)
+      → answer_passes test (calls_row sight blocks libraries inside (row_of library number)).answer
       ≡ true
-  library_passes sight blocks libraries library number all =
-      call_passes sight blocks libraries (row_of library number)
+  library_passes sight blocks libraries inside library number all =
+      call_passes sight blocks libraries inside (row_of library number)
       (λ found is. row_passes test number (rows_of library) found all is)

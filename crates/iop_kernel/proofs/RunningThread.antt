@@ -1,10 +1,13 @@
--- Which operations leave the thread that runs, and after which none runs.
-use Rattle.std.proofs.Common.{◌≡◌, ℕ, true, false, None, refl, ◌∙◌}
+-- Which operations leave the thread that runs, and after which none runs; and that it is the one
+-- that calls, where one does.
+use Rattle.std.proofs.Common.{◌≡◌, ℕ, true, false, Option, Some, None, refl, ◌∙◌}
 use Rattle.iop_exec.specs.declared.cpu.Cpu.{Cpu}
 use Rattle.iop_thread.specs.Operations.{terminates, rotates, suspends}
 use Rattle.iop_thread.specs.Placing.{IsPlaced}
 use Rattle.iop_thread.specs.ThreadTable.{ThreadTable, is_it, has_priority, running_thread}
 use Rattle.iop_thread.proofs.Waits.{moves_waits}
+use Rattle.iop_kernel.specs.System.{Core, caller, caller_beside}
+use Rattle.iop_kernel.specs.declared.active_handler.ActiveHandler.{ActiveHandler}
 
 -- the same thread runs
 abbrev pub RunsOn : ThreadTable → ThreadTable → Type 0
@@ -33,3 +36,22 @@ module _ (s : ThreadTable) (placed : IsPlaced s) where
       → RunsOn s (suspends s id registers).1
   running_suspends id registers other =
       ((moves_waits s placed).suspends id registers).running ∙ rw other refl
+
+-- by the handler that runs, if one does
+outside_beside : (o : Option ActiveHandler) (running : Option ℕ) (id : ℕ)
+    → caller_beside o running ≡ Some id → (o ≡ None) × (running ≡ Some id)
+outside_beside None running id e = (refl, e)
+outside_beside (Some handler) running id e = absurd (cc e)
+
+-- where a thread calls, no handler runs
+pub calls_outside : (c : Core) (id : ℕ) → caller c ≡ Some id → c.kernel.handler ≡ None
+calls_outside c id e = (outside_beside c.kernel.handler c.kernel.threads.running id e).0
+
+-- and it is the one that runs
+pub caller_runs : (c : Core) (id : ℕ) → caller c ≡ Some id → c.kernel.threads.running ≡ Some id
+caller_runs c id e = (outside_beside c.kernel.handler c.kernel.threads.running id e).1
+
+-- where a handler calls, no thread does
+pub no_caller : (c : Core) (handler : ActiveHandler) → c.kernel.handler ≡ Some handler
+    → caller c ≡ None
+no_caller c handler e = rw e refl

@@ -3,13 +3,13 @@ use Rattle.std.proofs.Common.{◌≡◌, ◌+◌, ◌-◌, ℕ, Bool, true, fals
 use Rattle.std.specs.Prelude.{◌==◌, if◌then◌else◌, option_map, Result, Ok, Err}
 use Rattle.iop_base.specs.Numbers.{word_at}
 use Rattle.iop_base.specs.declared.code.Code.{Code}
-use Rattle.iop_base.specs.declared.code.TheConstants.Code.{OK, SEMAPHORE_ZERO}
+use Rattle.iop_base.specs.declared.code.TheConstants.Code.{OK, SEMAPHORE_ZERO, UNKNOWN_SEMAPHORE}
 use Rattle.iop_objects.specs.Objects.{object_of, state_of, waiters_in, waiters_of, with_state}
 use Rattle.iop_sema.specs.Semaphores as semaphores
 use Rattle.iop_sema.specs.Semaphores.{Semaphores, with_count}
 use Rattle.iop_sema.specs.declared.semaphore.Semaphore.{Semaphore}
 use Rattle.iop_stubs.specs.Stubs.{Memory}
-use Rattle.iop_kernel.specs.Boards.{Board, writes}
+use Rattle.iop_kernel.specs.Boards.{Board, quiet, writes}
 use Rattle.iop_kernel.specs.Semaphores.{LiveSemaphore, signals_by, waits_for_sema, takes_or_waits, creates_sema_at, create_sema, refers_sema_to, refers_sema_at, refer_sema_status}
 use Rattle.iop_kernel.specs.System.{Core, caller, with_semaphores, answers, answers_result, words_place}
 use Rattle.iop_kernel.specs.Waits.{is_code, wakes_with}
@@ -74,6 +74,22 @@ pub refers_live : (b : Board) (id at place : ℕ) (x : Semaphore) (count : ℕ)
 refers_live b id at place x count stands e long =
     sym (ap (refers_sema_at b id) stands)
     ∙ refers_for b id place (object_of b.core.kernel.semaphores.live id) x count e long
+
+-- by the semaphore of the id
+untold_for : (b : Board) (place : ℕ) (o : Option LiveSemaphore)
+    → None ≡ option_map (λ p. p.state) o
+    → refers_sema_to b place o ≡ quiet b.memory (answers b.core UNKNOWN_SEMAPHORE)
+untold_for b place None e = refl
+untold_for b place (Some o) e = cc
+
+-- there is none
+pub refers_none : (b : Board) (id at place : ℕ)
+    → Some place ≡ words_place b.memory at SEMAPHORE_STATUS_WORDS
+    → None ≡ state_of b.core.kernel.semaphores id
+    → refer_sema_status b id at ≡ quiet b.memory (answers b.core UNKNOWN_SEMAPHORE)
+refers_none b id at place stands e =
+    sym (ap (refers_sema_at b id) stands)
+    ∙ untold_for b place (object_of b.core.kernel.semaphores.live id) e
 
 -- a semaphore is made of the words at a place
 pub creates_there : (c : Core) (memory : Memory) (at place attr option initial most : ℕ)

@@ -5,7 +5,7 @@ use Rattle.iop_exec.specs.declared.cpu.Cpu.{Cpu}
 use Rattle.iop_thread.specs.Operations as threads
 use Rattle.iop_thread.proofs.DispatchSettling.{settles, settled_still}
 use Rattle.iop_kernel.specs.Dispatching.{Dispatched, dispatched, dispatches}
-use Rattle.iop_kernel.specs.System.{Kernel, Core, may_switch}
+use Rattle.iop_kernel.specs.System.{Kernel, Core, may_dispatch}
 
 -- the dispatch of the threads that one of the kernel is made of
 record IsMadeOf (c : Core) (d : Dispatched) : Type 0 where
@@ -24,7 +24,7 @@ made_by c d false o made e = absurd (cc e)
 is_made : (c : Core) (d : Dispatched) → dispatches c ≡ Some d → IsMadeOf c d
 unfolding dispatches
 is_made c d e =
-    made_by c d (may_switch c.kernel) (threads.dispatches c.kernel.threads c.cpu) refl e
+    made_by c d (may_dispatch c.kernel) (threads.dispatches c.kernel.threads c.cpu) refl e
 
 -- where the threads have none, there is none
 none_by : (k : Kernel) (b : Bool) (o : Option threads.Dispatch) → o ≡ None
@@ -39,7 +39,7 @@ settled_after : (c : Core) (did : threads.Dispatch)
 unfolding dispatches
 settled_after c did made =
     let next = (dispatched c.kernel did).core in
-    none_by next.kernel (may_switch next.kernel) _
+    none_by next.kernel (may_dispatch next.kernel) _
     (settles c.kernel.threads c.cpu next.cpu did made)
 
 -- a dispatch is followed by none
@@ -70,5 +70,5 @@ pub settled_later : (c : Core) (clock : ℕ) (cpu : Cpu) → dispatches c ≡ No
 unfolding dispatches
 settled_later c clock cpu e =
     let k = c.kernel in
-    still_by k (record k { clock = clock }) (may_switch k) (threads.dispatches k.threads c.cpu)
+    still_by k (record k { clock = clock }) (may_dispatch k) (threads.dispatches k.threads c.cpu)
     (threads.dispatches k.threads cpu) (settled_still k.threads c.cpu cpu) e

@@ -1,10 +1,11 @@
 -- Kernels that hold what others have, and what calls take.
-use Rattle.std.proofs.Common.{◌≡◌, Bool, Option, Some, None, List, refl, subst}
+use Rattle.std.proofs.Common.{◌≡◌, ◌++◌, Bool, Option, Some, None, List, refl, subst}
 use Rattle.iop_base.proofs.Giving.{gives_none, gives_then}
 use Rattle.iop_base.specs.Output.{Output, Gives}
 use Rattle.iop_base.specs.Piece.{Piece}
 use Rattle.iop_event.specs.EventFlags.{EventFlags}
 use Rattle.iop_exec.specs.declared.cpu.Cpu.{Cpu}
+use Rattle.iop_intr.specs.InterruptLines.{IrqLine}
 use Rattle.iop_ready.specs.declared.entry.Entry.{Entry}
 use Rattle.iop_registry.specs.declared.registry.Entry.{Entry as Library}
 use Rattle.iop_sema.specs.Semaphores.{Semaphores}
@@ -13,6 +14,7 @@ use Rattle.iop_sysmem.specs.BlockMap.{BlockMap}
 use Rattle.iop_thread.specs.Standing as threads
 use Rattle.iop_thread.specs.ThreadTable.{ThreadTable}
 use Rattle.iop_thread.specs.declared.threads.Threads.{Threads}
+use Rattle.iop_time.specs.Timers.{Timers}
 use Rattle.iop_kernel.specs.Boards.{Board, on_board, quiet}
 use Rattle.iop_kernel.specs.Dispatching.{Dispatched}
 use Rattle.iop_kernel.specs.System.{Kernel, System, Left, Done, Core, Served, after_pieces}
@@ -29,10 +31,14 @@ module _ {R : Type 0} (stands_for : R → List Entry → Type 0) {p : Program R}
     clock = h.clock;
     interrupts = h.interrupts;
     dispatching = h.dispatching;
+    handler = h.handler;
+    cause = h.cause;
     threads = now;
     semaphores = h.semaphores;
     event_flags = h.event_flags;
     mailboxes = h.mailboxes;
+    timers = h.timers;
+    irqs = h.irqs;
   }
 
   -- it has other semaphores
@@ -42,10 +48,14 @@ module _ {R : Type 0} (stands_for : R → List Entry → Type 0) {p : Program R}
     clock = h.clock;
     interrupts = h.interrupts;
     dispatching = h.dispatching;
+    handler = h.handler;
+    cause = h.cause;
     threads = h.threads;
     semaphores = now;
     event_flags = h.event_flags;
     mailboxes = h.mailboxes;
+    timers = h.timers;
+    irqs = h.irqs;
   }
 
   -- it has other event flags
@@ -55,10 +65,65 @@ module _ {R : Type 0} (stands_for : R → List Entry → Type 0) {p : Program R}
     clock = h.clock;
     interrupts = h.interrupts;
     dispatching = h.dispatching;
+    handler = h.handler;
+    cause = h.cause;
     threads = h.threads;
     semaphores = h.semaphores;
     event_flags = now;
     mailboxes = h.mailboxes;
+    timers = h.timers;
+    irqs = h.irqs;
+  }
+
+  -- it has other alarms and delays
+  pub holds_timers : {t s : Timers} → Holds stands_for p k → s ≡ t
+      → Holds stands_for (record p { timers = t }) (record k { timers = s })
+  holds_timers h now = record {
+    clock = h.clock;
+    interrupts = h.interrupts;
+    dispatching = h.dispatching;
+    handler = h.handler;
+    cause = h.cause;
+    threads = h.threads;
+    semaphores = h.semaphores;
+    event_flags = h.event_flags;
+    mailboxes = h.mailboxes;
+    timers = now;
+    irqs = h.irqs;
+  }
+
+  -- it has other interrupt lines
+  pub holds_irqs : {t s : List IrqLine} → Holds stands_for p k → s ≡ t
+      → Holds stands_for (record p { irqs = t }) (record k { irqs = s })
+  holds_irqs h now = record {
+    clock = h.clock;
+    interrupts = h.interrupts;
+    dispatching = h.dispatching;
+    handler = h.handler;
+    cause = h.cause;
+    threads = h.threads;
+    semaphores = h.semaphores;
+    event_flags = h.event_flags;
+    mailboxes = h.mailboxes;
+    timers = h.timers;
+    irqs = now;
+  }
+
+  -- interrupts are on, or off
+  pub holds_interrupts : (on : Bool) → Holds stands_for p k
+      → Holds stands_for (record p { interrupts = on }) (record k { interrupts = on })
+  holds_interrupts on h = record {
+    clock = h.clock;
+    interrupts = refl;
+    dispatching = h.dispatching;
+    handler = h.handler;
+    cause = h.cause;
+    threads = h.threads;
+    semaphores = h.semaphores;
+    event_flags = h.event_flags;
+    mailboxes = h.mailboxes;
+    timers = h.timers;
+    irqs = h.irqs;
   }
 
 -- after a dispatch, made or not, it stands for some kernel
@@ -74,6 +139,13 @@ pub takes_quiet : {R : Type 0} {stands_for : R → List Entry → Type 0} (memor
     → TakesCore stands_for left after p cpu
     → TakesBoard stands_for (quiet memory left) after p cpu memory a a
 takes_quiet memory a h = record { core = h; ram = refl; gives = gives_none a }
+
+-- pieces are given before a call
+pub takes_after : {R : Type 0} {stands_for : R → List Entry → Type 0} {done : Done Board}
+    {after : After} {p : Program R} {cpu : Cpu} {memory : Memory} {a b c : Output}
+    {pieces : List Piece} → Gives a b pieces → TakesBoard stands_for done after p cpu memory b c
+    → TakesBoard stands_for (record done { pieces = pieces ++ done.pieces }) after p cpu memory a c
+takes_after g h = record { core = h.core; ram = h.ram; gives = gives_then g h.gives }
 
 -- a call that looks at the kernel and memory alone leaves all the rest
 pub serves_board : {R : Type 0} {stands_for : R → List Entry → Type 0} (s : System)

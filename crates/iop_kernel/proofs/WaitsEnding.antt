@@ -4,16 +4,17 @@ use Rattle.iop_thread.specs.Operations.{wakes}
 use Rattle.iop_thread.specs.Placing.{IsPlaced}
 use Rattle.iop_thread.specs.ThreadTable.{ThreadTable}
 use Rattle.iop_thread.specs.declared.wait.Wait.{Wait}
-use Rattle.iop_thread.specs.declared.wait.Wait.TheVariants.{Semaphore, EventFlag, Mailbox}
+use Rattle.iop_thread.specs.declared.wait.Wait.TheVariants.{Delay, Semaphore, EventFlag, Mailbox}
 use Rattle.iop_thread.proofs.Placed.{keeps_places}
 use Rattle.iop_thread.proofs.Waits.{moves_waits}
 use Rattle.iop_kernel.specs.System.{Kernel}
 use Rattle.iop_kernel.specs.Waits.{leaves_object, requeues_at, wakes_all}
 use Rattle.iop_kernel.proofs.Steady.{AreSteady, keeps_steady}
 
--- a thread that no longer waits for an object changes no thread
+-- a thread that no longer waits for an object or for a time changes no thread
 pub leaves_threads : (k : Kernel) (thread : ℕ) (wait : Option Wait)
     → (leaves_object k thread wait).threads ≡ k.threads
+leaves_threads k thread (Some Delay) = refl
 leaves_threads k thread (Some (Semaphore id)) = refl
 leaves_threads k thread (Some (EventFlag id)) = refl
 leaves_threads k thread (Some (Mailbox id)) = refl

@@ -1,6 +1,7 @@
 -- Services that look at the kernel, its processor and memory alone: what they read and write there.
 use Rattle.std.specs.Prelude.{ℕ, ◌+◌, ◌*◌, ◌==◌, if◌then◌else◌, Option, Some, None, option_map, List, [], ◌∷◌, ◌++◌, length}
 use Rattle.iop_base.specs.Numbers.{number_at, bytes_of}
+use Rattle.iop_base.specs.declared.code.Code.{Code}
 use Rattle.iop_base.specs.declared.code.TheConstants.Code.{OK}
 use Rattle.iop_stubs.specs.Stubs.{Memory, after_store, store_lines}
 use Rattle.iop_kernel.specs.System.{Core, Left, System, Done, Served, answers, words_place}
@@ -35,18 +36,22 @@ abbrev pub bytes_of_words : List ℕ → List ℕ
 bytes_of_words [] = []
 bytes_of_words (word ∷ words) = bytes_of 4 word ++ bytes_of_words words
 
--- words are written at a physical place, if there is one, and the caller goes on with 0
-abbrev pub writes : Memory → Option ℕ → List ℕ → Core → Done Board
-writes memory place words c = record {
+-- words are written at a physical place, if there is one, and the caller goes on with a code
+abbrev pub writes_with : Memory → Option ℕ → List ℕ → Core → Code → Done Board
+writes_with memory place words c code = record {
   left = record {
     state = record {
-      core = (answers c OK).state;
+      core = (answers c code).state;
       memory = after_store memory place (bytes_of_words words);
     };
-    after = (answers c OK).after;
+    after = (answers c code).after;
   };
   pieces = store_lines c.kernel.clock memory place (length (bytes_of_words words));
 }
+
+-- the same, with 0
+abbrev pub writes : Memory → Option ℕ → List ℕ → Core → Done Board
+writes memory place words c = writes_with memory place words c OK
 
 -- word k of those that stand at a physical place
 abbrev pub word_in : Memory → (place k : ℕ) → ℕ

@@ -5,7 +5,7 @@ use Rattle.iop_base.specs.Piece.{Piece, Traced}
 use Rattle.iop_base.specs.Text.{line_bytes}
 use Rattle.iop_base.specs.declared.line.Line.TheVariants.{Run}
 use Rattle.iop_thread.specs.Operations as threads
-use Rattle.iop_kernel.specs.System.{Kernel, Core, may_switch}
+use Rattle.iop_kernel.specs.System.{Kernel, Core, may_dispatch}
 
 -- what a dispatch leaves, and its line
 pub record Dispatched : Type 0 where
@@ -18,9 +18,9 @@ dispatched k d = record {
   line = Traced (line_bytes k.clock (Run d.id));
 }
 
--- the best ready thread runs, where interrupts are on and dispatch is enabled, and no thread runs
--- or a worse one
+-- the best ready thread runs, where interrupts are on and dispatch is enabled, no handler runs, and
+-- no thread or a worse one
 unfoldable pub dispatches : Core → Option Dispatched
 dispatches c =
-    if may_switch c.kernel
+    if may_dispatch c.kernel
     then option_map (dispatched c.kernel) (threads.dispatches c.kernel.threads c.cpu) else None

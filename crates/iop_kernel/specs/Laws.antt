@@ -1,5 +1,5 @@
--- What the laws of the kernel say: what holds of it at all times, and what its services and
--- dispatch leave as it was.
+-- What the laws of the kernel say: what holds of it at all times, and what its services,
+-- deliveries and dispatch leave as it was.
 use Rattle.std.specs.Prelude.{◌≡◌, ◌≢◌, ℕ, ◌+◌, ◌<◌, ◌≤◌, nat_le, ◌&&◌, Bool, true, false, Some, None, IfSome, List, [], ◌∷◌, ◌++◌, length, map, All, Contains}
 use Rattle.iop_base.specs.Piece.{Piece, Traced}
 use Rattle.iop_base.specs.Text.{line_bytes}
@@ -15,14 +15,15 @@ use Rattle.iop_thread.specs.States.{kept_registers}
 use Rattle.iop_thread.specs.ThreadTable.{ThreadTable, priority_of}
 use Rattle.iop_thread.specs.declared.thread.Thread.{Thread}
 use Rattle.iop_thread.specs.declared.thread.TheConstants.{LOADER}
+use Rattle.iop_kernel.specs.declared.active_handler.ActiveHandler.{ActiveHandler}
 use Rattle.iop_kernel.specs.declared.after.After.{After}
 use Rattle.iop_kernel.specs.declared.after.After.TheVariants.{Resume, Switch, ModuleReturned, Fault}
 use Rattle.iop_kernel.specs.Dispatching.{Dispatched, dispatches}
 use Rattle.iop_kernel.specs.Serving.{services, calls_library}
 use Rattle.iop_kernel.specs.Overdue.{NoneOverdue}
 use Rattle.iop_kernel.specs.Placing.{IsPlaced}
-use Rattle.iop_kernel.specs.System.{Kernel, Core, System, Served, may_switch, caller, opened}
-use Rattle.iop_kernel.specs.declared.call.TheConstants.{THBASE, THSEMAP, THEVENT, THMSGBX}
+use Rattle.iop_kernel.specs.System.{Kernel, Core, System, Served, is_active, may_dispatch, caller, opened}
+use Rattle.iop_kernel.specs.declared.call.TheConstants.{INTRMAN, THBASE, THSEMAP, THEVENT, THMSGBX}
 
 -- a processor has its registers
 abbrev pub HasRegisters : Cpu → Type 0
@@ -32,20 +33,31 @@ HasRegisters c = length c.regs ≡ 32
 abbrev pub KeepRegisters : ThreadTable → Type 0
 KeepRegisters s = All (λ t. IfSome (kept_registers t.state) HasRegisters) s.live
 
+-- where no thread runs, another may: at once, or once the handler that runs has returned
+pub record IsAwake (k : Kernel) : Type 0 where
+  pub dispatching : k.dispatching ≡ true
+  pub interrupts : k.handler ≡ None → k.interrupts ≡ true
+
+-- the registers that a handler keeps are such that a thread can go on with them
+pub record HandlerKeeps (handler : ActiveHandler) : Type 0 where
+  pub registers : HasRegisters handler.kept
+  pub straight : IsStraight handler.kept
+
 -- what holds of the kernel and its processor at all times
 pub record IsCore (c : Core) : Type 0 where
-  -- each thread stands where its state says, and each that waits for an object is among its waiters
+  -- each thread stands where its state says, and each that waits is among the waiters of its object
+  -- or has a delay
   pub placed : IsPlaced c.kernel
   -- no wait is overdue
   pub overdue : NoneOverdue c.kernel
-  -- where none runs, another may
-  pub awake : c.kernel.threads.running ≡ None → may_switch c.kernel ≡ true
+  pub awake : c.kernel.threads.running ≡ None → IsAwake c.kernel
   -- outside a delay slot the next instruction is the one behind
   pub straight : IsStraight c.cpu
   pub threads : AreStraight c.kernel.threads
   -- the processor has its registers, and each thread
   pub registers : HasRegisters c.cpu
   pub kept : KeepRegisters c.kernel.threads
+  pub handler : IfSome c.kernel.handler HandlerKeeps
 
 -- bytes that are stored at a physical place
 pub record Store : Type 0 where
@@ -84,10 +96,35 @@ Follows (ModuleReturned word) s id left pieces =
     (id ≡ LOADER) × (left ≡ record s { core = opened s.core }) × (pieces ≡ [])
 Follows (Fault kind) s id left pieces = (left ≡ s) × (pieces ≡ [])
 
+-- what has become of the handler that called, by what is answered. After its return interrupts are
+-- on, and the processor has what was kept
+pub record HasReturned (s : System) (handler : ActiveHandler) (left : System) : Type 0 where
+  pub none : left.core.kernel.handler ≡ None
+  pub interrupts : left.core.kernel.interrupts ≡ true
+  pub registers : left.core.cpu ≡ handler.kept
+  -- nothing else changes but its line or its alarm
+  pub kernel : left.core.kernel
+      ≡ record s.core.kernel {
+        interrupts = true;
+        handler = None;
+        timers = left.core.kernel.timers;
+        irqs = left.core.kernel.irqs;
+      }
+
+abbrev pub HandlerFollows : After → System → ActiveHandler → System → List Piece → Type 0
+HandlerFollows Resume s handler left pieces = left.core.kernel.handler ≡ Some handler
+HandlerFollows Switch s handler left pieces = HasReturned s handler left
+HandlerFollows (ModuleReturned word) s handler left pieces = ⊥
+HandlerFollows (Fault kind) s handler left pieces = (left ≡ s) × (pieces ≡ [])
+
 -- what each service keeps
 pub record ServiceKeeps (s : System) (d : Served) : Type 0 where
   pub follows : (id : ℕ) → IsPlaced s.core.kernel → caller s.core ≡ Some id
       → Follows d.left.after s id d.left.state d.pieces
+  pub handler_follows : (handler : ActiveHandler) → s.core.kernel.handler ≡ Some handler
+      → HandlerFollows d.left.after s handler d.left.state d.pieces
+  -- it takes one number at most for an alarm or a delay
+  pub numbers : d.left.state.core.kernel.timers.next ≤ s.core.kernel.timers.next + 1
   pub core : IsCore s.core → IsCore d.left.state.core
   pub clock : d.left.state.core.kernel.clock ≡ s.core.kernel.clock
   pub memory : Writes s d.left.state.memory d.pieces
@@ -95,7 +132,7 @@ pub record ServiceKeeps (s : System) (d : Served) : Type 0 where
 
 abbrev pub ServicesKeep : Type 0
 ServicesKeep =
-    (s : System) (code id : ℕ) → caller s.core ≡ Some id → ServiceKeeps s (services s code)
+    (s : System) (code : ℕ) → is_active s.core.kernel ≡ true → ServiceKeeps s (services s code)
 
 -- the objects of a kind are those that they were: no thread begins to wait for any, and what the
 -- waiters want stays
@@ -107,15 +144,21 @@ pub record KeepsObjects {A W : Type 0} (old new : Objects A W) : Type 0 where
   -- nor is an id given
   pub next : new.next ≡ old.next
 
--- whether a library is one of threads and of what they wait for
-abbrev pub serves_threads : ℕ → Bool
-serves_threads library = nat_le THBASE library && nat_le library THMSGBX
+-- whether a library is one of interrupts, or of threads and of what they wait for
+abbrev pub serves_kernel : ℕ → Bool
+serves_kernel library = nat_le INTRMAN library && nat_le library THMSGBX
 
--- only the services of an object's own library change what is known of it; the services of the other
--- libraries leave threads and objects as they were
+-- only the services of an object's own library change what is known of it; those of intrman alone
+-- change the interrupt lines, and nothing else but whether interrupts are on; those of thbase alone
+-- change alarms and delays; and the services of the other libraries leave the kernel as it was
 pub record ServicesStayApart (s : System) (library number : ℕ) (left : Kernel) : Type 0 where
-  pub kernel : serves_threads library ≡ false → left ≡ s.core.kernel
-  pub libraries : serves_threads library ≡ true
+  pub kernel : serves_kernel library ≡ false → left ≡ s.core.kernel
+  pub intrman : library ≡ INTRMAN
+      → left ≡ record s.core.kernel { interrupts = left.interrupts; irqs = left.irqs }
+  pub irqs : library ≢ INTRMAN → left.irqs ≡ s.core.kernel.irqs
+  pub timers : library ≢ THBASE → left.timers ≡ s.core.kernel.timers
+  pub handler : left.handler ≡ s.core.kernel.handler
+  pub libraries : serves_kernel library ≡ true
       → (calls_library library number s).left.state.libraries ≡ s.libraries
   pub semaphores : library ≢ THSEMAP → KeepsObjects s.core.kernel.semaphores left.semaphores
   pub event_flags : library ≢ THEVENT → KeepsObjects s.core.kernel.event_flags left.event_flags
@@ -145,9 +188,11 @@ pub record DispatchKeeps (c : Core) (d : Dispatched) : Type 0 where
   pub switch : IsSwitch c d
   -- only the threads change
   pub kernel : d.core.kernel ≡ record c.kernel { threads = d.core.kernel.threads }
+  -- and no handler runs
+  pub handler : c.kernel.handler ≡ None
 
 pub record DispatchesAreStrict : Type 0 where
   pub dispatched : (c : Core) (d : Dispatched) → IsCore c → dispatches c ≡ Some d → DispatchKeeps c d
   -- where there is none, though another thread may run, none is better
-  pub settled : (c : Core) → IsCore c → dispatches c ≡ None → may_switch c.kernel ≡ true
+  pub settled : (c : Core) → IsCore c → dispatches c ≡ None → may_dispatch c.kernel ≡ true
       → IsSettled c.kernel.threads

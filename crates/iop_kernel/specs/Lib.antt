@@ -7,10 +7,16 @@ pub mod Waiting
 pub mod Creating
 pub mod Deleting
 pub mod Status
+pub mod Handlers
+pub mod Interrupts
+pub mod Timing
+pub mod Deliveries
 pub mod Serving
 pub mod Dispatching
 pub mod Standing
 pub mod Laws
+pub mod DeliveryLaws
+pub mod HandlerLaws
 pub mod StatusLaws
 pub mod WakingLaws
 pub mod Boards

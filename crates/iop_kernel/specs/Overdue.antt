@@ -8,6 +8,7 @@ use Rattle.iop_objects.specs.Objects.{state_of, waiters_of}
 use Rattle.iop_sema.specs.Semaphores.{Semaphores}
 use Rattle.iop_sema.specs.declared.semaphore.Semaphore.{Semaphore}
 use Rattle.iop_thread.specs.Laws.{SleepersAreUnwoken}
+use Rattle.iop_time.specs.Laws.{NoneHasCome}
 use Rattle.iop_kernel.specs.System.{Kernel}
 
 -- a semaphore for which a thread waits has count 0
@@ -25,6 +26,11 @@ NoConditionHolds s =
 abbrev pub HasNoMessage : Mailboxes → Type 0
 HasNoMessage s =
     (id : ℕ) (x : Mailbox) → state_of s id ≡ Some x → (waiters_of s id ≡ []) ⊎ (x.messages ≡ [])
+
+-- no alarm and no delay has come: so it is wherever a thread executes an instruction, with
+-- interrupts on, that stands in no slot
+abbrev pub NoMomentHasCome : Kernel → Type 0
+NoMomentHasCome k = NoneHasCome k.timers k.clock
 
 pub record NoneOverdue (k : Kernel) : Type 0 where
   pub semaphores : CountIsZero k.semaphores

@@ -1,5 +1,5 @@
 -- Where threads and those that wait stand, at all times (ps2sdk: thread.h): a law of the services.
-use Rattle.std.specs.Prelude.{◌≡◌, ◌≢◌, ℕ, ◌<◌, ◌==◌, Bool, false, Option, Some, All, AllPairs}
+use Rattle.std.specs.Prelude.{◌≡◌, ◌≢◌, ℕ, ◌<◌, ◌≤◌, ◌==◌, Bool, true, false, Option, Some, length, map, All, AllPairs}
 use Rattle.iop_exec.specs.Arithmetic.{one_if}
 use Rattle.iop_objects.specs.Objects.{Objects, waiters_of}
 use Rattle.iop_thread.specs.Placing as threads
@@ -7,9 +7,16 @@ use Rattle.iop_thread.specs.Placing.{times}
 use Rattle.iop_thread.specs.ThreadTable.{ThreadTable}
 use Rattle.iop_thread.specs.Waits.{wait_of}
 use Rattle.iop_thread.specs.declared.wait.Wait.{Wait}
-use Rattle.iop_thread.specs.declared.wait.Wait.TheVariants.{Semaphore, EventFlag, Mailbox}
+use Rattle.iop_thread.specs.declared.wait.Wait.TheVariants.{Delay, Semaphore, EventFlag, Mailbox}
+use Rattle.iop_time.specs.Timers.{Timers, AreTimers}
+use Rattle.iop_time.specs.declared.clock.TheConstants.{MOST_DELAYS}
 use Rattle.iop_kernel.specs.System.{Kernel}
 use Rattle.iop_kernel.specs.Waits.{threads_of}
+
+-- whether that is a time
+abbrev pub is_for_delay : Option Wait → Bool
+is_for_delay (Some Delay) = true
+is_for_delay other = false
 
 -- whether that is the semaphore, the event flag or the mailbox of an id
 abbrev pub is_for_semaphore : ℕ → Option Wait → Bool
@@ -33,8 +40,19 @@ pub record AreWaited {A W : Type 0} (s : Objects A W) (is_for : ℕ → Option W
   pub ids : AllPairs (λ a b. a.id ≢ b.id) s.live
   pub given : All (λ o. o.id < s.next) s.live
 
+-- the threads that wait for a time are those whose delays stand, each once
+pub record AreDelayed (timers : Timers) (threads : ThreadTable) : Type 0 where
+  pub delays : (thread : ℕ)
+      → times thread (map (λ delay. delay.thread) timers.delays)
+      ≡ one_if (is_for_delay (wait_of threads thread))
+  -- what holds of every clock holds
+  pub kept : AreTimers timers
+  -- and each live thread has room for a delay
+  pub room : length threads.live ≤ MOST_DELAYS
+
 pub record IsPlaced (k : Kernel) : Type 0 where
   pub threads : threads.IsPlaced k.threads
   pub semaphores : AreWaited k.semaphores is_for_semaphore k.threads
   pub event_flags : AreWaited k.event_flags is_for_event_flag k.threads
   pub mailboxes : AreWaited k.mailboxes is_for_mailbox k.threads
+  pub delays : AreDelayed k.timers k.threads

@@ -13,32 +13,44 @@ use Rattle.iop_services.specs.declared.service.Service.{Service}
 use Rattle.iop_services.specs.declared.service.Service.TheVariants as service
 use Rattle.iop_services.specs.Table.{row_of}
 use Rattle.iop_kernel.specs.declared.call.Call.{Call}
-use Rattle.iop_kernel.specs.declared.call.Call.TheVariants.{Library, ThreadReturn, ModuleReturn}
-use Rattle.iop_kernel.specs.declared.call.TheConstants.{THREAD_RETURN_CALL, MODULE_RETURN_CALL, SERVICES}
-use Rattle.iop_kernel.specs.System.{Core, Left, System, Done, Served, argument, resumes, faults, silent, after_pieces, on_core}
+use Rattle.iop_kernel.specs.declared.call.Call.TheVariants.{Library, ThreadReturn, HandlerReturn, ModuleReturn}
+use Rattle.iop_kernel.specs.declared.call.TheConstants.{THREAD_RETURN_CALL, HANDLER_RETURN_CALL, MODULE_RETURN_CALL, SERVICES}
+use Rattle.iop_kernel.specs.System.{Core, Left, System, Done, Served, in_handler, argument, resumes, faults, silent, after_pieces, on_core}
 use Rattle.iop_kernel.specs.Boards.{Board, board_of, on_board, quiet}
 use Rattle.iop_kernel.specs.Creating.{create_thread}
 use Rattle.iop_kernel.specs.Deleting.{delete_thread, exit_delete_thread, owner_of, on_owner}
 use Rattle.iop_kernel.specs.EventFlags.{create_event_flag, delete_event_flag, set_event_flag, clear_event_flag, wait_event_flag, poll_event_flag, refer_event_flag_status}
+use Rattle.iop_kernel.specs.Handlers.{return_handler}
+use Rattle.iop_kernel.specs.Interrupts.{register_handler, release_handler, enable_line, disable_line, disable_interrupts, enable_interrupts, suspend_interrupts, resume_interrupts, query_context}
 use Rattle.iop_kernel.specs.Mailboxes.{create_mbx, delete_mbx, send_mbx, receive_mbx, poll_mbx, refer_mbx_status}
 use Rattle.iop_kernel.specs.Naming.{get_thread_id}
 use Rattle.iop_kernel.specs.Ordering.{set_dispatch, change_priority, rotate_ready_queue}
 use Rattle.iop_kernel.specs.Running.{start_thread, exit_thread, return_module, terminate_thread}
 use Rattle.iop_kernel.specs.Semaphores.{create_sema, delete_sema, signal_sema, wait_sema, poll_sema, refer_sema_status}
 use Rattle.iop_kernel.specs.Status.{refer_thread_status}
+use Rattle.iop_kernel.specs.Timing.{delay_thread, get_system_time, set_alarm, cancel_alarm, usec_to_clock, clock_to_usec}
 use Rattle.iop_kernel.specs.Waiting.{release_wait, sleep_thread, wakeup_thread, cancel_wakeups, suspend_thread, resume_thread}
 
 -- what a code calls, if it has a meaning: service n of library L has the code L * 256 + n
 abbrev pub call_of : ℕ → Option Call
 call_of code =
     if code == THREAD_RETURN_CALL then Some ThreadReturn
+    else if code == HANDLER_RETURN_CALL then Some HandlerReturn
     else if code == MODULE_RETURN_CALL then Some ModuleReturn
     else if nat_lt (code / 256) (length KERNEL_LIBRARIES) && nat_lt (code % 256) SERVICES
     then Some (Library (code / 256) (code % 256))
     else None
 
--- a service that looks at the kernel alone; one that is not built faults
+-- a service that looks at the kernel alone; there is no other
 unfoldable pub serves_core : Core → Service → Left Core
+serves_core c service.RegisterIntrHandler =
+    register_handler c (argument c 0) (argument c 2) (argument c 3)
+serves_core c service.ReleaseIntrHandler = release_handler c (argument c 0)
+serves_core c service.EnableIntr = enable_line c (argument c 0)
+serves_core c service.CpuDisableIntr = disable_interrupts c
+serves_core c service.CpuEnableIntr = enable_interrupts c
+serves_core c service.CpuResumeIntr = resume_interrupts c (argument c 0)
+serves_core c service.QueryIntrContext = query_context c
 serves_core c service.StartThread = start_thread c (argument c 0) (argument c 1)
 serves_core c service.ExitThread = exit_thread c
 serves_core c service.TerminateThread = terminate_thread c (argument c 0)
@@ -53,6 +65,8 @@ serves_core c service.WakeupThread = wakeup_thread c (argument c 0)
 serves_core c service.CancelWakeupThread = cancel_wakeups c (argument c 0)
 serves_core c service.SuspendThread = suspend_thread c (argument c 0)
 serves_core c service.ResumeThread = resume_thread c (argument c 0)
+serves_core c service.DelayThread = delay_thread c (argument c 0)
+serves_core c service.CancelAlarm = cancel_alarm c (argument c 0) (argument c 1)
 serves_core c service.DeleteSema = delete_sema c (argument c 0)
 serves_core c service.SignalSema = signal_sema c (argument c 0)
 serves_core c service.WaitSema = wait_sema c (argument c 0)
@@ -68,6 +82,15 @@ wanted c = record { bits = argument c 1; mode = argument c 2; place = argument c
 
 -- a service that looks at the kernel and at memory
 unfoldable pub serves_board : Board → Service → Done Board
+serves_board b service.DisableIntr = disable_line b (argument b.core 0) (argument b.core 1)
+serves_board b service.CpuSuspendIntr = suspend_interrupts b (argument b.core 0)
+serves_board b service.GetSystemTime = get_system_time b (argument b.core 0)
+serves_board b service.SetAlarm =
+    quiet b.memory
+    (set_alarm b.core b.memory (argument b.core 0) (argument b.core 1) (argument b.core 2))
+serves_board b service.USec2SysClock = usec_to_clock b (argument b.core 0) (argument b.core 1)
+serves_board b service.SysClock2USec =
+    clock_to_usec b (argument b.core 0) (argument b.core 1) (argument b.core 2)
 serves_board b service.CreateSema =
     quiet b.memory (create_sema b.core b.memory (argument b.core 0))
 serves_board b service.ReferSemaStatus =
@@ -108,19 +131,22 @@ module _ (library number : ℕ) where
   answers_by s Fault = silent (faults s faults_of.Address)
   answers_by s (Other service) = serves s service
 
-  -- a call of service `number` of a library
+  -- a call of service `number` of a library, from a handler or from a thread
   unfoldable pub calls_library : System → Served
   calls_library s =
       let sight : Sight = record { memory = s.memory; cpu = s.core.cpu } in
-      let called = calls_row sight s.blocks s.libraries false (row_of library number) in
-      after_pieces (row_pieces sight false (row_of library number))
+      let inside = in_handler s.core.kernel in
+      let called = calls_row sight s.blocks s.libraries inside (row_of library number) in
+      after_pieces (row_pieces sight inside (row_of library number))
       (answers_by (record s { blocks = called.blocks; libraries = called.libraries })
       called.answer)
 
--- by what is called; the thread's return is its end
+-- by what is called; the thread's return is its end. From a handler its own return alone has a
+-- meaning, and only there
 abbrev pub calls : System → Option Call → Served
 calls s None = silent (faults s faults_of.Service)
 calls s (Some ThreadReturn) = silent (on_core s (exit_thread s.core))
+calls s (Some HandlerReturn) = silent (on_core s (return_handler s.core))
 calls s (Some ModuleReturn) = silent (on_core s (return_module s.core))
 calls s (Some (Library library number)) = calls_library library number s
 

@@ -1,7 +1,9 @@
 -- How the program's kernel stands for the kernel.
-use Rattle.std.specs.Prelude.{◌≡◌, ◌<◌, Bool, true, false, Option, Some, None, is_some, List, [], ◌∷◌, length}
+use Rattle.std.specs.Prelude.{◌≡◌, ◌<◌, ◌-◌, ◌^◌, Bool, true, false, ⊤, Option, Some, None, IfSome, List, [], ◌∷◌, length}
+use Rattle.std.specs.List.{list_any}
 use Rattle.iop_base.specs.Output.{Output, Gives}
 use Rattle.iop_exec.specs.declared.cpu.Cpu.{Cpu}
+use Rattle.iop_intr.specs.declared.irqs.TheConstants.{IRQ_LINES}
 use Rattle.iop_objects.specs.Objects.{waiting}
 use Rattle.iop_objects.specs.declared.objects.TheConstants.{MOST_WAITERS}
 use Rattle.iop_ready.specs.declared.entry.Entry.{Entry}
@@ -9,13 +11,23 @@ use Rattle.iop_registry.specs.declared.registry.Entry.{Entry as Library}
 use Rattle.iop_stubs.specs.Stubs.{Memory}
 use Rattle.iop_sysmem.specs.BlockMap.{BlockMap}
 use Rattle.iop_thread.specs.Standing as threads
+use Rattle.iop_time.specs.Timers.{is_delay_of}
+use Rattle.iop_time.specs.declared.clock.TheConstants.{MOST_DELAYS}
+use Rattle.iop_kernel.specs.Deliveries.{Delivered}
 use Rattle.iop_kernel.specs.Dispatching.{Dispatched}
 use Rattle.iop_kernel.specs.Deleting.{Owner}
 use Rattle.iop_kernel.specs.Boards.{Board}
 use Rattle.iop_kernel.specs.Placing.{IsPlaced}
-use Rattle.iop_kernel.specs.System.{Kernel, Core, System, Left, Done, Served}
+use Rattle.iop_kernel.specs.System.{Kernel, Core, System, Left, Done, Served, is_active}
+use Rattle.iop_kernel.specs.declared.active_handler.Cause.{Cause}
+use Rattle.iop_kernel.specs.declared.active_handler.Cause.TheVariants.{Line, Alarm}
 use Rattle.iop_kernel.specs.declared.after.After.{After}
 use Rattle.iop_kernel.specs.declared.kernel.Kernel.{Kernel as Program}
+
+-- where a handler was begun for a line, it is one of the lines
+abbrev pub IsCause : Cause → Type 0
+IsCause (Line line) = line < IRQ_LINES
+IsCause (Alarm number) = ⊤
 
 module _ {R : Type 0} (stands_for : R → List Entry → Type 0) where
   -- it holds what the kernel has
@@ -23,10 +35,14 @@ module _ {R : Type 0} (stands_for : R → List Entry → Type 0) where
     pub clock : s.clock ≡ k.clock
     pub interrupts : s.interrupts ≡ k.interrupts
     pub dispatching : s.dispatching ≡ k.dispatching
+    pub handler : s.handler ≡ k.handler
+    pub cause : IfSome s.handler (λ handler. IsCause handler.cause)
     pub threads : threads.Stands stands_for k.threads s.threads
     pub semaphores : s.semaphores ≡ k.semaphores
     pub event_flags : s.event_flags ≡ k.event_flags
     pub mailboxes : s.mailboxes ≡ k.mailboxes
+    pub timers : s.timers ≡ k.timers
+    pub irqs : s.irqs ≡ k.irqs
 
   -- it holds what some kernel has
   abbrev pub IsHeld : Program R → Type 0
@@ -41,9 +57,25 @@ module _ {R : Type 0} (stands_for : R → List Entry → Type 0) where
   abbrev pub IsSound : Program R → Type 0
   IsSound k = (s : Kernel) × Stands k s
 
-  -- it stands for some kernel, in which a thread runs
+  -- it stands for some kernel, in which a thread or a handler executes
   abbrev pub IsActive : Program R → Type 0
-  IsActive k = (s : Kernel) × Stands k s × (is_some s.threads.running ≡ true)
+  IsActive k = (s : Kernel) × Stands k s × (is_active s ≡ true)
+
+  -- it holds some kernel, in which the thread that runs has no delay
+  pub record IsUndelayed (k : Program R) : Type 0 where
+    pub kernel : Kernel
+    pub holds : Holds k kernel
+    pub free : IfSome kernel.threads.running
+        (λ thread. list_any (is_delay_of thread) kernel.timers.delays ≡ false)
+
+  -- the thread that calls, if one does and not a handler, has no delay, and there is room for it
+  -- among those that wait
+  pub record HasRoomToWait (k : Program R) : Type 0 where
+    pub undelayed : IsUndelayed k
+    pub delays : k.handler ≡ None → length k.timers.delays < MOST_DELAYS
+    pub semaphores : k.handler ≡ None → waiting k.semaphores < MOST_WAITERS
+    pub event_flags : k.handler ≡ None → waiting k.event_flags < MOST_WAITERS
+    pub mailboxes : k.handler ≡ None → waiting k.mailboxes < MOST_WAITERS
 
   -- the kernel and its processor after a call which answered what becomes of its caller
   pub record TakesCore (left : Left Core) (after : After) (k : Program R) (cpu : Cpu) : Type 0 where
@@ -89,6 +121,14 @@ module _ {R : Type 0} (stands_for : R → List Entry → Type 0) where
   Dispatches c (Some d) result k cpu old new =
       (result ≡ true) × Stands k d.core.kernel × (cpu ≡ d.core.cpu) × Gives old new (d.line ∷ [])
 
+  -- whether a delivery was made, what it left, and its line
+  abbrev pub Delivers : Core → Option Delivered → Bool → Program R → Cpu
+      → (old new : Output) → Type 0
+  Delivers c None result k cpu old new =
+      (result ≡ false) × Stands k c.kernel × (cpu ≡ c.cpu) × Gives old new []
+  Delivers c (Some d) result k cpu old new =
+      (result ≡ true) × Stands k d.core.kernel × (cpu ≡ d.core.cpu) × Gives old new (d.line ∷ [])
+
 abbrev pub core : Kernel → Cpu → Core
 core kernel cpu = record { kernel = kernel; cpu = cpu }
 
@@ -106,8 +146,6 @@ system kernel cpu memory blocks libraries =
 abbrev pub HasSizeOf : BlockMap → Memory → Type 0
 HasSizeOf blocks memory = blocks.size ≡ length memory.ram
 
--- there is room for one more thread that waits
-pub record HasRoomToWait {R : Type 0} (k : Program R) : Type 0 where
-  pub semaphores : waiting k.semaphores < MOST_WAITERS
-  pub event_flags : waiting k.event_flags < MOST_WAITERS
-  pub mailboxes : waiting k.mailboxes < MOST_WAITERS
+-- a number is left for one more alarm or delay
+abbrev pub HasNumber : {R : Type 0} → Program R → Type 0
+HasNumber k = k.timers.next < 2 ^ 64 - 1

@@ -1,6 +1,6 @@
 -- The state of the kernel, and what its services look at and change. What the kernel has is this
 -- project's own profile.
-use Rattle.std.specs.Prelude.{ℕ, ◌+◌, ◌*◌, ◌%◌, ◌==◌, Bool, true, ◌&&◌, if◌then◌else◌, Option, None, Result, Ok, Err, List, [], ◌++◌, length}
+use Rattle.std.specs.Prelude.{ℕ, ◌+◌, ◌*◌, ◌%◌, ◌==◌, Bool, true, ◌&&◌, ◌||◌, not, if◌then◌else◌, is_some, Option, Some, None, Result, Ok, Err, List, [], ◌++◌, length, replicate}
 use Rattle.std.specs.Int.{cast_unsigned, w32}
 use Rattle.iop_base.specs.Piece.{Piece}
 use Rattle.iop_base.specs.declared.code.Code.{Code}
@@ -8,6 +8,8 @@ use Rattle.iop_base.specs.declared.guest_fault.GuestFault.{GuestFault}
 use Rattle.iop_event.specs.EventFlags.{EventFlags}
 use Rattle.iop_exec.specs.declared.cpu.Cpu.{Cpu}
 use Rattle.iop_exec.specs.Row.{reg, with_reg}
+use Rattle.iop_intr.specs.InterruptLines.{IrqLine, idle}
+use Rattle.iop_intr.specs.declared.irqs.TheConstants.{IRQ_LINES}
 use Rattle.iop_mbx.specs.Mailboxes.{Mailboxes}
 use Rattle.iop_objects.specs.Objects.{no_objects}
 use Rattle.iop_registry.specs.declared.registry.Entry.{Entry}
@@ -16,6 +18,8 @@ use Rattle.iop_stubs.specs.Stubs.{Memory, after_store, range_place, store_lines}
 use Rattle.iop_sysmem.specs.BlockMap.{BlockMap}
 use Rattle.iop_thread.specs.Operations.{opening}
 use Rattle.iop_thread.specs.ThreadTable.{ThreadTable}
+use Rattle.iop_time.specs.Timers.{Timers, no_timers}
+use Rattle.iop_kernel.specs.declared.active_handler.ActiveHandler.{ActiveHandler}
 use Rattle.iop_kernel.specs.declared.after.After.{After}
 use Rattle.iop_kernel.specs.declared.after.After.TheVariants.{Resume, Switch, Fault}
 
@@ -26,27 +30,49 @@ pub record Kernel : Type 0 where
   pub interrupts : Bool
   -- whether dispatch is enabled
   pub dispatching : Bool
+  -- the handler that runs, if one does
+  pub handler : Option ActiveHandler
   pub threads : ThreadTable
   -- what threads can wait for
   pub semaphores : Semaphores
   pub event_flags : EventFlags
   pub mailboxes : Mailboxes
+  -- the alarms and the delays
+  pub timers : Timers
+  -- the interrupt lines, by their numbers
+  pub irqs : List IrqLine
 
--- the kernel at first: the loader's thread alone, dormant, and no object
+-- the kernel at first: the loader's thread alone, dormant, no object, no alarm, and all lines
+-- lowered, disabled and without a handler
 abbrev pub beginning : Kernel
 beginning = record {
   clock = 0;
   interrupts = true;
   dispatching = true;
+  handler = None;
   threads = opening;
   semaphores = no_objects;
   event_flags = no_objects;
   mailboxes = no_objects;
+  timers = no_timers;
+  irqs = replicate IRQ_LINES idle;
 }
+
+-- whether a handler runs
+abbrev pub in_handler : Kernel → Bool
+in_handler k = is_some k.handler
+
+-- whether a thread or a handler executes
+abbrev pub is_active : Kernel → Bool
+is_active k = in_handler k || is_some k.threads.running
 
 -- whether another thread may run, so that the one that runs may wait
 abbrev pub may_switch : Kernel → Bool
 may_switch k = k.interrupts && k.dispatching
+
+-- whether another thread is to run now if it is better: not while a handler runs
+abbrev pub may_dispatch : Kernel → Bool
+may_dispatch k = may_switch k && not (in_handler k)
 
 -- the kernel with its processor
 pub record Core : Type 0 where
@@ -65,6 +91,15 @@ with_event_flags c flags = record c { kernel = record c.kernel { event_flags = f
 abbrev pub with_mailboxes : Core → Mailboxes → Core
 with_mailboxes c mailboxes = record c { kernel = record c.kernel { mailboxes = mailboxes } }
 
+abbrev pub with_timers : Core → Timers → Core
+with_timers c timers = record c { kernel = record c.kernel { timers = timers } }
+
+abbrev pub with_irqs : Core → List IrqLine → Core
+with_irqs c irqs = record c { kernel = record c.kernel { irqs = irqs } }
+
+abbrev pub with_interrupts : Core → (on : Bool) → Core
+with_interrupts c on = record c { kernel = record c.kernel { interrupts = on } }
+
 -- interrupts are on and dispatch is enabled
 abbrev pub opened : Core → Core
 opened c = record c { kernel = record c.kernel { interrupts = true; dispatching = true } }
@@ -73,13 +108,24 @@ opened c = record c { kernel = record c.kernel { interrupts = true; dispatching 
 abbrev pub answered : Core → ℕ → Core
 answered c word = record c { cpu = with_reg c.cpu 2 word }
 
--- the thread that calls
-abbrev pub caller : Core → Option ℕ
-caller c = c.kernel.threads.running
+-- the thread that calls: none where a handler does
+abbrev pub caller_beside : Option ActiveHandler → (running : Option ℕ) → Option ℕ
+caller_beside None running = running
+caller_beside (Some handler) running = None
 
--- the registers of the thread that runs
+abbrev pub caller_in : Kernel → Option ℕ
+caller_in k = caller_beside k.handler k.threads.running
+
+abbrev pub caller : Core → Option ℕ
+caller c = caller_in c.kernel
+
+-- the registers of the thread that runs: they are kept while a handler runs
+abbrev pub registers_beside : Option ActiveHandler → Cpu → Cpu
+registers_beside None cpu = cpu
+registers_beside (Some handler) cpu = handler.kept
+
 abbrev pub running_registers : Core → Cpu
-running_registers c = c.cpu
+running_registers c = registers_beside c.kernel.handler c.cpu
 
 -- all that a service looks at and changes
 pub record System : Type 0 where

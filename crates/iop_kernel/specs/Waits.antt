@@ -1,4 +1,4 @@
--- How the waits of threads for objects end and change (ps2sdk: thsemap, thevent, thmsgbx). That a
+-- How the waits of threads end and change (ps2sdk: thbase, thsemap, thevent, thmsgbx). That a
 -- waiter of another priority comes behind the others, where they are chosen by priority, is this
 -- project's own profile.
 use Rattle.std.specs.Prelude.{ℕ, ◌==◌, Bool, false, Option, Some, List, [], ◌∷◌, map}
@@ -11,7 +11,8 @@ use Rattle.iop_sema.specs.Semaphores as semaphores
 use Rattle.iop_thread.specs.Operations as threads
 use Rattle.iop_thread.specs.ThreadTable.{ThreadTable}
 use Rattle.iop_thread.specs.declared.wait.Wait.{Wait}
-use Rattle.iop_thread.specs.declared.wait.Wait.TheVariants.{Semaphore, EventFlag, Mailbox}
+use Rattle.iop_thread.specs.declared.wait.Wait.TheVariants.{Delay, Semaphore, EventFlag, Mailbox}
+use Rattle.iop_time.specs.Timers.{drops_delay}
 use Rattle.iop_kernel.specs.System.{Kernel, Core, with_threads, code_word}
 
 -- whether a code is that one
@@ -32,8 +33,9 @@ abbrev pub wakes_all : ThreadTable → List ℕ → (word : ℕ) → ThreadTable
 wakes_all s [] word = s
 wakes_all s (id ∷ ids) word = wakes_all (threads.wakes s id word) ids word
 
--- a thread is no longer among those that wait for the object of its wait
+-- a thread is no longer among those that wait for the object of its wait, or for a time
 abbrev pub leaves_object : Kernel → (thread : ℕ) → Option Wait → Kernel
+leaves_object k thread (Some Delay) = record k { timers = drops_delay k.timers thread }
 leaves_object k thread (Some (Semaphore id)) =
     record k { semaphores = drops k.semaphores id thread }
 leaves_object k thread (Some (EventFlag id)) =

@@ -12,6 +12,9 @@ pub const HANDLER_RETURN_CALL: u32 = 0xF01;
 /// The code of the `syscall` to which a module returns.
 pub const MODULE_RETURN_CALL: u32 = 0xF02;
 
+/// The number of `intrman` among `KERNEL_LIBRARIES`.
+pub(crate) const INTRMAN: u32 = 2;
+
 /// The number of `thbase` among `KERNEL_LIBRARIES`.
 pub(crate) const THBASE: u32 = 3;
 
@@ -34,6 +37,8 @@ pub(crate) enum Call {
     Library { library: u32, number: u32 },
     /// The thread returns.
     ThreadReturn,
+    /// The handler returns.
+    HandlerReturn,
     /// The module returns.
     ModuleReturn,
 }
@@ -46,6 +51,7 @@ impl Call {
     {
         match code {
             THREAD_RETURN_CALL => Some(Call::ThreadReturn),
+            HANDLER_RETURN_CALL => Some(Call::HandlerReturn),
             MODULE_RETURN_CALL => Some(Call::ModuleReturn),
             _ => {
                 let library = code / 256;

@@ -1,12 +1,12 @@
 //! The services of `thevent`.
 
-ghost use Rattle.std.specs.Prelude.{◌≡◌, ◌≢◌, ◌<◌, is_some, true};
+ghost use Rattle.std.specs.Prelude.{◌≡◌, ◌≢◌, ◌<◌, None, is_some, true};
 ghost use Rattle.iop_base.specs.Output.{Gives};
 ghost use Rattle.iop_exec.specs.declared.cpu.Cpu.{Cpu as Processor};
 ghost use Rattle.iop_objects.specs.Objects.{object_of, waiting};
 ghost use Rattle.iop_objects.specs.declared.objects.TheConstants.{MOST_WAITERS};
 ghost use Rattle.iop_kernel.specs.EventFlags.{create_event_flag, delete_event_flag, clear_event_flag, waits_for_bits, meets_one, meeting_lines, set_event_flag, wait_event_flag, poll_event_flag, refer_event_flag_status};
-ghost use Rattle.iop_kernel.specs.System.{Kernel as State};
+ghost use Rattle.iop_kernel.specs.System.{Kernel as State, caller_in};
 ghost use Rattle.iop_kernel.specs.Standing.{Holds, IsHeld, TakesCore, TakesBoard, core, board};
 
 use crate::after::After;
@@ -122,10 +122,10 @@ impl<R: Ready> Kernel<R> {
     fn wait_for_bits(&mut self, id: u32, wanted: Wanted, cpu: &Cpu) -> After
         requires sound { IsHeld R.stands self.old }
         requires live { is_some (object_of self.old.event_flags.live id) ≡ true }
-        requires room { waiting self.old.event_flags < MOST_WAITERS }
+        requires room { self.old.handler ≡ None → waiting self.old.event_flags < MOST_WAITERS }
         requires asks { wanted.bits ≢ 0 }
         ensures { (k : State) → Holds R.stands self.old k
-            → TakesCore R.stands (waits_for_bits (core k cpu.now) id wanted k.threads.running)
+            → TakesCore R.stands (waits_for_bits (core k cpu.now) id wanted (caller_in k))
             result self.new cpu.now }
     {
         let Some(thread) = self.caller() else {
@@ -149,7 +149,7 @@ impl<R: Ready> Kernel<R> {
         lines: &mut L,
     ) -> After
         requires sound { IsHeld R.stands self.old }
-        requires room { waiting self.old.event_flags < MOST_WAITERS }
+        requires room { self.old.handler ≡ None → waiting self.old.event_flags < MOST_WAITERS }
         ensures { (k : State) → Holds R.stands self.old k
             → TakesBoard R.stands (wait_event_flag (board k cpu.old guest.old) id wanted) result
             self.new cpu.new guest.new (L.output lines.old) (L.output lines.new) }

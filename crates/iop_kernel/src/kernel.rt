@@ -1,36 +1,47 @@
-ghost use Rattle.std.specs.Prelude.{◌≡◌, ◌≤◌, [], IfOk, is_some};
+ghost use Rattle.std.specs.Prelude.{◌≡◌, ◌≤◌, ◌<◌, [], IfOk};
+ghost use Rattle.iop_intr.specs.declared.irqs.TheConstants.{IRQ_LINES};
 ghost use Rattle.iop_thread.specs.Operations.{begins, ends_running};
 ghost use Rattle.iop_thread.specs.Standing.{Lends};
-ghost use Rattle.iop_kernel.specs.System.{Kernel as State, beginning};
+ghost use Rattle.iop_time.specs.Turns.{next_moment};
+ghost use Rattle.iop_kernel.specs.System.{Kernel as State, beginning, is_active};
+ghost use Rattle.iop_kernel.specs.Deliveries.{raises};
 ghost use Rattle.iop_kernel.specs.Dispatching.{dispatches};
 ghost use Rattle.iop_kernel.specs.Standing.{Stands, IsSound, Dispatches, core};
 
+use crate::active_handler::ActiveHandler;
 use iop_base::{Line, Lines};
 use iop_event::EventFlags;
 use iop_exec::Cpu;
+use iop_intr::Irqs;
 use iop_mbx::Mailboxes;
 use iop_ready::Ready;
 use iop_sema::Semaphores;
 use iop_thread::Threads;
+use iop_time::Clock;
 use std::alloc::{AllocError, Global};
 
-/// The kernel: the moment, whether interrupts are on, whether dispatch is enabled, the threads, and
-/// the objects that threads wait for.
+/// The kernel: the moment, whether interrupts are on, whether dispatch is enabled, the handler that
+/// runs, the threads, the objects that threads wait for, the alarms and delays, and the interrupt
+/// lines.
 #[derive(Drop)]
 pub struct Kernel<R> {
     pub(crate) clock: u64,
     pub(crate) interrupts: bool,
     pub(crate) dispatching: bool,
+    pub(crate) handler: Option<ActiveHandler>,
     pub(crate) threads: Threads<R>,
     pub(crate) semaphores: Semaphores,
     pub(crate) event_flags: EventFlags,
     pub(crate) mailboxes: Mailboxes,
+    pub(crate) timers: Clock,
+    pub(crate) irqs: Irqs,
 }
 
 impl<R: Ready> Kernel<R> {
     /// Makes a kernel at moment 0 with the loader's thread alone, which is dormant, beside a list
-    /// of ready threads in which none is, and with no object. Interrupts are on, dispatch is
-    /// enabled. It takes all the memory that it will need; `AllocError` where the host has less.
+    /// of ready threads in which none is, and with no object and no alarm. Interrupts are on,
+    /// dispatch is enabled, and all interrupt lines are lowered, disabled and without a handler. It
+    /// takes all the memory that it will need; `AllocError` where the host has less.
     pub fn new(alloc: Global, ready: R) -> Result<Self, AllocError>
     where
         R: Drop,
@@ -41,10 +52,13 @@ impl<R: Ready> Kernel<R> {
             clock: 0,
             interrupts: true,
             dispatching: true,
+            handler: None,
             threads: Threads::new(alloc, ready)?,
             semaphores: Semaphores::new(alloc)?,
             event_flags: EventFlags::new(alloc)?,
             mailboxes: Mailboxes::new(alloc)?,
+            timers: Clock::new(alloc)?,
+            irqs: Irqs::new(),
         })
     }
 
@@ -65,6 +79,23 @@ impl<R: Ready> Kernel<R> {
         self.clock = moment;
     }
 
+    /// Tells the least moment at which an alarm or a delay comes, in ticks. None exactly where none
+    /// comes.
+    pub fn next_moment(&self) -> Option<u64>
+        ensures { (k : State) → Stands R.stands self.now k → result ≡ next_moment k.timers }
+    {
+        self.timers.next_moment()
+    }
+
+    /// Raises an interrupt line below `IRQ_LINES`. Nothing changes where it is raised.
+    pub fn raise(&mut self, line: u8)
+        requires { line < IRQ_LINES }
+        ensures { (k : State) → Stands R.stands self.old k
+            → Stands R.stands self.new (raises k line) }
+    {
+        self.irqs.raise(line);
+    }
+
     /// Lends the list of the ready threads, each by its slot and with its priority.
     pub fn ready(&self) -> &R
         ensures { (k : State) → Stands R.stands self.now k
@@ -73,11 +104,11 @@ impl<R: Ready> Kernel<R> {
         self.threads.ready()
     }
 
-    /// Says whether a thread runs.
+    /// Says whether a thread or a handler executes.
     pub fn active(&self) -> bool
-        ensures { (k : State) → Stands R.stands self.now k → result ≡ is_some k.threads.running }
+        ensures { (k : State) → Stands R.stands self.now k → result ≡ is_active k }
     {
-        self.threads.running().is_some()
+        self.handler.is_some() || self.threads.running().is_some()
     }
 
     /// Makes the loader's thread, if it is dormant, ready with these registers.
@@ -99,8 +130,8 @@ impl<R: Ready> Kernel<R> {
     }
 
     /// Lets the best ready thread run, with its registers in `cpu`, where interrupts are on and
-    /// dispatch is enabled, and no thread runs or one of a worse priority, which is then the first
-    /// of the ready ones. Answers whether it did.
+    /// dispatch is enabled, no handler runs, and no thread or one of a worse priority, which is
+    /// then the first of the ready ones. Answers whether it did.
     #[tactic(auto, using(iop_base::proofs::Giving::gives_none), unfolding(crate::specs::Dispatching::dispatches))]
     pub fn dispatch<L: Lines>(&mut self, cpu: &mut Cpu, lines: &mut L) -> bool
         requires sound { IsSound R.stands self.old }
@@ -108,7 +139,7 @@ impl<R: Ready> Kernel<R> {
             Dispatches R.stands c (dispatches c) result self.new cpu.new (L.output lines.old)
             (L.output lines.new) }
     {
-        if !(self.interrupts && self.dispatching) {
+        if !(self.interrupts && self.dispatching && self.handler.is_none()) {
             return false;
         }
         match self.threads.dispatch(cpu) {

@@ -1,22 +1,42 @@
 //! Facts about the definitions that no call computes. Each is the contract of a function that does
 //! nothing.
 
+ghost use Rattle.iop_kernel.specs.DeliveryLaws.{DeliveriesAreInOrder};
+ghost use Rattle.iop_kernel.specs.HandlerLaws.{ResultsAreGiven};
 ghost use Rattle.iop_kernel.specs.Laws.{ServicesKeep, LibrariesStayApart, DispatchesAreStrict};
 ghost use Rattle.iop_kernel.specs.StatusLaws.{StatusIsRead, SemaphoreStatusIsRead, FlagStatusIsRead, MailboxStatusIsRead};
 ghost use Rattle.iop_kernel.specs.WakingLaws.{DeletionsWakeAll};
 
-/// What holds of the kernel at all times is kept by each service that a thread calls. After it the
-/// thread runs on exactly where `Resume` says so, and none runs after `Switch`; the loader's thread
-/// alone returns from a module, and a fault changes nothing. A service takes no time; it stores
-/// ranges of bytes inside RAM, and tells of each live stub that they meet.
+/// What holds of the kernel at all times is kept by each service that a thread or a handler calls.
+/// After it a thread runs on exactly where `Resume` says so, and none runs after `Switch`; the
+/// loader's thread alone returns from a module, and a fault changes nothing. A handler goes on
+/// after `Resume`, and has returned after `Switch`. A service takes no time and one number at most;
+/// it stores ranges of bytes inside RAM, and tells of each live stub that they meet.
 pub fn services_keep()
     ensures { ServicesKeep }
 {}
 
-/// The services of threads and of what they wait for alone change the kernel, and they leave the
-/// libraries as they were; those of an object's own library alone change what is known of it.
+/// The services of interrupts, of threads and of what they wait for alone change the kernel, and
+/// they leave the libraries as they were; those of an object's own library alone change what is
+/// known of it, those of intrman alone the interrupt lines, those of thbase alone alarms and
+/// delays. None begins or ends a handler.
 pub fn libraries_stay_apart()
     ensures { LibrariesStayApart }
+{}
+
+/// Each delivery is one of the lowest line that can be delivered, else of the alarm or the delay
+/// that comes next. It is made with interrupts on, while no handler runs, and never between a
+/// branch of the thread that runs and its slot. Where none is to be made, though it may be, no line
+/// can be delivered, and no alarm and no delay has come.
+pub fn deliveries_are_in_order()
+    ensures { DeliveriesAreInOrder }
+{}
+
+/// A handler that returns 0 disables its line, or removes its alarm. One that returns another word
+/// enables its line where it still has a handler, or sets its alarm again so many ticks after its
+/// old moment, with its number. All other lines, alarms and delays are as they were.
+pub fn results_are_given()
+    ensures { ResultsAreGiven }
 {}
 
 /// Each dispatch takes the first ready thread of the best priority. Where none is to be made, no ready

@@ -1,12 +1,16 @@
-//! The kernel: its services, and dispatch.
+//! The kernel: its services, deliveries, and dispatch.
 #![tactic(auto)]
 
+mod active_handler;
 mod after;
 mod answering;
 mod call;
 mod creating;
 mod deleting;
+mod deliveries;
 mod event_flags;
+mod handlers;
+mod interrupts;
 mod kernel;
 pub mod laws;
 mod mailboxes;
@@ -19,10 +23,12 @@ mod serving;
 mod status;
 #[cfg(test)]
 mod tests;
+mod timing;
 mod waiting;
 mod waits;
 mod words;
 
+pub use active_handler::{ActiveHandler, Cause, HANDLER_RETURN, HANDLER_STACK};
 pub use after::After;
 pub use call::{HANDLER_RETURN_CALL, MODULE_RETURN_CALL, SERVICES, THREAD_RETURN_CALL};
 pub use kernel::Kernel;

@@ -1,10 +1,10 @@
 //! The services of `thmsgbx`.
 
-ghost use Rattle.std.specs.Prelude.{◌≡◌, ◌<◌, is_some, true};
+ghost use Rattle.std.specs.Prelude.{◌≡◌, ◌<◌, None, is_some, true};
 ghost use Rattle.iop_objects.specs.Objects.{object_of, state_of, waiting};
 ghost use Rattle.iop_objects.specs.declared.objects.TheConstants.{MOST_WAITERS};
 ghost use Rattle.iop_kernel.specs.Mailboxes.{create_mbx, delete_mbx, waits_for_message, message_priority, queues_message, send_mbx, receive_mbx, poll_mbx, refer_mbx_status};
-ghost use Rattle.iop_kernel.specs.System.{Kernel as State};
+ghost use Rattle.iop_kernel.specs.System.{Kernel as State, caller_in};
 ghost use Rattle.iop_kernel.specs.Standing.{Holds, IsHeld, TakesCore, TakesBoard, core, board};
 
 use crate::after::After;
@@ -130,9 +130,9 @@ impl<R: Ready> Kernel<R> {
     fn wait_for_message(&mut self, id: u32, at: u32, cpu: &Cpu) -> After
         requires sound { IsHeld R.stands self.old }
         requires live { is_some (object_of self.old.mailboxes.live id) ≡ true }
-        requires room { waiting self.old.mailboxes < MOST_WAITERS }
+        requires room { self.old.handler ≡ None → waiting self.old.mailboxes < MOST_WAITERS }
         ensures { (k : State) → Holds R.stands self.old k
-            → TakesCore R.stands (waits_for_message (core k cpu.now) id at k.threads.running) result
+            → TakesCore R.stands (waits_for_message (core k cpu.now) id at (caller_in k)) result
             self.new cpu.now }
     {
         let Some(thread) = self.caller() else {
@@ -156,7 +156,7 @@ impl<R: Ready> Kernel<R> {
         lines: &mut L,
     ) -> After
         requires sound { IsHeld R.stands self.old }
-        requires room { waiting self.old.mailboxes < MOST_WAITERS }
+        requires room { self.old.handler ≡ None → waiting self.old.mailboxes < MOST_WAITERS }
         ensures { (k : State) → Holds R.stands self.old k
             → TakesBoard R.stands (receive_mbx (board k cpu.old guest.old) at id) result
             self.new cpu.new guest.new (L.output lines.old) (L.output lines.new) }

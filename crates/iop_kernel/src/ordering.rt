@@ -4,7 +4,7 @@
 ghost use Rattle.std.specs.Prelude.{◌≡◌, option_map};
 ghost use Rattle.iop_thread.specs.ThreadTable.{running_thread};
 ghost use Rattle.iop_thread.specs.Operations.{changes};
-ghost use Rattle.iop_kernel.specs.System.{Kernel as State, may_switch};
+ghost use Rattle.iop_kernel.specs.System.{Kernel as State, caller_in, may_switch};
 ghost use Rattle.iop_kernel.specs.Standing.{Holds, IsHeld, TakesCore, core};
 ghost use Rattle.iop_kernel.specs.Ordering.{set_dispatch, answers_change, changes_named, change_priority, rotates_to, rotates_own, rotate_ready_queue};
 
@@ -89,7 +89,7 @@ impl<R: Ready> Kernel<R> {
     }
 
     /// Moves the first ready thread of a priority behind all others, and answers 0. Where the
-    /// thread that calls has the priority, it goes there instead, if another may run now.
+    /// thread that runs has the priority, it goes there instead, if another may run now.
     fn rotate_to(&mut self, priority: Priority, cpu: &mut Cpu) -> After
         requires sound { IsHeld R.stands self.old }
         ensures { (k : State) → Holds R.stands self.old k
@@ -100,17 +100,26 @@ impl<R: Ready> Kernel<R> {
         if own && !self.may_switch() {
             return after;
         }
-        self.threads.rotate(priority, cpu);
-        if own { After::Switch } else { after }
+        let registers = self.running_registers(cpu);
+        self.threads.rotate(priority, &registers);
+        if own && !self.in_handler() {
+            After::Switch
+        } else {
+            after
+        }
     }
 
-    /// Moves the threads of the priority of the one that calls.
+    /// Moves the threads of the priority of the one that calls. `ILLEGAL_PRIORITY` where a handler
+    /// calls.
     fn rotate_own(&mut self, cpu: &mut Cpu) -> After
         requires sound { IsHeld R.stands self.old }
         ensures { (k : State) → Holds R.stands self.old k
-            → TakesCore R.stands (rotates_own (core k cpu.old) k.threads.running) result
+            → TakesCore R.stands (rotates_own (core k cpu.old) (caller_in k)) result
             self.new cpu.new }
     {
+        if self.in_handler() {
+            return answer(cpu, Code::ILLEGAL_PRIORITY);
+        }
         match self.running_priority() {
             Some(priority) => self.rotate_to(priority, cpu),
             None => answer(cpu, Code::ILLEGAL_PRIORITY),

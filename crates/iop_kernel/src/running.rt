@@ -82,7 +82,7 @@ impl<R: Ready> Kernel<R> {
         ensures { (k : State) → Holds R.stands self.old k
             → TakesCore R.stands (return_module (core k cpu.now)) result self.new cpu.now }
     {
-        if self.is_running(LOADER) {
+        if self.caller() == Some(LOADER) {
             return self.end_module(cpu.regs[2]);
         }
         After::Fault(GuestFault::Service)

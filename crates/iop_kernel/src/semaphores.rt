@@ -1,10 +1,10 @@
 //! The services of `thsemap`.
 
-ghost use Rattle.std.specs.Prelude.{◌≡◌, ◌<◌, is_some, true};
+ghost use Rattle.std.specs.Prelude.{◌≡◌, ◌<◌, None, is_some, true};
 ghost use Rattle.iop_objects.specs.Objects.{object_of, waiting};
 ghost use Rattle.iop_objects.specs.declared.objects.TheConstants.{MOST_WAITERS};
 ghost use Rattle.iop_kernel.specs.Semaphores.{create_sema, delete_sema, signal_sema, waits_for_sema, wait_sema, poll_sema, refer_sema_status};
-ghost use Rattle.iop_kernel.specs.System.{Kernel as State};
+ghost use Rattle.iop_kernel.specs.System.{Kernel as State, caller_in};
 ghost use Rattle.iop_kernel.specs.Standing.{Holds, IsHeld, TakesCore, TakesBoard, core, board};
 
 use crate::after::After;
@@ -81,9 +81,9 @@ impl<R: Ready> Kernel<R> {
     fn wait_for_sema(&mut self, id: u32, cpu: &Cpu) -> After
         requires sound { IsHeld R.stands self.old }
         requires live { is_some (object_of self.old.semaphores.live id) ≡ true }
-        requires room { waiting self.old.semaphores < MOST_WAITERS }
+        requires room { self.old.handler ≡ None → waiting self.old.semaphores < MOST_WAITERS }
         ensures { (k : State) → Holds R.stands self.old k
-            → TakesCore R.stands (waits_for_sema (core k cpu.now) id k.threads.running) result
+            → TakesCore R.stands (waits_for_sema (core k cpu.now) id (caller_in k)) result
             self.new cpu.now }
     {
         let Some(thread) = self.caller() else {
@@ -98,7 +98,7 @@ impl<R: Ready> Kernel<R> {
     /// answers a code of `Semaphores::take`, or first `CANNOT_WAIT` where no other thread may run.
     pub(crate) fn wait_sema(&mut self, id: u32, cpu: &mut Cpu) -> After
         requires sound { IsHeld R.stands self.old }
-        requires room { waiting self.old.semaphores < MOST_WAITERS }
+        requires room { self.old.handler ≡ None → waiting self.old.semaphores < MOST_WAITERS }
         ensures { (k : State) → Holds R.stands self.old k
             → TakesCore R.stands (wait_sema (core k cpu.old) id) result self.new cpu.new }
     {

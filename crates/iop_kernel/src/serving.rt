@@ -4,7 +4,7 @@ ghost use Rattle.std.specs.Prelude.{◌≡◌, List, length};
 ghost use Rattle.iop_registry.specs.declared.registry.Entry.{Entry};
 ghost use Rattle.iop_kernel.specs.System.{Kernel as State};
 ghost use Rattle.iop_kernel.specs.Serving.{wanted, serves_core, serves_board, answers_by, serves, calls_library, services};
-ghost use Rattle.iop_kernel.specs.Standing.{Holds, IsHeld, Stands, IsActive, HasRoomToWait, HasSizeOf, TakesCore, TakesBoard, Serves, ServesPlaced, core, board, system};
+ghost use Rattle.iop_kernel.specs.Standing.{Holds, IsHeld, Stands, IsActive, HasNumber, HasRoomToWait, HasSizeOf, TakesCore, TakesBoard, Serves, ServesPlaced, core, board, system};
 
 use crate::after::After;
 use crate::answering::answer_word;
@@ -32,16 +32,24 @@ fn wanted(cpu: &Cpu) -> Wanted
 }
 
 impl<R: Ready> Kernel<R> {
-    /// Does what a service does that looks at the kernel alone. Any other is not built: it faults.
+    /// Does what a service does that looks at the kernel alone. There is no other.
     #[tactic(auto, unfolding(crate::specs::Serving::serves_core))]
     fn serve_core(&mut self, service: Service, cpu: &mut Cpu) -> After
         requires sound { IsHeld R.stands self.old }
-        requires room { HasRoomToWait self.old }
+        requires room { HasRoomToWait R.stands self.old }
+        requires number { HasNumber self.old }
         ensures { (k : State) → Holds R.stands self.old k
             → TakesCore R.stands (serves_core (core k cpu.old) service) result self.new cpu.new }
     {
-        let [a0, a1] = [cpu.regs[4], cpu.regs[5]];
+        let [a0, a1, a2, a3] = [cpu.regs[4], cpu.regs[5], cpu.regs[6], cpu.regs[7]];
         match service {
+            Service::RegisterIntrHandler => self.register_handler(a0, a2, a3, cpu),
+            Service::ReleaseIntrHandler => self.release_handler(a0, cpu),
+            Service::EnableIntr => self.enable_line(a0, cpu),
+            Service::CpuDisableIntr => self.disable_interrupts(cpu),
+            Service::CpuEnableIntr => self.enable_interrupts(cpu),
+            Service::CpuResumeIntr => self.resume_interrupts(a0, cpu),
+            Service::QueryIntrContext => self.query_context(cpu),
             Service::StartThread => self.start_thread(a0, a1, cpu),
             Service::ExitThread => self.exit_thread(),
             Service::TerminateThread => self.terminate_thread(a0, cpu),
@@ -56,6 +64,8 @@ impl<R: Ready> Kernel<R> {
             Service::CancelWakeupThread => self.cancel_wakeups(a0, cpu),
             Service::SuspendThread => self.suspend_thread(a0, cpu),
             Service::ResumeThread => self.resume_thread(a0, cpu),
+            Service::DelayThread => self.delay_thread(a0, cpu),
+            Service::CancelAlarm => self.cancel_alarm(a0, a1, cpu),
             Service::DeleteSema => self.delete_sema(a0, cpu),
             Service::SignalSema => self.signal_sema(a0, cpu),
             Service::WaitSema => self.wait_sema(a0, cpu),
@@ -77,13 +87,20 @@ impl<R: Ready> Kernel<R> {
         lines: &mut L,
     ) -> After
         requires sound { IsHeld R.stands self.old }
-        requires room { HasRoomToWait self.old }
+        requires room { HasRoomToWait R.stands self.old }
+        requires number { HasNumber self.old }
         ensures { (k : State) → Holds R.stands self.old k
             → TakesBoard R.stands (serves_board (board k cpu.old guest.old) service) result
             self.new cpu.new guest.new (L.output lines.old) (L.output lines.new) }
     {
-        let [a0, a1] = [cpu.regs[4], cpu.regs[5]];
+        let [a0, a1, a2] = [cpu.regs[4], cpu.regs[5], cpu.regs[6]];
         match service {
+            Service::DisableIntr => self.disable_line(a0, a1, cpu, guest, lines),
+            Service::CpuSuspendIntr => self.suspend_interrupts(a0, cpu, guest, lines),
+            Service::GetSystemTime => self.get_system_time(a0, cpu, guest, lines),
+            Service::SetAlarm => self.set_alarm(a0, a1, a2, cpu, guest),
+            Service::USec2SysClock => self.usec_to_clock(a0, a1, cpu, guest, lines),
+            Service::SysClock2USec => self.clock_to_usec(a0, a1, a2, cpu, guest, lines),
             Service::CreateSema => self.create_sema(a0, cpu, guest),
             Service::ReferSemaStatus => self.refer_sema_status(a0, a1, cpu, guest, lines),
             Service::CreateEventFlag => self.create_event_flag(a0, cpu, guest),
@@ -113,7 +130,8 @@ impl<R: Ready> Kernel<R> {
         lines: &mut L,
     ) -> After
         requires sound { IsHeld R.stands self.old }
-        requires room { HasRoomToWait self.old }
+        requires room { HasRoomToWait R.stands self.old }
+        requires number { HasNumber self.old }
         requires same_size { HasSizeOf blocks.old guest.old }
         ensures { (k : State) (libraries : List Entry) → Holds R.stands self.old k
             → let s = system k cpu.old guest.old blocks.old libraries in
@@ -144,7 +162,8 @@ impl<R: Ready> Kernel<R> {
         lines: &mut L,
     ) -> After
         requires sound { IsHeld R.stands self.old }
-        requires room { HasRoomToWait self.old }
+        requires room { HasRoomToWait R.stands self.old }
+        requires number { HasNumber self.old }
         requires same_size { HasSizeOf blocks.old guest.old }
         ensures { (k : State) (libraries : List Entry) → Holds R.stands self.old k
             → let s = system k cpu.old guest.old blocks.old libraries in
@@ -168,7 +187,7 @@ impl<R: Ready> Kernel<R> {
         }
     }
 
-    /// Calls service `number` of a kernel library.
+    /// Calls service `number` of a kernel library, from a handler or from a thread.
     fn call_library<L: Lines>(
         &mut self,
         library: u32,
@@ -180,14 +199,16 @@ impl<R: Ready> Kernel<R> {
         lines: &mut L,
     ) -> After
         requires sound { IsHeld R.stands self.old }
-        requires room { HasRoomToWait self.old }
+        requires room { HasRoomToWait R.stands self.old }
+        requires number { HasNumber self.old }
         requires same_size { HasSizeOf blocks.old guest.old }
         ensures { (k : State) → Holds R.stands self.old k
             → let s = system k cpu.old guest.old blocks.old registry.old in
             Serves R.stands (calls_library library number s) result self.new cpu.new guest.new
             blocks.new registry.new (L.output lines.old) (L.output lines.new) }
     {
-        let answer = call(library, number, false, cpu, guest, blocks, registry, lines);
+        let inside = self.in_handler();
+        let answer = call(library, number, inside, cpu, guest, blocks, registry, lines);
         self.answer_call(library, number, answer, cpu, guest, blocks, lines)
     }
 
@@ -203,7 +224,8 @@ impl<R: Ready> Kernel<R> {
         lines: &mut L,
     ) -> After
         requires sound { IsHeld R.stands self.old }
-        requires room { HasRoomToWait self.old }
+        requires room { HasRoomToWait R.stands self.old }
+        requires number { HasNumber self.old }
         requires same_size { HasSizeOf blocks.old guest.old }
         ensures { (k : State) → Holds R.stands self.old k
             → let s = system k cpu.old guest.old blocks.old registry.old in
@@ -215,20 +237,22 @@ impl<R: Ready> Kernel<R> {
                 self.call_library(library, number, cpu, guest, blocks, registry, lines)
             }
             Some(Call::ThreadReturn) => self.exit_thread(),
+            Some(Call::HandlerReturn) => self.return_handler(cpu),
             Some(Call::ModuleReturn) => self.return_module(cpu),
             None => After::Fault(GuestFault::Service),
         }
     }
 
-    /// Does what a `syscall` of a code asks for, where a thread runs. The processor stands behind
-    /// it.
+    /// Does what a `syscall` of a code asks for, where a thread or a handler executes. The
+    /// processor stands behind it.
     ///
-    /// It answers `Fault` exactly where the code has no meaning, where the service is not built,
-    /// where a place that it looks at is not in RAM or not aligned, and where a thread other than
-    /// the loader's returns as a module does: nothing has changed then. `ModuleReturned` comes
-    /// exactly where the call ends the loader's thread: interrupts are then on and dispatch is
-    /// enabled, and nothing else has changed. `Switch` comes exactly where the caller waits, has
-    /// ended or stands in the ready list.
+    /// It answers `Fault` exactly where the code has no meaning, where a place that it looks at is
+    /// not in RAM or not aligned, where a handler returns as a thread or a module does, where a
+    /// thread returns as a handler does, and where one other than the loader's returns as a module
+    /// does: nothing has changed then. `ModuleReturned` comes exactly where the call ends the
+    /// loader's thread: interrupts are then on and dispatch is enabled, and nothing else has
+    /// changed. `Switch` comes exactly where the caller waits, has ended, stands in the ready list,
+    /// or is a handler that returned.
     pub fn service<L: Lines>(
         &mut self,
         code: u32,
@@ -239,6 +263,7 @@ impl<R: Ready> Kernel<R> {
         lines: &mut L,
     ) -> After
         requires active { IsActive R.stands self.old }
+        requires number { HasNumber self.old }
         requires same_size { HasSizeOf blocks.old guest.old }
         ensures { (k : State) → Stands R.stands self.old k
             → let s = system k cpu.old guest.old blocks.old registry.old in

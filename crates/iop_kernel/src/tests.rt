@@ -1,4 +1,4 @@
-ghost use Rattle.std.specs.Prelude.{IfOk};
+ghost use Rattle.std.specs.Prelude.{◌+◌, ◌≤◌, IfOk};
 ghost use Rattle.iop_ready.specs.ReadyList.{StandsFor};
 ghost use Rattle.iop_kernel.specs.Standing.{IsSound};
 
@@ -69,9 +69,10 @@ impl Lines for LastLine {
     fn text(&mut self, _bytes: &[u8]) {}
 }
 
-/// A kernel and what its services work on.
+/// A kernel and what its services work on, and how many of them were called.
 #[derive(Drop)]
 struct World {
+    calls: u64,
     kernel: Kernel<KernelReady>,
     cpu: Cpu,
     guest: Guest,
@@ -83,7 +84,8 @@ struct World {
 impl World {
     /// Makes a world whose loader's thread is ready.
     fn new(alloc: Global) -> Result<Self, Fail>
-        ensures { IfOk result (λ world. IsSound StandsFor world.kernel) }
+        ensures sound { IfOk result (λ world. IsSound StandsFor world.kernel) }
+        ensures few { IfOk result (λ world. world.kernel.timers.next ≤ world.calls + 1) }
     {
         let cpu = Cpu {
             regs: [0; 32],
@@ -96,6 +98,7 @@ impl World {
         let mut kernel = Kernel::new(alloc, KernelReady::new(alloc)?)?;
         kernel.begin(&cpu);
         Ok(World {
+            calls: 0,
             kernel,
             cpu,
             guest: Guest::new(alloc, 0x20_0000)?,
@@ -108,7 +111,9 @@ impl World {
     /// Dispatches, and answers whether it was made, and the last line.
     fn dispatch(&mut self) -> (bool, Option<Line>)
         requires sound { IsSound StandsFor self.old.kernel }
+        requires few { self.old.kernel.timers.next ≤ self.old.calls + 1 }
         ensures sound { IsSound StandsFor self.new.kernel }
+        ensures few { self.new.kernel.timers.next ≤ self.new.calls + 1 }
     {
         let taken = self.kernel.dispatch(&mut self.cpu, &mut self.lines);
         (taken, self.lines.line)
@@ -117,10 +122,15 @@ impl World {
     /// Makes the `syscall` of a code, and answers what becomes of its caller, and `$v0` then.
     fn call(&mut self, rt: &impl Abort, code: u32, a0: u32, a1: u32) -> (After, i32)
         requires sound { IsSound StandsFor self.old.kernel }
+        requires few { self.old.kernel.timers.next ≤ self.old.calls + 1 }
         ensures sound { IsSound StandsFor self.new.kernel }
+        ensures few { self.new.kernel.timers.next ≤ self.new.calls + 1 }
     {
         assert_eq!(rt; self.blocks.size(), self.guest.ram().size());
         assert!(rt; self.kernel.active());
+        // Each service takes one number at most for an alarm or a delay.
+        assert!(rt; self.calls < 1000);
+        self.calls += 1;
         self.cpu.regs[4] = a0;
         self.cpu.regs[5] = a1;
         let after = self.kernel.service(
@@ -137,7 +147,9 @@ impl World {
     /// Asks for a thread: attributes, option, entry, stack size, priority.
     fn create(&mut self, rt: &impl Abort, words: [u32; 5]) -> (After, i32)
         requires sound { IsSound StandsFor self.old.kernel }
+        requires few { self.old.kernel.timers.next ≤ self.old.calls + 1 }
         ensures sound { IsSound StandsFor self.new.kernel }
+        ensures few { self.new.kernel.timers.next ≤ self.new.calls + 1 }
     {
         put(rt, &mut self.guest, &mut self.lines, words);
         self.call(rt, CREATE, PARAM, 0)
@@ -146,7 +158,9 @@ impl World {
     /// Asks for a semaphore: attribute, option, first count, most.
     fn create_sema(&mut self, rt: &impl Abort, words: [u32; 4]) -> (After, i32)
         requires sound { IsSound StandsFor self.old.kernel }
+        requires few { self.old.kernel.timers.next ≤ self.old.calls + 1 }
         ensures sound { IsSound StandsFor self.new.kernel }
+        ensures few { self.new.kernel.timers.next ≤ self.new.calls + 1 }
     {
         let [attr, option, initial, max] = words;
         let words = [attr, option, initial, max, 0];

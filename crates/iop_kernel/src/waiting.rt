@@ -56,7 +56,8 @@ impl<R: Ready> Kernel<R> {
         ensures { (k : State) → Holds R.stands self.old k
             → TakesCore R.stands (waits (core k cpu.now) wait) result self.new cpu.now }
     {
-        self.threads.block(wait, cpu);
+        let registers = self.running_registers(cpu);
+        self.threads.block(wait, &registers);
         After::Switch
     }
 
@@ -122,7 +123,8 @@ impl<R: Ready> Kernel<R> {
         if self.is_running(id) && !self.dispatching {
             return answer(cpu, Code::CANNOT_WAIT);
         }
-        let code = self.threads.suspend(id, cpu);
+        let registers = self.running_registers(cpu);
+        let code = self.threads.suspend(id, &registers);
         answer(cpu, code)
     }
 

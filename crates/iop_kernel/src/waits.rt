@@ -1,4 +1,4 @@
-//! How the waits of threads for objects end and change.
+//! How the waits of threads end and change.
 
 ghost use Rattle.std.specs.Prelude.{◌≡◌};
 ghost use Rattle.iop_exec.specs.declared.cpu.Cpu.{Cpu as Processor};
@@ -22,12 +22,13 @@ impl<R: Ready> Kernel<R> {
         self.threads.wake(thread, code.0.cast_unsigned());
     }
 
-    /// Takes a thread out of those that wait for the object of its wait.
+    /// Takes a thread out of those that wait for the object of its wait, or for a time.
     pub(crate) fn leave_object(&mut self, thread: u32, wait: Option<Wait>)
         ensures { (k : State) → Holds R.stands self.old k
             → Holds R.stands self.new (leaves_object k thread wait) }
     {
         match wait {
+            Some(Wait::Delay) => self.timers.drop_delay(thread),
             Some(Wait::Semaphore(id)) => self.semaphores.drop_waiter(id, thread),
             Some(Wait::EventFlag(id)) => self.event_flags.drop_waiter(id, thread),
             Some(Wait::Mailbox(id)) => self.mailboxes.drop_waiter(id, thread),

@@ -4,7 +4,7 @@ ghost use Rattle.std.specs.Prelude.{◌≡◌, ◌+◌, ◌*◌, ◌<◌, ◌≤
 ghost use Rattle.iop_base.specs.Numbers.{bytes_of, with_bytes};
 ghost use Rattle.iop_base.specs.Output.{Gives};
 ghost use Rattle.iop_base.specs.Places.{IsRamSize};
-ghost use Rattle.iop_kernel.specs.Boards.{bytes_of_words, writes};
+ghost use Rattle.iop_kernel.specs.Boards.{bytes_of_words, writes, writes_with};
 ghost use Rattle.iop_kernel.specs.System.{Kernel as State};
 ghost use Rattle.iop_kernel.specs.Standing.{Holds, TakesBoard, core};
 ghost use Rattle.iop_stubs.specs.Stubs.{after_store, store_lines};
@@ -56,6 +56,29 @@ pub(crate) fn store_words<L: Lines>(
 }
 
 impl<R: Ready> Kernel<R> {
+    /// Writes a word at a physical place, if there is one, where it lies in RAM, and answers a
+    /// code.
+    pub(crate) fn answer_code_at<L: Lines>(
+        &self,
+        place: Option<u32>,
+        word: u32,
+        code: Code,
+        cpu: &mut Cpu,
+        guest: &mut Guest,
+        lines: &mut L,
+    ) -> After
+        requires inside { IfSome place (λ place. place + 4 ≤ length guest.old.ram) }
+        requires sized { IsRamSize (length guest.old.ram) }
+        ensures { (k : State) → Holds R.stands self.now k
+            → TakesBoard R.stands (writes_with guest.old place (word ∷ []) (core k cpu.old) code)
+            result self.now cpu.new guest.new (L.output lines.old) (L.output lines.new) }
+    {
+        if let Some(place) = place {
+            store_words(guest, place, &[word], self.clock, lines);
+        }
+        answer(cpu, code)
+    }
+
     /// Writes a word at a physical place, if there is one, where it lies in RAM, and answers 0.
     pub(crate) fn answer_word_at<L: Lines>(
         &self,
@@ -71,9 +94,6 @@ impl<R: Ready> Kernel<R> {
             → TakesBoard R.stands (writes guest.old place (word ∷ []) (core k cpu.old)) result
             self.now cpu.new guest.new (L.output lines.old) (L.output lines.new) }
     {
-        if let Some(place) = place {
-            store_words(guest, place, &[word], self.clock, lines);
-        }
-        answer(cpu, Code::OK)
+        self.answer_code_at(place, word, Code::OK, cpu, guest, lines)
     }
 }

@@ -14,7 +14,7 @@ use Rattle.iop_machine.specs.Running.{GoesOnFor, Finishes, Faults}
 use Rattle.iop_machine.specs.Stepping.{step, steps, executed, stop_at}
 use Rattle.iop_machine.specs.World.{World}
 use Rattle.iop_machine.specs.Iop.{Transition}
-use Rattle.iop_machine.proofs.Lasting.{goes_on_both}
+use Rattle.iop_machine.proofs.GoingOn.{goes_on_both}
 use Rattle.iop_machine.proofs.Composing.{steps_more, executed_more}
 use Rattle.iop_machine.proofs.Reaching.{here, told, steps_suc}
 

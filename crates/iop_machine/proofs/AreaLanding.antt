@@ -22,7 +22,7 @@ use Rattle.iop_machine.proofs.AreaLemmas.{HoldsArea, IsOutside, area_holds, stor
 use Rattle.iop_machine.proofs.AreaReading.{area_is_read}
 use Rattle.iop_machine.proofs.ArgumentLemmas.{length-addresses}
 use Rattle.iop_machine.proofs.Inside.{range_by}
-use Rattle.iop_machine.proofs.Landing.{area_blocks, begins_as_machine}
+use Rattle.iop_machine.proofs.KeepingMachine.{area_blocks, begins_holding}
 use Rattle.iop_machine.proofs.Stepping.{step_begins}
 use Rattle.iop_machine.proofs.StubLemmas.{chosen}
 
@@ -137,9 +137,9 @@ boots_hold s room has none =
     (area_blocks s has none) (area_holds s.memory.ram))
 
 pub booting_keeps_kernel : BootingKeepsKernel
-booting_keeps_kernel = λ size modules sized room.
-    let start = beginning size modules in
-    let machine = begins_as_machine size modules sized in
+booting_keeps_kernel = λ size modules events sized room.
+    let start = beginning size modules events in
+    let holds = begins_holding size modules events sized in
     subst (λ (t : Transition _). HasKernel t.state.iop.memory.ram)
     (sym (step_begins start true refl refl))
-    (area_is_read (boots_hold start.iop room machine.whole (machine.none_live refl)))
+    (area_is_read (boots_hold start.iop room holds.whole (holds.none_live refl)))

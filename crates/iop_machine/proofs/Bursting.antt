@@ -1,5 +1,5 @@
 -- What one instruction of a burst does. Its processor and its clock are kept apart from the machine meanwhile.
-use Rattle.std.proofs.Common.{◌≡◌, ℕ, suc, ◌+◌, ◌-◌, ◌<◌, true, false, Some, None, [], length, refl, ap, sym, ◌∙◌, subst, arith}
+use Rattle.std.proofs.Common.{◌≡◌, ℕ, suc, ◌+◌, ◌-◌, ◌<◌, ◌^◌, true, false, Some, None, [], length, refl, ap, sym, ◌∙◌, subst, arith}
 use Rattle.iop_base.specs.Numbers.{width_bytes}
 use Rattle.iop_base.specs.Output.{Output, Gives}
 use Rattle.iop_exec.specs.declared.cpu.Cpu.{Cpu}
@@ -11,11 +11,14 @@ use Rattle.iop_base.proofs.Giving.{gives_none}
 use Rattle.iop_base.proofs.Lists.{length-bytes_of}
 use Rattle.iop_exec.specs.declared.position.Position.{Position}
 use Rattle.iop_exec.specs.Positions.{position_of, standing_at}
+use Rattle.iop_kernel.specs.System.{is_active}
 use Rattle.iop_kernel.proofs.PlacingBasics.{clock_place}
-use Rattle.iop_kernel.proofs.Settling.{settled_later}
+use Rattle.iop_kernel.specs.Standing.{HasNumber}
+use Rattle.iop_time.specs.Timers.{Timers}
 use Rattle.iop_machine.specs.Advancing.{Reached, Advances}
-use Rattle.iop_machine.specs.Iop.{Iop, Transition, Takes, silent, with_state, core_of}
-use Rattle.iop_machine.specs.Running.{Runs}
+use Rattle.iop_machine.specs.Iop.{Iop, Transition, Takes, silent, with_state}
+use Rattle.iop_machine.specs.Looking.{moved}
+use Rattle.iop_machine.specs.Running.{Runs, RunsFor}
 use Rattle.iop_machine.specs.Services.{calls, faults_with, concludes}
 use Rattle.iop_machine.specs.Standing.{Stands, StandsBooted}
 use Rattle.iop_machine.specs.Stepping.{performs, steps}
@@ -46,10 +49,14 @@ stands_after {m} {s} cpu memory clock h = record {
       clock = refl;
       interrupts = h.kernel.holds.interrupts;
       dispatching = h.kernel.holds.dispatching;
+      handler = h.kernel.holds.handler;
+      cause = h.kernel.holds.cause;
       threads = h.kernel.holds.threads;
       semaphores = h.kernel.holds.semaphores;
       event_flags = h.kernel.holds.event_flags;
       mailboxes = h.kernel.holds.mailboxes;
+      timers = h.kernel.holds.timers;
+      irqs = h.kernel.holds.irqs;
     };
     placed = clock_place s.kernel clock h.kernel.placed;
   };
@@ -69,13 +76,31 @@ size_kept cpu clock h g e =
     ∙ sym (ap (λ (s : Iop). length s.memory.ram) h.rest)
     ∙ ap (λ (s : Iop). length s.memory.ram) g.rest
 
--- a thread that runs does so with another processor and memory, and at another moment
-pub keeps_running : (s : Iop) (cpu : Cpu) (memory : Memory) (clock : ℕ) → Runs s
-    → Runs (after s cpu memory clock)
-keeps_running s cpu memory clock h = record {
+-- and has as many numbers left
+pub number_kept : {m new : Program} {s : Iop} (cpu : Cpu) (clock : ℕ) → Stands m s
+    → Stands new (after s cpu s.memory clock) → HasNumber m.kernel → HasNumber new.kernel
+number_kept cpu clock h g some =
+    subst (λ (timers : Timers). timers.next < 2 ^ 64 - 1)
+    (sym h.kernel.holds.timers ∙ g.kernel.holds.timers) some
+
+-- what executes does so over another memory
+runs_with : (s : Iop) (memory : Memory) → Runs s → Runs (record s { memory = memory })
+runs_with s memory h = record {
   over = h.over;
-  dispatch = settled_later (core_of s) clock cpu h.dispatch;
-  running = h.running;
+  events = h.events;
+  delivery = h.delivery;
+  dispatch = h.dispatch;
+  active = h.active;
+}
+
+-- after a plain instruction nothing is to be done before those that are left
+pub keeps_running : (s : Iop) (cpu : Cpu) (memory : Memory) (left : ℕ) → 0 < left - 1
+    → RunsFor s left → RunsFor (after s cpu memory (s.kernel.clock + 1)) (left - 1)
+keeps_running s cpu memory left some h = record {
+  now = runs_with (moved s cpu (s.kernel.clock + 1)) memory
+      (h.ahead cpu (s.kernel.clock + 1) (omega arith) (omega (arith, some)));
+  ahead = λ next moment late lt. runs_with (moved s next moment) memory
+      (h.ahead next moment (omega (arith, late)) (omega (arith, some, lt)));
 }
 
 module _ (s : Iop) (cpu' : Cpu) (memory' : Memory) (b c : Output) where
@@ -143,11 +168,11 @@ length-performed (Faults kind) event clock cpu cpu' memory memory' b c h =
 pub record Bursts (w : World) (budget left : ℕ) (m : Program) (a b : Output) : Type 0 where
   pub taken : ℕ
   pub reached : Reached StandsBooted w budget taken left m a b
-  pub runs : Runs (steps taken w).state.iop
+  pub runs : RunsFor (steps taken w).state.iop left
 
 -- the start
-pub bursts_none : (m : Program) (s : Iop) (budget : ℕ) (a : Output) → Stands m s → Runs s
-    → a.failed ≡ false → Bursts (booted s) budget budget m a a
+pub bursts_none : (m : Program) (s : Iop) (budget : ℕ) (a : Output) → Stands m s
+    → RunsFor s budget → a.failed ≡ false → Bursts (booted s) budget budget m a a
 unfolding steps
 bursts_none m s budget a h runs well = record {
   taken = 0;
@@ -157,23 +182,23 @@ bursts_none m s budget a h runs well = record {
 
 -- where its processor and its clock are the machine's own
 pub bursts_first : (m : Program) (clock budget : ℕ) (a : Output) → clock ≡ m.kernel.clock
-    → a.failed ≡ false → (s : Iop) → Stands m s → Runs s
+    → a.failed ≡ false → (s : Iop) → Stands m s → RunsFor s budget
     → Bursts (booted s) budget budget (held m m.cpu m.guest clock) a a
 bursts_first m clock budget a e well s h runs =
     subst (λ n. Bursts (booted s) budget budget (held m m.cpu m.guest n) a a) (sym e)
     (bursts_none m s budget a h runs well)
 
--- the machine itself, whose memory is now this, stands for a state in which a thread runs
+-- the machine itself, whose memory is now this, stands for a state in which something executes
 pub burst_runs : {first : Program} {budget left clock : ℕ} {cpu : Cpu} {a b : Output} (m : Program)
-    (memory : Memory) → (s : Iop) × Stands first s × Runs s
-    → ((s : Iop) → Stands first s → Runs s
+    (memory : Memory) → (s : Iop) × Stands first s × RunsFor s budget
+    → ((s : Iop) → Stands first s → RunsFor s budget
     → Bursts (booted s) budget left (held m cpu m.guest clock) a b)
-    → (s : Iop) × Stands (held m m.cpu memory m.kernel.clock) s × Runs s
+    → (s : Iop) × Stands (held m m.cpu memory m.kernel.clock) s × (is_active s.kernel ≡ true)
 burst_runs m memory r bursts =
     let before = bursts r.0 r.1 r.2 in (
       _,
       stands_after m.cpu memory m.kernel.clock before.reached.state.1,
-      keeps_running _ m.cpu memory m.kernel.clock before.runs,
+      before.runs.now.active,
     )
 
 -- an instruction of the burst, and what it left of the processor, of memory and of what takes the lines
@@ -221,7 +246,7 @@ module _ {w : World} {budget left : ℕ} {m : Program} {a b c : Output} {event :
   next = subst (λ (v : World). IsNext true left v
       (with_state booted (performs before (row before.memory.ram before.cpu))))
       (sym turn.bursts.reached.state.0)
-      (next_executes before left turn.bursts.runs turn.some)
+      (next_executes before left turn.bursts.runs.now turn.some)
 
   -- the burst with a transition that is the instruction's
   burst_with : {new : Program} {d : Output}
@@ -246,16 +271,16 @@ module _ {w : World} {budget left : ℕ} {m : Program} {a b c : Output} {event :
       })
 
   -- after which the burst goes on
-  pub plain_goes_on : {new : Program} → event ≡ Plain → c.failed ≡ false
+  pub plain_goes_on : {new : Program} → 0 < left - 1 → event ≡ Plain → c.failed ≡ false
       → ((s : Iop) → Stands m s → Stands new (after s cpu' memory' (m.kernel.clock + 1)))
       → Bursts w budget (left - 1) new a c
-  plain_goes_on e well to = record {
+  plain_goes_on more e well to = record {
     taken = suc turn.bursts.taken;
     reached = reached_more (plain_advances e to) well;
-    runs = subst Runs
+    runs = subst (λ (v : Iop). RunsFor v (left - 1))
         ((performed_plain e).0 ∙ sym (ap (λ (d : Transition World). d.state.iop) next.step_is)
         ∙ sym (ap (λ (d : Transition World). d.state.iop) (steps_suc turn.bursts.taken w)))
-        (keeps_running before cpu' memory' (before.kernel.clock + 1) turn.bursts.runs);
+        (keeps_running before cpu' memory' left more turn.bursts.runs);
   }
 
   module _ {now : Program}

@@ -1,172 +1,94 @@
--- What comes before a burst: a dispatch, if one is to be made, and the look for a thread that runs.
-use Rattle.std.proofs.Common.{◌≡◌, ℕ, ◌+◌, Bool, true, false, not, is_some, Option, Some, None, [], ◌∷◌, refl, ap, sym, ◌∙◌, subst, arith}
-use Rattle.iop_base.specs.Output.{Output, Gives}
-use Rattle.iop_base.specs.declared.stop.Stop.TheVariants.{Quiet, Budget}
-use Rattle.iop_base.proofs.Giving.{gives_none, nothing_fails}
+-- A dispatch, if one is to be made where nothing is to be delivered.
+use Rattle.std.proofs.Common.{◌≡◌, ℕ, Bool, true, false, Option, Some, None, List, refl, ap, sym, ◌∙◌, subst}
+use Rattle.std.specs.Prelude.{is_some, option_map}
+use Rattle.iop_base.specs.Output.{Output}
 use Rattle.iop_exec.specs.declared.cpu.Cpu.{Cpu}
+use Rattle.iop_kernel.specs.Deliveries.{delivers}
 use Rattle.iop_kernel.specs.Dispatching.{Dispatched, dispatches}
 use Rattle.iop_kernel.specs.Standing as kernel
 use Rattle.iop_kernel.specs.System.{Core}
-use Rattle.iop_kernel.specs.declared.kernel.Kernel.{Kernel}
-use Rattle.iop_kernel.proofs.Settling.{dispatch_settles, dispatch_clock}
-use Rattle.iop_ready.specs.declared.plain_ready.PlainReady.{PlainReady}
+use Rattle.iop_kernel.specs.declared.kernel.Kernel.{Kernel as Kernels}
 use Rattle.iop_ready.specs.ReadyList.{StandsFor}
-use Rattle.iop_machine.specs.Advancing.{Advances, Stops, IsSettled, Settles}
-use Rattle.iop_machine.specs.Iop.{Iop, Transition, silent, core_of, with_core, with_state}
-use Rattle.iop_machine.specs.Running.{Runs}
+use Rattle.iop_ready.specs.declared.entry.Entry.{Entry}
+use Rattle.iop_machine.specs.Advancing.{Dispatches}
+use Rattle.iop_machine.specs.Iop.{Iop, core_of, with_core}
+use Rattle.iop_machine.specs.Looking.{takes_events}
 use Rattle.iop_machine.specs.Standing.{Stands, StandsBooted}
-use Rattle.iop_machine.specs.Stepping.{step, steps, stop_at}
-use Rattle.iop_machine.specs.World.{World, booted}
+use Rattle.iop_machine.specs.World.{booted}
 use Rattle.iop_machine.specs.declared.iop.Iop.{Iop as Program}
-use Rattle.iop_machine.proofs.Advancing.{then_advances}
-use Rattle.iop_machine.proofs.Reaching.{reached_none, reached_more, one_step, advanced}
-use Rattle.iop_machine.proofs.StandingLemmas.{stands_stopped}
-use Rattle.iop_machine.proofs.Stepping.{IsNext, next_dispatches, next_quiet, stop_budget}
+use Rattle.iop_machine.proofs.LookingLemmas.{taken_irqs, dispatches_taken, takes_dispatched}
+use Rattle.iop_machine.proofs.Raising.{dispatched_with}
+use Rattle.iop_machine.proofs.Reaching.{one_step}
+use Rattle.iop_machine.proofs.StandingLemmas.{stands_with}
+use Rattle.iop_machine.proofs.Stepping.{next_dispatches}
 
--- the state after one step
-after_one : (w : World) (t : Transition World) → step w ≡ t → (steps 1 w).state ≡ t.state
-unfolding steps
-after_one w t e = ap (λ (d : Transition World). d.state) e
-
--- the machine with another kernel and processor, before a step and after it
-module _ {m : Program} {s : Iop} (h : Stands m s) (now : Kernel PlainReady) (cpu : Cpu) where
+module _ {m : Program} {s : Iop} (h : Stands m s) (now : Kernels (List Entry)) (cpu : Cpu)
+    (budget : ℕ) (a b : Output) where
+  -- the program behind the dispatch, before the events that are due are taken
   abbrev new : Program
   new = record m { kernel = now; cpu = cpu }
 
-  stands_core : (c : Core) → kernel.Stands StandsFor now c.kernel → cpu ≡ c.cpu
-      → Stands new (with_core s c)
-  stands_core c k e = record {
-    kernel = k;
-    rest = ap (λ x. record s { kernel = c.kernel; cpu = x }) (sym e)
-        ∙ ap (λ (x : Iop). record x { kernel = c.kernel; cpu = cpu }) h.rest;
-  }
+  -- whether there was one, as the kernel's call says it
+  abbrev Did : Core → Option Dispatched → Bool → Type 0
+  Did c o did = kernel.Dispatches StandsFor c o did now cpu a b
 
-  module _ (budget : ℕ) (a b : Output) (over : s.over ≡ None) (well : a.failed ≡ false) where
-    -- a thread is dispatched
-    dispatch_advances : (d : Dispatched) → dispatches (core_of s) ≡ Some d
-        → kernel.Stands StandsFor now d.core.kernel → cpu ≡ d.core.cpu
-        → Gives a b (d.line ∷ [])
-        → Advances StandsBooted (booted s) budget 0 budget new a b
-    dispatch_advances d e k f gives =
-        one_step m (refl, h) well (next_dispatches s budget d over e)
-        (record { state = (refl, stands_core d.core k f); gives = gives })
+  -- of the state for which the program stands
+  did_of : (did : Bool) → (let c = kernel.core s.kernel m.cpu in Did c (dispatches c) did)
+      → Did (core_of s) (dispatches (core_of s)) did
+  did_of did k =
+      let is = ap (λ (x : Iop). kernel.core s.kernel x.cpu) (sym h.rest) in
+      subst (λ (c : Core). Did c (dispatches c) did) is k
 
-    -- by whether one was to be, and whether a write failed
-    settles_by : (o : Option Dispatched) → dispatches (core_of s) ≡ o → (did : Bool)
-        → kernel.Dispatches StandsFor (core_of s) o did now cpu a b
-        → (failed : Bool) → b.failed ≡ failed
-        → Settles StandsBooted failed (booted s) budget new a b
-    unfolding steps
-    settles_by None e did d true f = absurd (nothing_fails d.3 well f)
-    settles_by None e did d false f = (
-      0,
-      record {
-        reached = reached_none (booted s) budget new a b (refl, stands_core (core_of s) d.1 d.2) d.3 f;
-        over = over;
-        dispatch = e;
-        clock = refl;
-      },
-    )
-    settles_by (Some d) e did k true f = (0, dispatch_advances d e k.1 k.2 k.3)
-    settles_by (Some d) e did k false f =
-        let is = sym (after_one (booted s) _ (next_dispatches s budget d over e).step_is) in (
-          1,
-          record {
-            reached = reached_more (dispatch_advances d e k.1 k.2 k.3) f;
-            over = subst (λ (v : World). v.iop.over ≡ None) is over;
-            dispatch = subst (λ (v : World). dispatches (core_of v.iop) ≡ None) is
-                (dispatch_settles (core_of s) d e);
-            clock = subst (λ (v : World). v.iop.kernel.clock ≡ s.kernel.clock) is
-                (dispatch_clock (core_of s) d e);
-          },
+  -- the processor and the kernel stand for some state
+  sound_by : (o : Option Dispatched) (did : Bool) → Did (core_of s) o did
+      → (v : Iop) × Stands new v
+  sound_by None did k = (_, stands_with h now cpu (core_of s) k.1 k.2)
+  sound_by (Some d) did k = (_, stands_with h now cpu d.core k.1 k.2)
+
+  pub dispatch_sound : (did : Bool)
+      → (let c = kernel.core s.kernel m.cpu in Did c (dispatches c) did)
+      → (v : Iop) × Stands new v
+  dispatch_sound did k = sound_by (dispatches (core_of s)) did (did_of did k)
+
+  -- none is to be made
+  nothing_by : (o : Option Dispatched) (did : Bool) → dispatches (core_of s) ≡ o
+      → Did (core_of s) o did → did ≡ false
+      → Dispatches StandsBooted false (booted s) budget new a b
+  nothing_by None did is k e = (
+    (refl, stands_with h now cpu (core_of s) k.1 k.2),
+    k.3,
+    dispatches_taken s ∙ ap (option_map (dispatched_with (taken_irqs s))) is,
+  )
+  nothing_by (Some d) did is k e = absurd (cc (e, k.0))
+
+  pub dispatches_nothing : (did : Bool)
+      → (let c = kernel.core s.kernel m.cpu in Did c (dispatches c) did) → did ≡ false
+      → Dispatches StandsBooted false (booted s) budget new a b
+  dispatches_nothing did k =
+      nothing_by (dispatches (core_of s)) did refl (did_of did k)
+
+  module _ (over : s.over ≡ None) (well : a.failed ≡ false)
+      (none : delivers (core_of (takes_events s)) ≡ None) (taken : Program)
+      (takes : (v : Iop) → Stands new v → Stands taken (takes_events v)) where
+    -- a thread is dispatched, and then the events that are due are taken
+    dispatched_by : (o : Option Dispatched) (did : Bool) → dispatches (core_of s) ≡ o
+        → Did (core_of s) o did → did ≡ true
+        → Dispatches StandsBooted true (booted s) budget taken a b
+    dispatched_by None did is k e = absurd (cc (e, k.0))
+    dispatched_by (Some d) did is k e =
+        let some = dispatches_taken s
+        ∙ ap (option_map (dispatched_with (taken_irqs s))) is in
+        let state = subst (Stands taken) (takes_dispatched s d is)
+        (takes (with_core s d.core) (stands_with h now cpu d.core k.1 k.2)) in (
+          one_step m (refl, h) well
+              (next_dispatches s budget over (dispatched_with (taken_irqs s) d) none some)
+              (record { state = (refl, state); gives = k.3 }),
+          ap is_some some,
         )
 
-    -- what a dispatch leaves, if one is to be made
-    pub dispatch_leaves : (did : Bool)
-        → (let c = kernel.core s.kernel m.cpu in
-        kernel.Dispatches StandsFor c (dispatches c) did now cpu a b)
-        → Settles StandsBooted b.failed (booted s) budget new a b
-    dispatch_leaves did k =
-        let is = ap (λ (x : Iop). kernel.core s.kernel x.cpu) (sym h.rest) in
-        settles_by (dispatches (core_of s)) refl did
-        (subst (λ (c : Core). kernel.Dispatches StandsFor c (dispatches c) did now cpu a b) is k)
-        b.failed refl
-
-settles_well : (failed : Bool) → true ≡ not failed → {w : World} {budget : ℕ} {m : Program}
-    {a b : Output} → Settles StandsBooted failed w budget m a b
-    → (k : ℕ) × IsSettled StandsBooted w budget k m a b
-settles_well false e h = h
-settles_well true e h = absurd (cc e)
-
-settles_failed : (failed : Bool) → false ≡ not failed → {w : World} {budget : ℕ} {m : Program}
-    {a b : Output} → Settles StandsBooted failed w budget m a b
-    → (k : ℕ) × Advances StandsBooted w budget k budget m a b
-settles_failed true e h = h
-settles_failed false e h = absurd (cc e)
-
--- by what the call that dispatches answered
-module _ {m new : Program} {a b : Output} (budget : ℕ) (did failed : Bool) (answer : did ≡ not failed)
-    (over : m.over ≡ None) (settles : (s : Iop) (budget : ℕ) → Stands m s → s.over ≡ None
-    → Settles StandsBooted failed (booted s) budget new a b) where
-  pub settled_of : did ≡ true → (s : Iop) → Stands m s
-      → (k : ℕ) × IsSettled StandsBooted (booted s) budget k new a b
-  settled_of e s h = settles_well failed (sym e ∙ answer)
-      (settles s budget h (ap (λ (x : Iop). x.over) h.rest ∙ over))
-
-  pub failed_of : did ≡ false → (s : Iop) → Stands m s
-      → (k : ℕ) × Advances StandsBooted (booted s) budget k budget new a b
-  failed_of e s h = settles_failed failed (sym e ∙ answer)
-      (settles s budget h (ap (λ (x : Iop). x.over) h.rest ∙ over))
-
-none_of : (o : Option ℕ) → is_some o ≡ false → o ≡ None
-none_of None e = refl
-none_of (Some id) e = absurd (cc e)
-
--- no thread is to be dispatched
-module _ {w : World} {budget k : ℕ} {m : Program} {a b : Output}
-    (settled : IsSettled StandsBooted w budget k m a b) where
-  abbrev pub now : Iop
-  now = (steps k w).state.iop
-
-  pub stands : Stands m now
-  stands = settled.reached.state.1
-
-  pub same_clock : m.kernel.clock ≡ w.iop.kernel.clock
-  same_clock = sym stands.kernel.holds.clock ∙ settled.clock
-
-  module _ (active : (s : Iop) → Stands m s → is_some s.kernel.threads.running ≡ true) where
-    -- where a thread runs, it executes an instruction next
-    pub settled_runs : Runs now
-    settled_runs = record
-        { over = settled.over; dispatch = settled.dispatch; running = active now stands }
-
-    -- or the run stops, where no instruction is left
-    pub settled_stops : budget ≡ 0 → Stops StandsBooted w budget k Budget m a b
-    settled_stops none = record {
-      left = budget;
-      reached = settled.reached;
-      stops = subst (λ (v : World). stop_at v budget ≡ Some Budget)
-          (sym settled.reached.state.0) (stop_budget now budget settled_runs none);
-    }
-
-  -- where none runs, nothing is left to do
-  pub settled_quiet : is_some now.kernel.threads.running ≡ false
-      → Advances StandsBooted w budget k budget (record m { over = Some Quiet }) a b
-  settled_quiet none =
-      let next = next_quiet now budget settled.over settled.dispatch (none_of _ none) in
-      advanced settled.reached budget (omega arith)
-      (subst (λ (v : World). IsNext false budget v
-      (with_state booted (silent (record now { over = Some Quiet }))))
-      (sym settled.reached.state.0) next)
-      (record {
-        state = (refl, stands_stopped m (Some Quiet) now stands);
-        gives = gives_none b;
-      })
-
-  -- a burst follows
-  pub settled_advances : {j left : ℕ} {new : Program} {c : Output}
-      → Advances StandsBooted (booted now) budget j left new b c
-      → Advances StandsBooted w budget (k + j) left new a c
-  settled_advances {j} {left} {new} {c} h =
-      then_advances settled.reached (subst (λ (v : World). Advances StandsBooted v budget j left new b c)
-      (sym settled.reached.state.0) h)
+    -- as the kernel's call says it
+    pub dispatches_something : (did : Bool)
+        → (let c = kernel.core s.kernel m.cpu in Did c (dispatches c) did) → did ≡ true
+        → Dispatches StandsBooted true (booted s) budget taken a b
+    dispatches_something did k =
+        dispatched_by (dispatches (core_of s)) did refl (did_of did k)

@@ -2,41 +2,48 @@
 use Rattle.std.proofs.Common.{◌≡◌, ℕ, zero, suc, Bool, true, false, Option, Some, None, List, [], refl, ap, sym, ◌∙◌, arith, subst}
 use Rattle.std.proofs.lemmas.List.{append-nil}
 use Rattle.iop_base.specs.Places.{IsRamSize}
+use Rattle.iop_base.specs.declared.guest_fault.GuestFault.{GuestFault}
 use Rattle.iop_base.specs.declared.stop.Stop.{Stop}
 use Rattle.iop_exec.specs.declared.cpu.Cpu.{Cpu}
 use Rattle.iop_exec.specs.Laws.{cpu_after}
 use Rattle.iop_exec.specs.Row.{Row, Goes, Serves, Faults, at_next, row}
+use Rattle.iop_kernel.specs.Deliveries.{Delivered, delivers}
 use Rattle.iop_kernel.specs.Dispatching.{Dispatched, dispatches}
 use Rattle.iop_kernel.specs.Histories.{Called, called}
-use Rattle.iop_kernel.specs.Laws.{IsCore, Follows}
+use Rattle.iop_kernel.specs.Laws.{IsCore}
 use Rattle.iop_kernel.specs.Serving.{services}
-use Rattle.iop_kernel.specs.System.{Kernel, System, Served, beginning as kernel_beginning}
+use Rattle.iop_kernel.specs.System.{Kernel, System, Served, is_active, beginning as kernel_beginning}
 use Rattle.iop_kernel.specs.declared.after.After.{After}
 use Rattle.iop_kernel.specs.declared.after.After.TheVariants.{Resume, Switch, ModuleReturned, Fault}
 use Rattle.iop_kernel.proofs.Counting.{services_count}
 use Rattle.iop_kernel.proofs.CountingHistories.{IsHistory, longer, history_grows}
 use Rattle.iop_kernel.proofs.Delivering.{services_deliver}
 use Rattle.iop_kernel.proofs.DeliveringHistories.{IsDeliveryHistory, delivery_history_grows}
-use Rattle.iop_kernel.proofs.KeepingServices.{services_keep}
+use Rattle.iop_kernel.proofs.DeliveriesFirst.{deliveries_are_in_order}
+use Rattle.iop_kernel.proofs.Faulting.{services_alone}
 use Rattle.iop_kernel.proofs.RowRegisters.{row_steady}
 use Rattle.iop_kernel.proofs.Steady.{IsSteady}
 use Rattle.iop_kernel.proofs.Strict.{dispatches_are_strict}
 use Rattle.iop_mbx.specs.Mailboxes.{Mailboxes}
 use Rattle.iop_modload.specs.Finishing.{finishes}
+use Rattle.iop_script.specs.declared.raise.Raise.{Raise}
 use Rattle.iop_sema.specs.Semaphores.{Semaphores}
 use Rattle.iop_machine.specs.declared.begun_module.BegunModule.{BegunModule}
 use Rattle.iop_machine.specs.Histories.{call_at, call_by, call_in, calls_in}
 use Rattle.iop_machine.specs.Iop.{Iop, Transition, core_of, system_of}
 use Rattle.iop_machine.specs.Laws.{RunsAreCounted, RunsAreDelivered}
 use Rattle.iop_machine.specs.Loading.{loads_first, with_kernel, starts_by, boots}
+use Rattle.iop_machine.specs.Looking.{takes_events, next_coming}
 use Rattle.iop_machine.specs.Modules.{Module}
 use Rattle.iop_machine.specs.Services.{calls, calls_by, serves, leaves, goes_on_by, ends_module, returns_by}
-use Rattle.iop_machine.specs.Stepping.{performs, acts_by, goes_by, executes, executes_by, step, steps}
+use Rattle.iop_machine.specs.Stepping.{performs, waits_by, acts_by, dispatches_by, delivers_by, goes, executes, executes_by, step, steps}
 use Rattle.iop_machine.specs.World.{World, beginning}
 use Rattle.iop_machine.proofs.Landing.{runs_stay_sound}
-use Rattle.iop_machine.proofs.Moving.{loads_first_lands, moves_with}
+use Rattle.iop_machine.proofs.LoadingLands.{loads_first_lands}
+use Rattle.iop_machine.proofs.LookingLemmas.{taken_kernel}
+use Rattle.iop_machine.proofs.Moving.{moves_with, takes_move}
 use Rattle.iop_machine.proofs.Reaching.{steps_zero, steps_suc}
-use Rattle.iop_machine.proofs.Stepping.{step_over, step_begins, executes_are, executes_as}
+use Rattle.iop_machine.proofs.Stepping.{step_over, step_begins, executes_are, executes_as, looks_now}
 
 -- a history tells what has become of the kernel's objects
 record Tells (k : Kernel) (history : List Called) : Type 0 where
@@ -133,17 +140,18 @@ later_same : (k : Kernel) (clock : ℕ) → SameObjects k (record k { clock = cl
 later_same k clock = record { semaphores = refl; mailboxes = refl }
 
 -- what becomes of a caller changes nothing of what its service left
-calls_by_same : (s : Iop) (behind : Cpu) (id : ℕ) (d : Served) (after : After)
-    → Follows after (system_of (record s { cpu = behind })) id d.left.state d.pieces
+calls_by_same : (s : Iop) (behind : Cpu) (d : Served) (after : After)
+    → ((kind : GuestFault) → after ≡ Fault kind
+    → (d.left.state ≡ system_of (record s { cpu = behind })) × (d.pieces ≡ []))
     → SameObjects d.left.state.core.kernel (calls_by s d after).state.kernel
-calls_by_same s behind id d Resume follows = later_same d.left.state.core.kernel _
-calls_by_same s behind id d Switch follows = later_same d.left.state.core.kernel _
-calls_by_same s behind id d (ModuleReturned value) follows =
+calls_by_same s behind d Resume alone = later_same d.left.state.core.kernel _
+calls_by_same s behind d Switch alone = later_same d.left.state.core.kernel _
+calls_by_same s behind d (ModuleReturned value) alone =
     let now = (serves s d).state in
     let returned = returns_same now now.begun value in
     same_then returned (later_same (returns_by now now.begun value).state.kernel _)
-calls_by_same s behind id d (Fault kind) follows =
-    same_kernel (sym (ap (λ (x : System). x.core.kernel) follows.0))
+calls_by_same s behind d (Fault kind) alone =
+    same_kernel (sym (ap (λ (x : System). x.core.kernel) (alone kind refl).0))
 
 -- a service of the kernel
 serves_grow : (s : System) (code : ℕ) → IsCore s.core
@@ -160,53 +168,86 @@ serves_grow s code core history h = record {
 }
 
 -- a `syscall`
-calls_grow : (s : Iop) (behind : Cpu) (code id : ℕ) → s.kernel.threads.running ≡ Some id
-    → IsCore (core_of (record s { cpu = behind }))
+calls_grow : (s : Iop) (behind : Cpu) (code : ℕ) → IsCore (core_of (record s { cpu = behind }))
     → Grows s.kernel (calls s behind code).state.kernel
     (called (system_of (record s { cpu = behind })) code)
 unfolding calls
-calls_grow s behind code id runs core history h =
+calls_grow s behind code core history h =
     let system = system_of (record s { cpu = behind }) in
     let d = services system code in
-    let follows = (services_keep system code id runs).follows id core.placed runs in
-    told_so (longer history (called system code)) (calls_by_same s behind id d d.left.after follows)
+    told_so (longer history (called system code))
+    (calls_by_same s behind d d.left.after (services_alone system code))
     (serves_grow system code core history h)
 
+-- the clock goes on to a moment, if one comes
+waits_same : (s : Iop) (o : Option ℕ) → SameObjects s.kernel (waits_by s o).state.kernel
+waits_same s None = same_kernel refl
+waits_same s (Some moment) = later_same s.kernel moment
+
 module _ (s : Iop) (core : IsCore (core_of s)) where
-  -- an instruction of the thread that runs
-  performs_grow : (id : ℕ) (r : Row) → s.kernel.threads.running ≡ Some id
-      → (IsSteady s.cpu → IsSteady (cpu_after s.cpu r))
+  -- an instruction of the thread that runs, or of a handler
+  performs_grow : (r : Row) → (IsSteady s.cpu → IsSteady (cpu_after s.cpu r))
       → Grows s.kernel (performs s r).state.kernel (call_at s r)
-  performs_grow id (Goes after None) runs moved = stays (later_same s.kernel _)
-  performs_grow id (Goes after (Some storing)) runs moved = stays (later_same s.kernel _)
-  performs_grow id (Serves code) runs moved =
-      calls_grow s (at_next s.cpu) code id runs (moves_with s (at_next s.cpu) moved core)
-  performs_grow id (Faults kind) runs moved = stays (same_kernel refl)
+  performs_grow (Goes after None) moved = stays (later_same s.kernel _)
+  performs_grow (Goes after (Some storing)) moved = stays (later_same s.kernel _)
+  performs_grow (Serves code) moved =
+      calls_grow s (at_next s.cpu) code (moves_with s (at_next s.cpu) moved core)
+  performs_grow (Faults kind) moved = stays (same_kernel refl)
 
   -- where nothing is dispatched
-  acts_grow : (running : Option ℕ) → s.kernel.threads.running ≡ running
-      → Grows s.kernel (acts_by s running).state.kernel
-      (call_by s (executes_by None false None running))
-  acts_grow None runs = stays (same_kernel refl)
-  acts_grow (Some id) runs =
-      performs_grow id (row s.memory.ram s.cpu) runs (row_steady s.memory.ram s.cpu)
+  acts_grow : (active : Bool) → is_active s.kernel ≡ active
+      → Grows s.kernel (acts_by s active).state.kernel
+      (call_by s (executes_by None false None None active))
+  acts_grow false is = stays (waits_same s (next_coming s))
+  acts_grow true is = performs_grow (row s.memory.ram s.cpu) (row_steady s.memory.ram s.cpu)
 
-  -- a step of the machine that was booted
-  goes_grow : (o : Option Dispatched) → dispatches (core_of s) ≡ o
-      → Grows s.kernel (goes_by s o).state.kernel
-      (call_by s (executes_by None false o s.kernel.threads.running))
-  goes_grow (Some d) is =
+  -- where nothing is delivered
+  dispatches_grow : (o : Option Dispatched) → dispatches (core_of s) ≡ o
+      → Grows s.kernel (dispatches_by s o).state.kernel
+      (call_by s (executes_by None false None o (is_active s.kernel)))
+  dispatches_grow (Some d) is =
       let keeps = dispatches_are_strict.dispatched (core_of s) d core is in
       stays (record {
         semaphores = ap (λ (k : Kernel). k.semaphores) keeps.kernel;
         mailboxes = ap (λ (k : Kernel). k.mailboxes) keeps.kernel;
       })
-  goes_grow None is = acts_grow s.kernel.threads.running refl
+  dispatches_grow None is = acts_grow (is_active s.kernel) refl
+
+  -- behind the events that are due
+  delivers_grow : (o : Option Delivered) → delivers (core_of s) ≡ o
+      → Grows s.kernel (delivers_by s o).state.kernel
+      (call_by s (executes_by None false o (dispatches (core_of s)) (is_active s.kernel)))
+  delivers_grow (Some d) is =
+      let keeps = deliveries_are_in_order.delivered (core_of s) d core is in
+      stays (record {
+        semaphores = ap (λ (k : Kernel). k.semaphores) keeps.kernel;
+        mailboxes = ap (λ (k : Kernel). k.mailboxes) keeps.kernel;
+      })
+  delivers_grow None is = dispatches_grow (dispatches (core_of s)) refl
+
+-- the events that are due change interrupt lines alone
+takes_same : (s : Iop) → SameObjects s.kernel (takes_events s).kernel
+takes_same s = record {
+  semaphores = ap (λ (k : Kernel). k.semaphores) (taken_kernel s);
+  mailboxes = ap (λ (k : Kernel). k.mailboxes) (taken_kernel s);
+}
+
+-- a step of the machine that was booted
+goes_grow : (s : Iop) → IsCore (core_of s)
+    → let v = takes_events s in
+    Grows s.kernel (goes s).state.kernel
+    (call_by v (executes_by None false (delivers (core_of v)) (dispatches (core_of v))
+    (is_active v.kernel)))
+goes_grow s core history h =
+    let v = takes_events s in
+    delivers_grow v ((takes_move s).core core) (delivers (core_of v)) refl history
+    (told_so history (takes_same s) h)
 
 module _ (w : World) (core : IsCore (core_of w.iop)) where
   -- after a step
   abbrev GrowsBy : Transition World → (executing : Bool) → Type 0
-  GrowsBy t executing = Grows w.iop.kernel t.state.iop.kernel (call_by w.iop executing)
+  GrowsBy t executing =
+      Grows w.iop.kernel t.state.iop.kernel (call_by (takes_events w.iop) executing)
 
   -- by what the step is, and whether it executes an instruction
   grows_as : (t : Transition World) (executing : Bool) → step w ≡ t → executes w ≡ executing
@@ -220,19 +261,20 @@ module _ (w : World) (core : IsCore (core_of w.iop)) where
   begins_grow : (is_new : Bool) → w.iop.over ≡ None → w.is_new ≡ is_new
       → Grows w.iop.kernel (step w).state.iop.kernel (call_in w)
   begins_grow true e f =
-      grows_as _ _ (step_begins w true e f) (executes_as w true _ _ e f refl refl)
-      (stays (boots_same w.iop))
+      grows_as _ _ (step_begins w true e f)
+      (executes_as w true _ _ _ e f (looks_now w.iop)) (stays (boots_same w.iop))
   begins_grow false e f =
-      grows_as _ _ (step_begins w false e f) (executes_as w false _ _ e f refl refl)
-      (goes_grow w.iop core (dispatches (core_of w.iop)) refl)
+      grows_as _ _ (step_begins w false e f)
+      (executes_as w false _ _ _ e f (looks_now w.iop)) (goes_grow w.iop core)
 
   -- by whether it is stopped
   step_grows_by : (o : Option Stop) → w.iop.over ≡ o
       → Grows w.iop.kernel (step w).state.iop.kernel (call_in w)
   step_grows_by (Some stop) e =
+      let v = takes_events w.iop in
       let idle : executes w ≡ false =
-      executes_are w ∙ ap (λ o. executes_by o w.is_new (dispatches (core_of w.iop))
-      w.iop.kernel.threads.running) e in
+      executes_are w ∙ ap (λ o. executes_by o w.is_new (delivers (core_of v))
+      (dispatches (core_of v)) (is_active v.kernel)) e in
       grows_as _ false (step_over w stop e) idle (stays (same_kernel refl))
   step_grows_by None e = begins_grow w.is_new e refl
 
@@ -241,9 +283,9 @@ module _ (w : World) (core : IsCore (core_of w.iop)) where
   step_grows = step_grows_by w.iop.over refl
 
 -- over whole runs
-module _ (size : ℕ) (modules : List Module) (sized : IsRamSize size) where
+module _ (size : ℕ) (modules : List Module) (events : List Raise) (sized : IsRamSize size) where
   abbrev first : World
-  first = beginning size modules
+  first = beginning size modules events
 
   runs_tell : (k : ℕ) → Tells (steps k first).state.iop.kernel (calls_in k first)
   unfolding calls_in
@@ -254,11 +296,13 @@ module _ (size : ℕ) (modules : List Module) (sized : IsRamSize size) where
       let before = (steps k first).state in
       subst (λ (t : Transition World). Tells t.state.iop.kernel
       (longer (calls_in k first) (call_in before))) (sym (steps_suc k first))
-      (step_grows before (runs_stay_sound size modules k sized).core (calls_in k first)
+      (step_grows before (runs_stay_sound size modules events k sized).core (calls_in k first)
       (runs_tell k))
 
 pub runs_are_counted : RunsAreCounted
-runs_are_counted = λ size modules k sized. (runs_tell size modules sized k).semaphores.counted
+runs_are_counted =
+    λ size modules events k sized. (runs_tell size modules events sized k).semaphores.counted
 
 pub runs_are_delivered : RunsAreDelivered
-runs_are_delivered = λ size modules k sized. (runs_tell size modules sized k).mailboxes.delivered
+runs_are_delivered =
+    λ size modules events k sized. (runs_tell size modules events sized k).mailboxes.delivered

@@ -1,17 +1,35 @@
 mod Elements
+mod EventLemmas
+mod Raising
+mod LookingLemmas
+mod EventsLeft
+mod Coming
 mod Inside
 mod StandingLemmas
 mod Taking
 mod Stepping
+mod Executing
 pub mod Reaching
+mod CallsLeft
+mod LoadingLands
 mod Keeping
 mod Moving
+mod KeepingEvents
+pub mod KeepingMachine
+mod Rests
 mod Resting
 mod Composing
+mod GoingOn
+mod Alike
 pub mod Lasting
 pub mod Advancing
 mod Bursting
+mod Delivering
 mod Dispatching
+mod Bounding
+mod Settling
+mod Timing
+mod Acting
 mod Progressing
 mod WaitingLemmas
 mod ArgumentLemmas
@@ -23,6 +41,10 @@ mod StubSteps
 mod LoadingLemmas
 pub mod Landing
 mod Strict
+mod Rising
+mod EventsTaken
+mod EventsRaised
+mod ComingFirst
 mod Histories
 mod Area
 mod AreaLemmas

@@ -47,7 +47,7 @@ zero_memory n memory zero none size =
 
 -- what a program has that was just made with so much memory
 pub record IsReset (n : ℕ) (m : Program) : Type 0 where
-  pub kernel : kernel.Stands StandsFor m.kernel (reset n m.waiting).kernel
+  pub kernel : kernel.Stands StandsFor m.kernel (reset n m.waiting m.events).kernel
   pub cpu : m.cpu ≡ zeroed_at 0
   pub zero : (p : ℕ) → get_or m.guest.ram p 0 ≡ 0
   pub none : m.guest.live ≡ []
@@ -58,9 +58,9 @@ pub record IsReset (n : ℕ) (m : Program) : Type 0 where
   pub over : m.over ≡ None
 
 -- it stands for the machine as it begins
-pub reset_stands : (n : ℕ) (m : Program) → IsReset n m → Stands m (reset n m.waiting)
+pub reset_stands : (n : ℕ) (m : Program) → IsReset n m → Stands m (reset n m.waiting m.events)
 reset_stands n m h =
-    let start = reset n m.waiting in
+    let start = reset n m.waiting m.events in
     record {
       kernel = h.kernel;
       rest = ap (λ (x : Memory). record start { memory = x }) (sym (zero_memory n m.guest h.zero h.none h.sized))

@@ -1,56 +1,42 @@
--- How far each step takes the clock, and that it keeps what holds of the kernel.
-use Rattle.std.proofs.Common.{◌≡◌, ℕ, ◌+◌, ◌≤◌, true, false, Option, Some, None, Result, Ok, Err, List, [], ◌∷◌, refl, ap, sym, ◌∙◌, arith, subst}
-use Rattle.iop_base.specs.declared.code.Code.{Code}
+-- What each step keeps of the kernel.
+use Rattle.std.proofs.Common.{◌≡◌, ℕ, ◌+◌, ◌≤◌, Bool, true, false, Option, Some, None, IfSome, List, inl, inr, refl, ap, sym, ◌∙◌, arith, subst}
 use Rattle.iop_exec.specs.declared.cpu.Cpu.{Cpu}
 use Rattle.iop_exec.specs.Laws.{cpu_after}
 use Rattle.iop_exec.specs.Row.{Row, Goes, Serves, Faults, at_next, row}
+use Rattle.iop_intr.specs.InterruptLines.{IrqLine}
 use Rattle.iop_thread.specs.Placing as threads_placing
+use Rattle.iop_time.specs.Timers.{Timers}
+use Rattle.iop_kernel.specs.Deliveries.{Delivered, delivers}
+use Rattle.iop_kernel.specs.DeliveryLaws.{DeliversFirst}
 use Rattle.iop_kernel.specs.Dispatching.{Dispatched, dispatches}
-use Rattle.iop_kernel.specs.Laws.{IsCore}
+use Rattle.iop_kernel.specs.Laws.{IsCore, IsAwake, HandlerKeeps}
 use Rattle.iop_kernel.specs.Serving.{services}
-use Rattle.iop_kernel.specs.System.{Kernel, Core, Served, may_switch}
+use Rattle.iop_kernel.specs.System.{Kernel, Core, Served, with_irqs, is_active, may_switch}
 use Rattle.iop_kernel.specs.declared.after.After.{After}
 use Rattle.iop_kernel.specs.declared.after.After.TheVariants.{Resume, Switch, ModuleReturned, Fault}
-use Rattle.iop_kernel.proofs.KeepingCore.{CoreKeeps, WaitsHold, holds_alone, waits_of, holds_whole, nothing_changes, keeps_then, with_them, places as stay_placed, straights as stay_straight, moves}
-use Rattle.iop_kernel.proofs.WaitsHolding.{waits_begun, waits_ended, waits_at}
+use Rattle.iop_kernel.proofs.DeliveriesFirst.{deliveries_are_in_order}
+use Rattle.iop_kernel.proofs.KeepingCore.{CoreKeeps, WaitsHold, holds_alone, waits_of, holds_whole, nothing_changes, keeps_then, with_them, irqs_change, may_be_awake, places as stay_placed, straights as stay_straight, moves}
 use Rattle.iop_kernel.proofs.KeepingServices.{services_keep}
+use Rattle.iop_kernel.proofs.OverdueKernels.{beside_in_time}
+use Rattle.iop_kernel.proofs.PlacingBasics.{beside_placed}
 use Rattle.iop_kernel.proofs.Returning.{returning_opens}
 use Rattle.iop_kernel.proofs.RowRegisters.{row_steady}
-use Rattle.iop_kernel.proofs.Settling.{dispatch_clock}
 use Rattle.iop_kernel.proofs.Steady.{IsSteady, AreSteady}
 use Rattle.iop_kernel.proofs.Strict.{dispatches_are_strict}
+use Rattle.iop_kernel.proofs.WaitsHolding.{waits_begun, waits_ended, waits_at}
 use Rattle.iop_modload.specs.Finishing.{finishes}
-use Rattle.iop_modload.specs.declared.loaded.Loaded.{Loaded}
 use Rattle.iop_machine.specs.declared.begun_module.BegunModule.{BegunModule}
 use Rattle.iop_machine.specs.Iop.{Iop, Transition, with_state, later, core_of, system_of}
-use Rattle.iop_machine.specs.Loading.{loading_of, places, enters_or, loads_first, with_kernel, starts_by, boots}
-use Rattle.iop_machine.specs.Modules.{Module, module_start}
+use Rattle.iop_machine.specs.Laws.{IsMachine}
+use Rattle.iop_machine.specs.Loading.{loads_first, with_kernel, starts_by, boots}
+use Rattle.iop_machine.specs.Looking.{takes_events, next_coming}
 use Rattle.iop_machine.specs.Services.{calls, calls_by, serves, leaves, goes_on_by, ends_module, returns_by}
-use Rattle.iop_exec.specs.Arithmetic.{one_if}
-use Rattle.iop_machine.specs.Stepping.{performs, acts_by, goes_by, executes_by}
-
--- what loads modules leaves the kernel as it is, and a processor steady
-pub record Lands (s : Iop) (t : Transition Iop) : Type 0 where
-  pub kernel : t.state.kernel ≡ s.kernel
-  pub straight : IsSteady s.cpu → IsSteady t.state.cpu
-
--- by what its loading came to, where the next one leaves it so
-enters_land : (next : Iop → Transition Iop) → ((v : Iop) → Lands v (next v)) → (s : Iop) (m : Module)
-    (r : Result Loaded Code) → Lands s (enters_or next s m r)
-unfolding module_start
-enters_land next lands s m (Ok loaded) = record { kernel = refl; straight = λ h. (λ out. refl, refl) }
-enters_land next lands s m (Err code) =
-    let later = lands s in record { kernel = later.kernel; straight = later.straight }
-
--- the first module that loads begins
-pub loads_first_lands : (modules : List Module) (s : Iop) → Lands s (loads_first modules s)
-unfolding loads_first
-loads_first_lands [] s = record { kernel = refl; straight = λ h. h }
-loads_first_lands (m ∷ rest) s =
-    let loading = loading_of s m in
-    let entered = enters_land (loads_first rest) (loads_first_lands rest)
-    (places s rest loading).state m loading.answer in
-    record { kernel = entered.kernel; straight = entered.straight }
+use Rattle.iop_machine.specs.Stepping.{stores_it, performs, waits_by, acts_by, dispatches_by, delivers_by, goes}
+use Rattle.iop_machine.specs.World.{booted}
+use Rattle.iop_machine.proofs.Coming.{IsBetween, coming_later}
+use Rattle.iop_machine.proofs.LoadingLands.{Lands, loads_first_lands}
+use Rattle.iop_machine.proofs.LookingLemmas.{taken_irqs, taken_kernel, taken_core, taken_active}
+use Rattle.iop_machine.proofs.Raising.{dispatch_kernel}
 
 -- what holds of the kernel is kept, and no time is taken
 pub record CoreStands (c d : Core) : Type 0 where
@@ -73,21 +59,20 @@ stands_then : {c d e : Core} → CoreStands c d → CoreStands d e → CoreStand
 stands_then g h =
     record { alone = keeps_then g.alone h.alone; waits = λ x. h.waits (g.waits x) }
 
--- where no thread runs, another may
-abbrev IsAwake : Kernel → Type 0
-IsAwake k = k.threads.running ≡ None → may_switch k ≡ true
-
 -- what was loaded keeps it
 landed : {s : Iop} {t : Transition Iop} → Lands s t → Stands s t.state
 landed {s} lands = record {
   alone = record {
     core = λ h. record {
       placed = subst (λ (k : Kernel). threads_placing.IsPlaced k.threads) (sym lands.kernel) h.placed;
-      awake = subst IsAwake (sym lands.kernel) h.awake;
+      awake = subst (λ (k : Kernel). k.threads.running ≡ None → IsAwake k) (sym lands.kernel) h.awake;
       straight = lands.straight h.straight;
       threads = subst (λ (k : Kernel). AreSteady k.threads) (sym lands.kernel) h.threads;
+      handler = subst (λ (k : Kernel). IfSome k.handler HandlerKeeps) (sym lands.kernel) h.handler;
     };
     clock = ap (λ (k : Kernel). k.clock) lands.kernel;
+    handler = ap (λ (k : Kernel). k.handler) lands.kernel;
+    numbers = let same = ap (λ (k : Kernel). k.timers.next) lands.kernel in omega (arith, same);
   };
   waits = subst WaitsHold (sym lands.kernel);
 }
@@ -119,7 +104,7 @@ goes_on_stands s None may = record {
   alone = with_them (core_of s) _ (λ h. record {
     placed = (stay_placed (core_of s) h).ends_running;
     straight = (stay_straight (core_of s) h).ends_running;
-    awake = λ none. may;
+    awake = λ none. may_be_awake s.kernel may;
   });
   waits = waits_ended s.kernel;
 }
@@ -143,10 +128,21 @@ returns_stand : (s : Iop) (o : Option BegunModule) (value : ℕ) → may_switch 
 returns_stand s None value may = goes_on_stands s None may
 returns_stand s (Some m) value may = ends_stand s m value may
 
--- what a step leaves of the kernel, at this moment at the latest
-pub record Moves (s : Iop) (latest : ℕ) (t : Transition Iop) : Type 0 where
-  pub clock : t.state.kernel.clock ≤ latest
-  pub core : IsCore (core_of s) → IsCore (core_of t.state)
+-- each alarm and each delay took an instruction
+abbrev pub AreNumbered : Kernel → Type 0
+AreNumbered k = k.timers.next ≤ k.clock + 1
+
+-- what a step leaves of the kernel
+pub record CoreMoves (c d : Core) : Type 0 where
+  pub core : IsCore c → IsCore d
+  pub numbers : AreNumbered c.kernel → AreNumbered d.kernel
+
+abbrev pub Moves : Iop → Iop → Type 0
+Moves s t = CoreMoves (core_of s) (core_of t)
+
+-- nothing changes
+moves_still : (c : Core) → CoreMoves c c
+moves_still c = record { core = λ h. h; numbers = λ h. h }
 
 -- what holds of the kernel holds at any moment
 at_moment : (c : Core) (clock : ℕ) → IsCore c
@@ -155,18 +151,37 @@ at_moment c clock h =
     let alone = holds_alone h in
     holds_whole (waits_at c.kernel clock (waits_of h)) (record {
       placed = alone.placed;
-      awake = alone.awake;
+      awake = λ none. record {
+        dispatching = (alone.awake none).dispatching;
+        interrupts = (alone.awake none).interrupts;
+      };
       straight = alone.straight;
       threads = alone.threads;
+      handler = alone.handler;
     })
 
--- a transition that takes no time, and then one moment
-moves_later : {s : Iop} {t : Transition Iop} → t.state.kernel.clock ≡ s.kernel.clock
-    → (IsCore (core_of s) → IsCore (core_of t.state))
-    → Moves s (s.kernel.clock + 1) (with_state later t)
-moves_later {s} {t} clock core = record {
-  clock = omega (arith, clock);
+-- and with any interrupt lines
+with_lines : (c : Core) (irqs : List IrqLine) → IsCore c → IsCore (with_irqs c irqs)
+with_lines c irqs h =
+    holds_whole (record {
+      placed = beside_placed _ _ _ _ _ h.placed;
+      overdue = beside_in_time c.kernel h.overdue _ _ _ _ _ _;
+    }) ((irqs_change c irqs).core (holds_alone h))
+
+-- the script's events that are due are taken
+pub takes_move : (s : Iop) → Moves s (takes_events s)
+takes_move s = record {
+  core = λ h. subst IsCore (sym (taken_core s)) (with_lines (core_of s) (taken_irqs s) h);
+  numbers = subst AreNumbered (sym (taken_kernel s));
+}
+
+-- a transition that takes no time and one number at most, and then one moment
+moves_later : (s : Iop) (t : Transition Iop) → t.state.kernel.clock ≡ s.kernel.clock
+    → t.state.kernel.timers.next ≤ s.kernel.timers.next + 1
+    → (IsCore (core_of s) → IsCore (core_of t.state)) → Moves s (with_state later t).state
+moves_later s t clock numbers core = record {
   core = λ h. at_moment (core_of t.state) (t.state.kernel.clock + 1) (core h);
+  numbers = λ h. omega (arith, clock, numbers, h);
 }
 
 -- and with another processor, if that is steady too
@@ -182,58 +197,129 @@ moves_with s cpu moved h =
       threads = h.threads;
       registers = steady.1;
       kept = h.kept;
+      handler = h.handler;
     }
 
 -- by what becomes of the caller
 calls_by_move : (s : Iop) (d : Served) → d.left.state.core.kernel.clock ≡ s.kernel.clock
+    → d.left.state.core.kernel.timers.next ≤ s.kernel.timers.next + 1
     → (IsCore (core_of s) → IsCore d.left.state.core) → (after : After)
     → ((value : ℕ) → after ≡ ModuleReturned value → may_switch d.left.state.core.kernel ≡ true)
-    → Moves s (s.kernel.clock + 1) (calls_by s d after)
-calls_by_move s d clock core Resume opens = moves_later clock core
-calls_by_move s d clock core Switch opens = moves_later clock core
-calls_by_move s d clock core (ModuleReturned value) opens =
+    → Moves s (calls_by s d after).state
+calls_by_move s d clock numbers core Resume opens = moves_later s (serves s d) clock numbers core
+calls_by_move s d clock numbers core Switch opens = moves_later s (serves s d) clock numbers core
+calls_by_move s d clock numbers core (ModuleReturned value) opens =
     let now = (serves s d).state in
     let returns = returns_stand now now.begun value (opens value refl) in
-    moves_later (returns.alone.clock ∙ clock) (λ h. stands_whole returns (core h))
-calls_by_move s d clock core (Fault kind) opens =
-    record { clock = omega arith; core = λ h. h }
+    let few = returns.alone.numbers in
+    moves_later s (returns_by now now.begun value) (returns.alone.clock ∙ clock)
+    (omega (arith, numbers, few))
+    (λ h. stands_whole returns (core h))
+calls_by_move s d clock numbers core (Fault kind) opens = moves_still (core_of s)
 
--- a `syscall`
-calls_move : (s : Iop) (behind : Cpu) (code id : ℕ) → s.kernel.threads.running ≡ Some id
-    → (IsSteady s.cpu → IsSteady behind) → Moves s (s.kernel.clock + 1) (calls s behind code)
+-- a `syscall` of what executes
+calls_move : (s : Iop) (behind : Cpu) (code : ℕ) → is_active s.kernel ≡ true
+    → (IsSteady s.cpu → IsSteady behind) → Moves s (calls s behind code).state
 unfolding calls
-calls_move s behind code id runs moved =
+calls_move s behind code active moved =
     let system = system_of (record s { cpu = behind }) in
-    let kept = services_keep system code id runs in
+    let kept = services_keep system code active in
     let d = services system code in
-    calls_by_move s d kept.clock (λ h. kept.core (moves_with s behind moved h)) d.left.after
-    (λ value e. returning_opens system code value e)
+    calls_by_move s d kept.clock kept.numbers (λ h. kept.core (moves_with s behind moved h))
+    d.left.after (λ value e. returning_opens system code value e)
 
--- an instruction of the thread that runs
-performs_move : (s : Iop) (id : ℕ) (r : Row) → s.kernel.threads.running ≡ Some id
-    → (IsSteady s.cpu → IsSteady (cpu_after s.cpu r))
-    → Moves s (s.kernel.clock + 1) (performs s r)
-performs_move s id (Goes after None) runs moved =
-    moves_later refl (moves_with s after moved)
-performs_move s id (Goes after (Some storing)) runs moved =
-    moves_later refl (moves_with s after moved)
-performs_move s id (Serves code) runs moved = calls_move s (at_next s.cpu) code id runs moved
-performs_move s id (Faults kind) runs moved =
-    record { clock = omega arith; core = λ h. h }
+-- an instruction of it
+performs_move : (s : Iop) (r : Row) → is_active s.kernel ≡ true
+    → (IsSteady s.cpu → IsSteady (cpu_after s.cpu r)) → Moves s (performs s r).state
+performs_move s (Goes after None) active moved =
+    moves_later s (stores_it (record s { cpu = after }) None) refl (omega arith)
+    (moves_with s after moved)
+performs_move s (Goes after (Some storing)) active moved =
+    moves_later s (stores_it (record s { cpu = after }) (Some storing)) refl (omega arith)
+    (moves_with s after moved)
+performs_move s (Serves code) active moved = calls_move s (at_next s.cpu) code active moved
+performs_move s (Faults kind) active moved = moves_still (core_of s)
 
--- where nothing is dispatched
-acts_move : (s : Iop) (running : Option ℕ) → s.kernel.threads.running ≡ running
-    → Moves s (s.kernel.clock + one_if (executes_by None false None running)) (acts_by s running)
-acts_move s None none = record { clock = omega arith; core = λ h. h }
-acts_move s (Some id) runs =
-    performs_move s id (row s.memory.ram s.cpu) runs (row_steady s.memory.ram s.cpu)
+-- the clock goes on to a moment, if one comes
+waits_core : (s : Iop) (o : Option ℕ) → IsCore (core_of s) → IsCore (core_of (waits_by s o).state)
+waits_core s None h = h
+waits_core s (Some moment) h = at_moment (core_of s) moment h
 
--- a step of the machine that was booted
-pub goes_move : (s : Iop) (o : Option Dispatched) → dispatches (core_of s) ≡ o
-    → Moves s (s.kernel.clock + one_if (executes_by None false o s.kernel.threads.running))
-    (goes_by s o)
-goes_move s (Some d) is = record {
-  clock = let same = dispatch_clock (core_of s) d is in omega (arith, same);
-  core = λ h. (dispatches_are_strict.dispatched (core_of s) d h is).core;
-}
-goes_move s None is = acts_move s s.kernel.threads.running refl
+-- to one that is no earlier than now
+waits_numbered : (s : Iop) (o : Option ℕ) → IfSome o (λ moment. s.kernel.clock ≤ moment)
+    → AreNumbered s.kernel → AreNumbered (waits_by s o).state.kernel
+waits_numbered s None later h = h
+waits_numbered s (Some moment) later h = omega (arith, h, later)
+
+-- a delivery gives no number
+delivery_numbers : (c : Core) (d : Delivered) → DeliversFirst c d
+    → d.core.kernel.timers.next ≡ c.kernel.timers.next
+delivery_numbers c d (inl (line, first)) = ap (λ (timers : Timers). timers.next) first.timers
+delivery_numbers c d (inr (inl (alarm, first))) =
+    ap (λ (timers : Timers). timers.next) first.taken.1
+delivery_numbers c d (inr (inr (delay, first))) = first.taken.1.0
+
+module _ (s : Iop) (core : IsCore (core_of s)) where
+  -- what executes, or the waiting, keeps what holds
+  acts_core : (active : Bool) → is_active s.kernel ≡ active
+      → IsCore (core_of (acts_by s active).state)
+  acts_core false idle = waits_core s (next_coming s) core
+  acts_core true active =
+      (performs_move s (row s.memory.ram s.cpu) active (row_steady s.memory.ram s.cpu)).core core
+
+  -- so does a dispatch
+  dispatches_core : (o : Option Dispatched) → dispatches (core_of s) ≡ o
+      → IsCore (core_of (dispatches_by s o).state)
+  dispatches_core (Some d) is = (dispatches_are_strict.dispatched (core_of s) d core is).core
+  dispatches_core None is = acts_core (is_active s.kernel) refl
+
+  -- and a delivery
+  delivers_core : (o : Option Delivered) → delivers (core_of s) ≡ o
+      → IsCore (core_of (delivers_by s o).state)
+  delivers_core (Some d) is = (deliveries_are_in_order.delivered (core_of s) d core is).core
+  delivers_core None is = dispatches_core (dispatches (core_of s)) refl
+
+  -- where what comes is no earlier than now, each alarm and each delay took an instruction
+  module _ (numbers : AreNumbered s.kernel)
+      (coming : delivers (core_of s) ≡ None → is_active s.kernel ≡ false
+      → IfSome (next_coming s) (λ moment. s.kernel.clock ≤ moment)) where
+    acts_numbered : delivers (core_of s) ≡ None → (active : Bool) → is_active s.kernel ≡ active
+        → AreNumbered (acts_by s active).state.kernel
+    acts_numbered none false idle = waits_numbered s (next_coming s) (coming none idle) numbers
+    acts_numbered none true active =
+        (performs_move s (row s.memory.ram s.cpu) active
+        (row_steady s.memory.ram s.cpu)).numbers numbers
+
+    dispatches_numbered : delivers (core_of s) ≡ None → (o : Option Dispatched)
+        → dispatches (core_of s) ≡ o → AreNumbered (dispatches_by s o).state.kernel
+    dispatches_numbered none (Some d) is =
+        subst AreNumbered (sym (dispatch_kernel (core_of s) d is)) numbers
+    dispatches_numbered none None is = acts_numbered none (is_active s.kernel) refl
+
+    delivers_numbered : (o : Option Delivered) → delivers (core_of s) ≡ o
+        → AreNumbered (delivers_by s o).state.kernel
+    delivers_numbered (Some d) is =
+        let kept = deliveries_are_in_order.delivered (core_of s) d core is in
+        let clock = ap (λ (k : Kernel). k.clock) kept.kernel in
+        let same = delivery_numbers (core_of s) d kept.first in
+        omega (arith, numbers, clock, same)
+    delivers_numbered None is = dispatches_numbered is (dispatches (core_of s)) refl
+
+-- a step of the machine that was booted keeps what holds of the kernel
+pub goes_core : (s : Iop) → IsCore (core_of s) → IsCore (core_of (goes s).state)
+goes_core s core =
+    let v = takes_events s in
+    delivers_core v ((takes_move s).core core) (delivers (core_of v)) refl
+
+-- and that each alarm and each delay took an instruction
+pub goes_numbered : (s : Iop) → IsMachine (booted s) → AreNumbered (goes s).state.kernel
+goes_numbered s machine =
+    let v = takes_events s in
+    delivers_numbered v ((takes_move s).core machine.core) ((takes_move s).numbers machine.numbers)
+    (λ none idle. no_earlier _ _ (next_coming v)
+    (coming_later s machine none (sym (taken_active s) ∙ idle))) (delivers (core_of v)) refl
+  where
+    no_earlier : (low high : ℕ) (o : Option ℕ) → IfSome o (IsBetween low high)
+        → IfSome o (λ moment. low ≤ moment)
+    no_earlier low high None h = h
+    no_earlier low high (Some moment) h = let later = h.0 in omega (arith, later)

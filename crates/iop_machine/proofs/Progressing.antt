@@ -1,18 +1,25 @@
 -- How a run goes on by a call of the machine.
-use Rattle.std.proofs.Common.{◌≡◌, ℕ, ◌+◌, suc, ◌<◌, false, ap, sym, ◌∙◌, arith, subst}
+use Rattle.std.proofs.Common.{◌≡◌, ℕ, ◌+◌, ◌*◌, suc, ◌<◌, Bool, true, false, Option, None, List, ap, sym, ◌∙◌, arith, subst}
 use Rattle.iop_base.specs.Output.{Output}
-use Rattle.iop_machine.specs.Advancing.{Reached, Advances, Progresses}
+use Rattle.iop_base.specs.declared.stop.Stop.{Stop}
+use Rattle.iop_kernel.specs.declared.kernel.Kernel.{Kernel as Kernels}
+use Rattle.iop_ready.specs.declared.entry.Entry.{Entry}
+use Rattle.iop_machine.specs.Advancing.{Reached, Advances, Progresses, IsLess, calls_by}
+use Rattle.iop_machine.specs.Iop.{Iop}
 use Rattle.iop_machine.specs.Laws.{IsMachine}
-use Rattle.iop_machine.specs.Standing.{StandsBooted, StandsForWorld, IsSoundMachine}
-use Rattle.iop_machine.specs.Stepping.{steps}
+use Rattle.iop_machine.specs.Standing.{Stands, StandsBooted, StandsForWorld, IsSoundMachine}
+use Rattle.iop_machine.specs.Stepping.{steps, most_between}
+use Rattle.iop_machine.specs.Loading.{boots}
+use Rattle.iop_machine.specs.Running.{HasTime}
 use Rattle.iop_machine.specs.World.{World, booted}
 use Rattle.iop_machine.specs.declared.iop.Iop.{Iop as Program}
 use Rattle.iop_machine.specs.declared.machine.Machine.{Machine}
 use Rattle.iop_machine.specs.declared.progress.Progress.{Progress}
 use Rattle.iop_machine.specs.declared.progress.Progress.TheVariants.{Stopped, Advanced}
 use Rattle.iop_machine.proofs.Advancing.{progresses_as, then_advances, then_stops}
-use Rattle.iop_machine.proofs.Landing.{runs_keep_stubs}
-use Rattle.iop_machine.proofs.Resting.{clock_steps}
+use Rattle.iop_machine.proofs.Bounding.{calls_left, few_turns, is_less}
+use Rattle.iop_machine.proofs.KeepingMachine.{steps_keep_machine}
+use Rattle.iop_machine.proofs.Timing.{boots_kernel, steps_clock}
 
 -- what the booted machine does of a run, the whole machine does
 pub progresses_booted : (m : Machine) (new : Program) (p : Progress) (budget : ℕ) (a b : Output)
@@ -29,7 +36,7 @@ module _ {w : World} {most i budget : ℕ} {now : Machine} {a b : Output}
     (r : Reached StandsForWorld w most i budget now a b) (machine : IsMachine w) where
   -- the machine that was reached stands for one that can be
   pub reached_machine : IsMachine (steps i w).state
-  reached_machine = (runs_keep_stubs w i machine).machine
+  reached_machine = steps_keep_machine w i machine
 
   -- what follows what was reached is part of the whole run
   pub then_progresses : (p : Progress) (new : Machine) (c : Output)
@@ -45,14 +52,32 @@ module _ {w : World} {most i budget : ℕ} {now : Machine} {a b : Output}
 pub progressed_sound : (p : Progress) (w : World) (most : ℕ) (new : Machine) (a c : Output)
     → IsMachine w → Progresses StandsForWorld p w most new a c → IsSoundMachine new
 progressed_sound (Stopped stop) w most new a c machine h =
-    (_, h.1.reached.state, (runs_keep_stubs w h.0 machine).machine)
+    (_, h.1.reached.state, steps_keep_machine w h.0 machine)
 progressed_sound (Advanced left) w most new a c machine h =
-    (_, h.1.state, (runs_keep_stubs w (suc h.0) machine).machine)
+    (_, h.1.state, steps_keep_machine w (suc h.0) machine)
 
--- the clock takes no more ticks than the budget has instructions
-pub advances_time : {w : World} {most k left : ℕ} {m new : Machine} {a c : Output} (bound : ℕ)
+-- there is time for what is left of the budget
+pub advances_time : {w : World} {most k left : ℕ} {m new : Machine} {a c : Output} → IsMachine w
     → StandsForWorld m w → Advances StandsForWorld w most k left new a c
-    → m.iop.kernel.clock + most < bound → new.iop.kernel.clock + left < bound
-advances_time {w} {most} {k} bound old h time =
-    let ticks = clock_steps w (suc k) in
-    omega (arith, time, ticks, h.left_is, old.iop.kernel.holds.clock, h.state.iop.kernel.holds.clock)
+    → HasTime m.iop.kernel.clock most → HasTime new.iop.kernel.clock left
+advances_time {w} {most} {k} machine old h time =
+    let ticks = (steps_clock w (suc k) machine).latest in
+    let before = old.iop.kernel.holds.clock in
+    omega (arith, time, ticks, h.left_is, before, h.state.iop.kernel.holds.clock)
+
+-- a machine that was booted has fewer turns left
+pub boots_less : {m new : Program} {s : Iop} (budget : ℕ) → Stands m s
+    → Stands new (boots s).state → (failed : Bool)
+    → IsLess (Advanced budget) failed new.over false new.kernel
+    (most_between * budget + calls_by None true m.kernel)
+boots_less {s = s} budget h g =
+    let same = ap calls_left (boots_kernel s) in
+    let turns = few_turns (boots s).state.over in
+    is_less h g budget budget None true (omega (arith, same, turns))
+
+-- where no write failed less is left
+pub less_of : (left : ℕ) (over : Option Stop) (is_new : Bool) (k : Kernels (List Entry)) {most : ℕ}
+    (failed : Bool) → failed ≡ false → IsLess (Advanced left) failed over is_new k most
+    → most_between * left + calls_by over is_new k < most
+less_of left over is_new k true is less = absurd (cc is)
+less_of left over is_new k false is less = less

@@ -1,118 +1,249 @@
--- How many steps execute no instruction, and how far the clock goes.
-use Rattle.std.proofs.Common.{◌≡◌, ℕ, zero, suc, ◌+◌, ◌*◌, ◌≤◌, Bool, true, false, Option, Some, None, refl, ap, ◌∙◌, arith}
-use Rattle.iop_base.specs.declared.stop.Stop.{Stop}
-use Rattle.iop_kernel.specs.Dispatching.{Dispatched, dispatches}
-use Rattle.iop_kernel.proofs.Settling.{dispatch_settles}
-use Rattle.iop_machine.specs.Iop.{Iop, Transition, core_of}
-use Rattle.iop_machine.specs.Loading.{boots}
+-- Each step that executes no instruction leaves fewer such steps.
+use Rattle.std.proofs.Common.{◌≡◌, ℕ, ◌+◌, ◌*◌, ◌<◌, ◌≤◌, min, Bool, true, false, ◌||◌, Option, Some, None, List, [], length, refl, ap, sym, ◌∙◌, arith, subst, inl, inr}
+use Rattle.std.specs.Prelude.{MatchOption, is_some, option_map}
+use Rattle.iop_base.specs.declared.stop.Stop.TheVariants.{Quiet}
 use Rattle.iop_exec.specs.Arithmetic.{one_if}
-use Rattle.iop_machine.specs.Stepping.{step, steps, executes, executed, executes_by, acts_by, goes_by}
+use Rattle.iop_exec.specs.Row.{row}
+use Rattle.iop_kernel.specs.Deliveries.{Delivered, delivers, may_deliver}
+use Rattle.iop_kernel.specs.Dispatching.{Dispatched, dispatches}
+use Rattle.iop_kernel.specs.Laws.{IsCore}
+use Rattle.iop_kernel.specs.System.{Kernel, is_active}
+use Rattle.iop_kernel.specs.declared.active_handler.ActiveHandler.{ActiveHandler}
+use Rattle.iop_kernel.proofs.DeliveriesFirst.{deliveries_are_in_order}
+use Rattle.iop_kernel.proofs.Settling.{settled_later}
+use Rattle.iop_kernel.proofs.Strict.{dispatches_are_strict}
+use Rattle.iop_script.specs.declared.raise.Raise.{Raise}
+use Rattle.iop_time.specs.Laws.{Stands, NoneHasCome, IsNextMoment}
+use Rattle.iop_time.specs.Timers.{Timers}
+use Rattle.iop_time.specs.Turns.{next_moment}
+use Rattle.iop_time.specs.declared.ticks.TheConstants.{NEVER}
+use Rattle.iop_time.proofs.Nexts.{next_moment_is_least}
+use Rattle.iop_machine.specs.Events.{earlier, next_tick}
+use Rattle.iop_machine.specs.Iop.{Iop, Transition, core_of, with_core}
+use Rattle.iop_machine.specs.Laws.{IsMachine}
+use Rattle.iop_machine.specs.Loading.{boots}
+use Rattle.iop_machine.specs.Looking.{takes_events, next_coming, at_moment}
+use Rattle.iop_machine.specs.Stepping.{step, executes, executes_by, performs, waits_by, acts_by, dispatches_by, delivers_by, goes, most_between}
 use Rattle.iop_machine.specs.World.{World, booted}
-use Rattle.iop_machine.proofs.Moving.{boots_stand, goes_move}
-use Rattle.iop_machine.proofs.Reaching.{steps_suc, executed_suc}
-use Rattle.iop_machine.proofs.Stepping.{step_over, step_begins, executes_as}
+use Rattle.iop_machine.proofs.CallsLeft.{delivery_leaves_fewer}
+use Rattle.iop_machine.proofs.Coming.{idle_may}
+use Rattle.iop_machine.proofs.EventLemmas.{AreLater, IsNextTick, next_tick_is, left_few, left_fewer}
+use Rattle.iop_machine.proofs.KeepingEvents.{boots_events, performs_events}
+use Rattle.iop_machine.proofs.KeepingMachine.{step_keeps_machine}
+use Rattle.iop_machine.proofs.LookingLemmas.{taken_irqs, taken_kernel, taken_active, taken_later, taken_core, dispatches_taken}
+use Rattle.iop_machine.proofs.Moving.{takes_move}
+use Rattle.iop_machine.proofs.Raising.{dispatched_with}
+use Rattle.iop_machine.proofs.Rests.{deliveries, turns_by, turns_delivered, turns_dispatched, turns_are, behind, behind_is, rest, rest_is, rest_over, rest_booted, rest_later, rest_bounded, HasFewDelays, few_delays, taken_deliveries}
+use Rattle.iop_machine.proofs.Stepping.{step_begins, executes_as, looks_now}
 
--- how many steps at most execute no instruction from here on, if no more instruction is executed
-abbrev rest_by : Option Stop → (is_new : Bool) → Option Dispatched → ℕ
-rest_by (Some stop) is_new dispatch = 0
-rest_by None true dispatch = 3
-rest_by None false (Some d) = 2
-rest_by None false None = 1
+-- where no handler was active and the same thread runs, nothing executes now only if nothing did
+idle_before : (handler now : Option ActiveHandler) (running runs : Option ℕ) → handler ≡ None
+    → runs ≡ running → (is_some now || is_some runs) ≡ false
+    → (is_some handler || is_some running) ≡ false
+idle_before (Some one) now running runs none same idle = absurd (cc none)
+idle_before None (Some one) running runs none same idle = absurd (cc idle)
+idle_before None None running runs none same idle = ap is_some (sym same) ∙ idle
 
-abbrev pub rest : World → ℕ
-rest w = rest_by w.iop.over w.is_new (dispatches (core_of w.iop))
+-- a thread that runs executes
+runs_active : (handler : Option ActiveHandler) (running : Option ℕ) (id : ℕ) → running ≡ Some id
+    → (is_some handler || is_some running) ≡ true
+runs_active (Some one) running id runs = refl
+runs_active None running id runs = ap is_some runs
 
--- they are three at most
-few_by : (o : Option Stop) (is_new : Bool) (d : Option Dispatched) → rest_by o is_new d ≤ 3
-few_by (Some stop) is_new d = omega arith
-few_by None true d = omega arith
-few_by None false (Some d) = omega arith
-few_by None false None = omega arith
+-- what comes at a moment is an event, an alarm or a delay
+comes_something : (events : List Raise) (timers : Timers) (moment : ℕ) (tick next : Option ℕ)
+    → MatchOption tick (events ≡ []) (IsNextTick events)
+    → MatchOption next ((m n : ℕ) → Stands timers m n → NEVER ≤ m) (IsNextMoment timers)
+    → earlier tick next ≡ Some moment → AreLater moment events → NoneHasCome timers moment → ⊥
+comes_something events timers moment None None h g is later none = absurd (cc is)
+comes_something events timers moment (Some tick) None h g is later none =
+    let same : tick ≡ moment = cc is in
+    let after = h.later moment later in
+    omega (arith, same, after)
+comes_something events timers moment None (Some next) h g is later none =
+    let same : next ≡ moment = cc is in
+    none next g.number (g.stands, omega (arith, same), g.comes)
+comes_something events timers moment (Some tick) (Some next) h g is later none =
+    let same : min tick next ≡ moment = cc is in
+    let after = h.later moment later in
+    none next g.number (g.stands, omega (arith, same, after), g.comes)
 
-pub rest_few : (w : World) → rest w ≤ 3
-rest_few w = few_by w.iop.over w.is_new (dispatches (core_of w.iop))
+module _ (v : Iop) (core : IsCore (core_of v)) (later : AreLater v.kernel.clock v.events) where
+  -- after a delivery fewer are left
+  rest_delivered : (d : Delivered) → delivers (core_of v) ≡ Some d
+      → rest (booted (with_core v d.core)) + 1 ≤ behind v
+  rest_delivered d is =
+      let t = with_core v d.core in
+      let keeps = deliveries_are_in_order.delivered (core_of v) d core is in
+      let h = delivery_leaves_fewer (core_of v) d is in
+      let fewer : deliveries t.kernel < deliveries v.kernel = h.fewer in
+      let left = rest_later t (subst (λ n. AreLater n v.events) (sym h.clock) later) in
+      let new = behind_is t in
+      let old = behind_is v in
+      let turning = turns_delivered (is_active v.kernel) (is_some (dispatches (core_of v)))
+      (is_active t.kernel) (is_some (delivers d.core)) (is_some (dispatches d.core))
+      (idle_before v.kernel.handler t.kernel.handler v.kernel.threads.running
+      t.kernel.threads.running keeps.allowed.handler keeps.running) in
+      let before = turns_are v (is_active v.kernel) true (is_some (dispatches (core_of v))) refl
+      (ap is_some is) refl in
+      omega (arith, fewer, left, new, old, turning, before)
 
--- two, once it was booted
-booted_rest : (o : Option Stop) (d : Option Dispatched) → rest_by o false d ≤ 2
-booted_rest (Some stop) d = omega arith
-booted_rest None (Some d) = omega arith
-booted_rest None None = omega arith
+  -- and after a dispatch
+  rest_dispatched : (d : Dispatched) → dispatches (core_of v) ≡ Some d
+      → rest (booted (with_core v d.core)) + 1 ≤ behind v
+  rest_dispatched d is =
+      let t = with_core v d.core in
+      let keeps = dispatches_are_strict.dispatched (core_of v) d core is in
+      let same : deliveries t.kernel ≡ deliveries v.kernel = ap deliveries keeps.kernel in
+      let left = rest_later t (subst (λ n. AreLater n v.events) (sym keeps.clock) later) in
+      let new = behind_is t in
+      let old = behind_is v in
+      let turning = turns_dispatched (is_active v.kernel) (is_some (delivers (core_of v)))
+      (is_active t.kernel) (is_some (dispatches d.core))
+      (runs_active t.kernel.handler t.kernel.threads.running _ keeps.switch.runs)
+      (ap is_some keeps.switch.settled) (is_some (delivers d.core)) in
+      let before = turns_are v (is_active v.kernel) (is_some (delivers (core_of v))) true refl refl
+      (ap is_some is) in
+      omega (arith, same, left, new, old, turning, before)
 
--- by the thread that runs
-rest_acts : (s : Iop) (running : Option ℕ)
-    → rest (booted (acts_by s running).state) + 1
-    ≤ 1 + 2 * one_if (executes_by None false None running)
-rest_acts s None = omega arith
-rest_acts s (Some id) =
-    let now = (acts_by s (Some id)).state in
-    omega (arith, booted_rest now.over (dispatches (core_of now)))
+  module _ (none : delivers (core_of v) ≡ None) (settled : dispatches (core_of v) ≡ None) where
+    module _ (idle : is_active v.kernel ≡ false) where
+      module _ (moment : ℕ) (coming : next_coming v ≡ Some moment) where
+        -- the clock goes on to a moment, and the events that are due then are taken
+        abbrev then : Iop
+        then = takes_events (at_moment v moment)
 
--- by what is dispatched, after which nothing is
-rest_goes : (s : Iop) (d : Option Dispatched) → s.over ≡ None → dispatches (core_of s) ≡ d
-    → rest (booted (goes_by s d).state) + 1
-    ≤ rest_by None false d + 2 * one_if (executes_by None false d s.kernel.threads.running)
-rest_goes s (Some d) over is =
-    let now = (goes_by s (Some d)).state in
-    omega (
-      arith,
-      ap (λ o. rest_by o false (dispatches (core_of now))) over,
-      ap (rest_by None false) (dispatch_settles (core_of s) d is),
-    )
-rest_goes s None over is = rest_acts s s.kernel.threads.running
+        -- where nothing is delivered then, an event is
+        event_comes : delivers (core_of then) ≡ None → AreLater moment v.events → ⊥
+        event_comes nothing events =
+            let may : may_deliver (core_of then) ≡ true =
+            ap may_deliver (taken_core (at_moment v moment)) ∙ idle_may (core_of v) core idle in
+            let not_yet = subst (λ (k : Kernel). NoneHasCome k.timers k.clock)
+            (taken_kernel (at_moment v moment))
+            (deliveries_are_in_order.no_moment (core_of then) nothing may) in
+            comes_something v.events v.kernel.timers moment (next_tick v.events)
+            (next_moment v.kernel.timers) (next_tick_is v.events)
+            (next_moment_is_least v.kernel.timers) coming events not_yet
 
-module _ (w : World) (over : w.iop.over ≡ None) where
-  abbrev dispatch : Option Dispatched
-  dispatch = dispatches (core_of w.iop)
+        -- what rests then, by whether something is delivered
+        rest_by_events : (delivering : Bool) → is_some (delivers (core_of then)) ≡ delivering
+            → rest (booted (at_moment v moment)) + length v.events + 2
+            ≤ behind v + length then.events + turns_by false delivering false
+        rest_by_events delivering is =
+            let t = at_moment v moment in
+            let left = rest_booted t in
+            let new = behind_is then in
+            let old = behind_is v in
+            let same : deliveries then.kernel ≡ deliveries v.kernel = taken_deliveries t in
+            let before = turns_are v false false false idle (ap is_some none)
+            (ap is_some settled) in
+            let still = dispatches_taken t
+            ∙ ap (option_map (dispatched_with (taken_irqs t)))
+            (settled_later (core_of v) moment v.cpu settled) in
+            let turning = turns_are then false delivering false (taken_active t ∙ idle) is
+            (ap is_some still) in
+            omega (arith, left, new, old, same, before, turning)
 
-  -- what rests where it is not stopped
-  rest_is : (is_new : Bool) → w.is_new ≡ is_new → rest w ≡ rest_by None is_new dispatch
-  rest_is is_new f = ap (λ x. rest_by x w.is_new dispatch) over
-      ∙ ap (λ x. rest_by None x dispatch) f
+        -- where nothing is, an event is taken
+        rest_then : (o : Option Delivered) → delivers (core_of then) ≡ o
+            → rest (booted (at_moment v moment)) + 1 ≤ behind v
+        rest_then (Some d) is =
+            let h = rest_by_events true (ap is_some is) in
+            let few = left_few moment v.events in
+            omega (arith, h, few)
+        rest_then None is =
+            let h = rest_by_events false (ap is_some is) in
+            elim (left_fewer moment v.events) [
+              | inl later ↦ absurd (event_comes is later)
+              | inr fewer ↦ omega (arith, h, fewer)
+            ]
 
-  -- how many instructions it executes then
-  executes_if : (is_new : Bool) → w.is_new ≡ is_new
-      → one_if (executes w) ≡ one_if (executes_by None is_new dispatch w.iop.kernel.threads.running)
-  executes_if is_new f = ap one_if (executes_as w is_new _ _ over f refl refl)
+      -- by what comes next
+      rest_waits : (o : Option ℕ) → next_coming v ≡ o
+          → rest (booted (waits_by v o).state) + 1 ≤ behind v
+      rest_waits None is =
+          let over = rest_over (booted (record v { over = Some Quiet })) Quiet refl in
+          let old = behind_is v in
+          omega (arith, over, old)
+      rest_waits (Some moment) is =
+          rest_then moment is (delivers (core_of (takes_events (at_moment v moment)))) refl
+
+    -- by whether a thread or a handler executes
+    rest_acts : (active : Bool) → is_active v.kernel ≡ active
+        → HasFewDelays (acts_by v active).state
+        → rest (booted (acts_by v active).state) + 1
+        ≤ behind v + (most_between + 1) * one_if active
+    rest_acts false idle few =
+        let waits = rest_waits idle (next_coming v) refl in omega (arith, waits)
+    rest_acts true active few =
+        let r = row v.memory.ram v.cpu in
+        let left = rest_bounded (performs v r).state few in
+        let same = ap length (performs_events v r) in
+        let old = behind_is v in
+        omega (arith, left, same, old)
+
+  -- where nothing is delivered, by what is dispatched
+  rest_dispatches : (o : Option Dispatched) → delivers (core_of v) ≡ None
+      → dispatches (core_of v) ≡ o → HasFewDelays (dispatches_by v o).state
+      → rest (booted (dispatches_by v o).state) + 1
+      ≤ behind v + (most_between + 1) * one_if (executes_by None false None o (is_active v.kernel))
+  rest_dispatches (Some d) none is few =
+      let less = rest_dispatched d is in omega (arith, less)
+  rest_dispatches None none is few = rest_acts none is (is_active v.kernel) refl few
+
+  -- by what is delivered
+  rest_delivers : (o : Option Delivered) → delivers (core_of v) ≡ o
+      → HasFewDelays (delivers_by v o).state
+      → rest (booted (delivers_by v o).state) + 1
+      ≤ behind v + (most_between + 1)
+      * one_if (executes_by None false o (dispatches (core_of v)) (is_active v.kernel))
+  rest_delivers (Some d) is few = let less = rest_delivered d is in omega (arith, less)
+  rest_delivers None is few = rest_dispatches (dispatches (core_of v)) is refl few
+
+-- so is it after each step of a machine that was booted
+rest_goes : (s : Iop) → IsMachine (booted s) → s.over ≡ None → HasFewDelays (goes s).state
+    → rest (booted (goes s).state) + 1
+    ≤ rest (booted s) + (most_between + 1) * one_if (executes (booted s))
+rest_goes s machine over few =
+    let v = takes_events s in
+    let less = rest_delivers v ((takes_move s).core machine.core) (taken_later s)
+    (delivers (core_of v)) refl few in
+    let same = rest_is (booted s) false over refl in
+    let executing = ap one_if (executes_as (booted s) false _ _ _ over refl (looks_now s)) in
+    omega (arith, less, same, executing)
+
+module _ (w : World) (machine : IsMachine w) (over : w.iop.over ≡ None) where
+  -- the delays are few after the step, whatever it is
+  few_after : (t : Iop) → (step w).state ≡ booted t → HasFewDelays t
+  few_after t is =
+      subst (λ (x : World). HasFewDelays x.iop) is
+      (few_delays (step w).state (step_keeps_machine w machine over))
 
   -- by whether it is to be booted
   rest_after : (is_new : Bool) → w.is_new ≡ is_new
-      → rest (step w).state + 1 ≤ rest w + 2 * one_if (executes w)
-  rest_after true f =
-      let now = (boots w.iop).state in
-      let is = ap (λ (t : Transition World). rest t.state) (step_begins w true over f) in
-      omega (arith, is, rest_is true f, booted_rest now.over (dispatches (core_of now)))
-  rest_after false f =
-      let is = ap (λ (t : Transition World). rest t.state) (step_begins w false over f) in
-      omega (arith, is, rest_is false f, executes_if false f, rest_goes w.iop dispatch over refl)
+      → rest (step w).state + 1 ≤ rest w + (most_between + 1) * one_if (executes w)
+  rest_after true new =
+      let t = (boots w.iop).state in
+      let is : (step w).state ≡ booted t =
+      ap (λ (x : Transition World). x.state) (step_begins w true over new) in
+      let left = rest_bounded t (few_after t is) in
+      let events = ap length (boots_events w.iop) in
+      let before = rest_is w true over new in
+      let after = ap rest is in
+      omega (arith, left, events, before, after)
+  rest_after false new =
+      let t = (goes w.iop).state in
+      let is : (step w).state ≡ booted t =
+      ap (λ (x : Transition World). x.state) (step_begins w false over new) in
+      let same : booted w.iop ≡ w =
+      ap (λ b. record { is_new = b; iop = w.iop }) (sym new) in
+      let goes_on = rest_goes w.iop (subst IsMachine (sym same) machine) over (few_after t is) in
+      let executing = ap (λ x. one_if (executes x)) same in
+      let before = ap rest same in
+      let after = ap rest is in
+      omega (arith, goes_on, executing, before, after)
 
-  -- a step leaves fewer steps without an instruction; one that executes an instruction leaves one more
-  -- at most
-  pub rest_step : rest (step w).state + 1 ≤ rest w + 2 * one_if (executes w)
+  -- each step that executes no instruction leaves fewer of them, and one that executes an
+  -- instruction fewer than 600 more
+  pub rest_step : rest (step w).state + 1 ≤ rest w + (most_between + 1) * one_if (executes w)
   rest_step = rest_after w.is_new refl
-
-  -- by whether it is to be booted
-  clock_after : (is_new : Bool) → w.is_new ≡ is_new
-      → (step w).state.iop.kernel.clock ≤ w.iop.kernel.clock + one_if (executes w)
-  clock_after true f =
-      let is = ap (λ (t : Transition World). t.state.iop.kernel.clock) (step_begins w true over f) in
-      omega (arith, is, (boots_stand w.iop).alone.clock)
-  clock_after false f =
-      let is = ap (λ (t : Transition World). t.state.iop.kernel.clock) (step_begins w false over f) in
-      omega (arith, is, executes_if false f, (goes_move w.iop dispatch refl).clock)
-
--- a step takes a tick, if it executes an instruction
-clock_by : (w : World) (o : Option Stop) → w.iop.over ≡ o
-    → (step w).state.iop.kernel.clock ≤ w.iop.kernel.clock + one_if (executes w)
-clock_by w (Some stop) e =
-    omega (arith, ap (λ (t : Transition World). t.state.iop.kernel.clock) (step_over w stop e))
-clock_by w None e = clock_after w e w.is_new refl
-
--- the clock takes no more ticks than instructions are executed
-pub clock_steps : (w : World) (k : ℕ)
-    → (steps k w).state.iop.kernel.clock ≤ w.iop.kernel.clock + executed k w
-unfolding steps executed
-clock_steps w zero = omega arith
-clock_steps w (suc k) =
-    let v = (steps k w).state in
-    let same = ap (λ (t : Transition World). t.state.iop.kernel.clock) (steps_suc k w) in
-    omega (arith, clock_steps w k, clock_by v v.iop.over refl, same, executed_suc k w)

@@ -6,12 +6,10 @@ use Rattle.iop_base.specs.declared.guest_fault.GuestFault.{GuestFault}
 use Rattle.iop_exec.specs.Positions.{standing_at}
 use Rattle.iop_exec.specs.declared.cpu.Cpu.{Cpu}
 use Rattle.iop_exec.specs.declared.position.Position.{Position}
-use Rattle.iop_kernel.proofs.Faulting.{services_alone}
-use Rattle.iop_kernel.proofs.KeepingServices.{services_keep}
 use Rattle.iop_kernel.specs.Laws.{ServiceKeeps}
 use Rattle.iop_kernel.specs.Serving.{services}
 use Rattle.iop_kernel.specs.Standing as kernel
-use Rattle.iop_kernel.specs.System.{Kernel, Served}
+use Rattle.iop_kernel.specs.System.{Kernel, Served, is_active}
 use Rattle.iop_kernel.specs.declared.after.After.{After}
 use Rattle.iop_kernel.specs.declared.after.After.TheVariants.{Fault}
 use Rattle.iop_kernel.specs.declared.kernel.Kernel.{Kernel as Kernels}
@@ -28,8 +26,10 @@ use Rattle.iop_machine.specs.Iop.{Iop, Takes, with_state, system_of, with_system
 use Rattle.iop_machine.specs.Loading.{loads_first}
 use Rattle.iop_machine.specs.Services.{faults_with, leaves, goes_on_by, ends_module, returns_by, serves, calls_by, calls}
 use Rattle.iop_machine.specs.Standing.{iop_of, Stands}
+use Rattle.iop_kernel.proofs.Faulting.{services_alone}
+use Rattle.iop_kernel.proofs.KeepingServices.{services_keep}
 use Rattle.iop_machine.proofs.Inside.{length-after_stores}
-use Rattle.iop_machine.proofs.Moving.{loads_first_lands}
+use Rattle.iop_machine.proofs.LoadingLands.{loads_first_lands}
 use Rattle.iop_machine.proofs.StandingLemmas.{IsMoment, carried}
 use Rattle.iop_machine.proofs.Taking.{takes_as, takes_then, takes_with}
 
@@ -117,7 +117,7 @@ goes_on_clock s None = refl
 goes_on_clock s (Some begun) = refl
 
 -- nor does the return of a module
-returns_clock : (s : Iop) (o : Option BegunModule) (value : ℕ)
+pub returns_clock : (s : Iop) (o : Option BegunModule) (value : ℕ)
     → (returns_by s o value).state.kernel.clock ≡ s.kernel.clock
 unfolding ends_module
 returns_clock s None value = refl
@@ -217,25 +217,19 @@ module _ {m left : Program} {code : ℕ} {after : After} {a b : Output}
         gives = subst (Gives a b) alone.1 taken.gives;
       })
 
-  -- where a thread runs, a call keeps what each service keeps
-  pub keeps : (s : Iop) → is_some s.kernel.threads.running ≡ true
-      → ServiceKeeps (system_of s) (did code s)
-  keeps s runs = by s.kernel.threads.running refl runs
-    where
-      by : (o : Option ℕ) → s.kernel.threads.running ≡ o → is_some o ≡ true
-          → ServiceKeeps (system_of s) (did code s)
-      by None e some = absurd (cc some)
-      by (Some id) e some = services_keep (system_of s) code id e
+  -- where a thread or a handler executes, a call keeps what each service keeps
+  keeps : (s : Iop) → is_active s.kernel ≡ true → ServiceKeeps (system_of s) (did code s)
+  keeps s = services_keep (system_of s) code
 
   -- so the moment is that of before
-  pub clock_left : (s : Iop) → Stands m s → is_some s.kernel.threads.running ≡ true
+  pub clock_left : (s : Iop) → Stands m s → is_active s.kernel ≡ true
       → left.kernel.clock ≡ m.kernel.clock
   clock_left s stands runs =
       sym (serves_takes s stands).state.kernel.holds.clock ∙ (keeps s runs).clock
       ∙ stands.kernel.holds.clock
 
   -- and the blocks are those of the same memory
-  pub size_left : (s : Iop) → Stands m s → is_some s.kernel.threads.running ≡ true
+  pub size_left : (s : Iop) → Stands m s → is_active s.kernel ≡ true
       → m.blocks.size ≡ length m.guest.ram → left.blocks.size ≡ length left.guest.ram
   size_left s stands runs same =
       let left_is = (serves_takes s stands).state.rest in

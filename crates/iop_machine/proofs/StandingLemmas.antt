@@ -1,5 +1,5 @@
 -- How what is said of each state that the program's machine stands for is proved of one.
-use Rattle.std.proofs.Common.{◌≡◌, ℕ, Option, List, [], ◌∷◌, refl, sym, ◌∙◌, subst}
+use Rattle.std.proofs.Common.{◌≡◌, ℕ, Option, List, [], ◌∷◌, refl, ap, sym, ◌∙◌, subst}
 use Rattle.iop_base.specs.Output.{Output, Gives}
 use Rattle.iop_base.specs.Piece.{Traced}
 use Rattle.iop_base.specs.Text.{line_bytes}
@@ -9,9 +9,9 @@ use Rattle.iop_exec.specs.declared.cpu.Cpu.{Cpu}
 use Rattle.iop_ready.specs.ReadyList.{StandsFor}
 use Rattle.iop_ready.specs.declared.entry.Entry.{Entry}
 use Rattle.iop_kernel.specs.Standing as kernel
-use Rattle.iop_kernel.specs.System.{Kernel}
+use Rattle.iop_kernel.specs.System.{Kernel, Core}
 use Rattle.iop_kernel.specs.declared.kernel.Kernel.{Kernel as Kernels}
-use Rattle.iop_machine.specs.Iop.{Iop, Takes, tells}
+use Rattle.iop_machine.specs.Iop.{Iop, Takes, tells, with_core}
 use Rattle.iop_machine.specs.Standing.{iop_of, Stands, IsSound}
 use Rattle.iop_machine.specs.declared.iop.Iop.{Iop as Program}
 
@@ -60,6 +60,16 @@ pub stands_with_kernel : (m : Program) (new : Kernels (List Entry)) (f : Kernel 
 stands_with_kernel m new f g =
     carried m (λ s. Stands (record m { kernel = new }) (record s { kernel = f s.kernel }))
     (λ k h. record { kernel = g k h; rest = refl })
+
+-- they become those of a core
+pub stands_with : {m : Program} {s : Iop} → Stands m s → (now : Kernels (List Entry)) (cpu : Cpu)
+    (c : Core) → kernel.Stands StandsFor now c.kernel → cpu ≡ c.cpu
+    → Stands (record m { kernel = now; cpu = cpu }) (with_core s c)
+stands_with {m} {s} h now cpu c k e = record {
+  kernel = k;
+  rest = ap (λ x. record s { kernel = c.kernel; cpu = x }) (sym e)
+      ∙ ap (λ (x : Iop). record x { kernel = c.kernel; cpu = cpu }) h.rest;
+}
 
 -- a line of this moment was given
 pub tells_takes : (m : Program) (t : ℕ) → IsMoment m t → {a b : Output} (line : Line)

@@ -1,13 +1,17 @@
 -- What one call of `advance` did of a run.
-use Rattle.std.specs.Prelude.{◌≡◌, ℕ, suc, ◌+◌, ◌<◌, Bool, true, false, ⊤, Option, Some, None}
+use Rattle.std.specs.Prelude.{◌≡◌, ℕ, suc, ◌+◌, ◌-◌, ◌*◌, ◌^◌, ◌<◌, not, Bool, true, false, ⊤, Option, Some, None, is_some, [], length}
 use Rattle.iop_base.specs.Output.{Output, Gives}
 use Rattle.iop_base.specs.declared.stop.Stop.{Stop}
+use Rattle.iop_kernel.specs.Deliveries.{delivers}
 use Rattle.iop_kernel.specs.Dispatching.{dispatches}
+use Rattle.iop_exec.specs.Arithmetic.{one_if}
+use Rattle.iop_kernel.specs.declared.kernel.Kernel.{Kernel}
+use Rattle.iop_machine.specs.Looking.{takes_events}
 use Rattle.iop_machine.specs.declared.progress.Progress.{Progress}
 use Rattle.iop_machine.specs.declared.progress.Progress.TheVariants.{Stopped, Advanced}
 use Rattle.iop_machine.specs.Iop.{core_of}
 use Rattle.iop_machine.specs.Running.{GoesOnFor}
-use Rattle.iop_machine.specs.Stepping.{step, steps, executed, stop_at}
+use Rattle.iop_machine.specs.Stepping.{step, steps, executed, stop_at, most_between}
 use Rattle.iop_machine.specs.World.{World}
 
 module _ {P : Type 0} (stands_for : P → World → Type 0) where
@@ -37,16 +41,41 @@ module _ {P : Type 0} (stands_for : P → World → Type 0) where
     pub reached : Reached w budget k left now old new
     pub stops : stop_at (steps k w).state left ≡ Some stop
 
-  -- the run goes on after k steps, which took no instruction and no time, and no thread is to be
-  -- dispatched
+  -- one step was taken, which executes no instruction, and in which a write may have failed
+  abbrev pub AdvancesOnce : World → ℕ → P → Output → Output → Type 0
+  AdvancesOnce w budget now old new = Advances w budget 0 budget now old new
+
+  -- whether something was delivered; if not, nothing is to be
+  abbrev pub Delivers : (did : Bool) → World → ℕ → P → Output → Output → Type 0
+  Delivers true w budget now old new =
+      AdvancesOnce w budget now old new
+      × (is_some (delivers (core_of (takes_events w.iop))) ≡ true)
+  Delivers false w budget now old new =
+      stands_for now w × Gives old new [] × (delivers (core_of (takes_events w.iop)) ≡ None)
+
+  -- whether a thread was dispatched, where nothing is to be delivered; if not, none is to be
+  abbrev pub Dispatches : (did : Bool) → World → ℕ → P → Output → Output → Type 0
+  Dispatches true w budget now old new =
+      AdvancesOnce w budget now old new
+      × (is_some (dispatches (core_of (takes_events w.iop))) ≡ true)
+  Dispatches false w budget now old new =
+      stands_for now w × Gives old new [] × (dispatches (core_of (takes_events w.iop)) ≡ None)
+
+  -- so many steps were taken, which executed no instruction, and nothing is to be delivered or
+  -- dispatched behind them; nothing of the kernel changed but its threads and its lines
   pub record IsSettled (w : World) (budget k : ℕ) (now : P) (old new : Output) : Type 0 where
     pub reached : Reached w budget k budget now old new
     pub over : (steps k w).state.iop.over ≡ None
-    pub dispatch : dispatches (core_of (steps k w).state.iop) ≡ None
-    pub clock : (steps k w).state.iop.kernel.clock ≡ w.iop.kernel.clock
+    pub delivery : delivers (core_of (takes_events (steps k w).state.iop)) ≡ None
+    pub dispatch : dispatches (core_of (takes_events (steps k w).state.iop)) ≡ None
+    pub kernel : (steps k w).state.iop.kernel
+        ≡ record w.iop.kernel {
+          threads = (steps k w).state.iop.kernel.threads;
+          irqs = (steps k w).state.iop.kernel.irqs;
+        }
 
-  -- by whether a write failed: if so, in the step in which a thread was dispatched
-  abbrev pub Settles : (failed : Bool) → World → ℕ → P → Output → Output → Type 0
+  -- whether the run went on, by a delivery or by a dispatch in which a write failed
+  abbrev pub Settles : (went : Bool) → World → ℕ → P → Output → Output → Type 0
   Settles true w budget now old new = (k : ℕ) × Advances w budget k budget now old new
   Settles false w budget now old new = (k : ℕ) × IsSettled w budget k now old new
 
@@ -55,14 +84,28 @@ module _ {P : Type 0} (stands_for : P → World → Type 0) where
   Progresses (Stopped stop) w budget now old new = (k : ℕ) × Stops w budget k stop now old new
   Progresses (Advanced left) w budget now old new = (k : ℕ) × Advances w budget k left now old new
 
--- how many calls of `advance` at most execute no instruction from here on
+-- how many calls of `advance` at most boot it or find that nothing is left to do
 abbrev pub turns_by : Option Stop → (is_new : Bool) → ℕ
 turns_by (Some stop) is_new = 0
 turns_by None true = 2
 turns_by None false = 1
 
--- unless a write failed, a call that advanced left fewer instructions or fewer such calls
-abbrev pub IsLess : Progress → (failed : Bool) → Option Stop → (is_new : Bool) → (most : ℕ) → Type 0
-IsLess (Stopped stop) failed over is_new most = ⊤
-IsLess (Advanced left) true over is_new most = ⊤
-IsLess (Advanced left) false over is_new most = left + turns_by over is_new < most
+module _ {R : Type 0} where
+  -- how many deliveries at most are made before a handler is active or none is left: one for each
+  -- delay, and one more unless a handler is active
+  abbrev pub deliveries_left : Kernel R → ℕ
+  deliveries_left k = length k.timers.delays + one_if (not (is_some k.handler))
+
+  -- how many calls at most execute no instruction from here on, if none is executed: the clock goes
+  -- on, at most to 2^63 - 1, and at each moment so much is delivered
+  abbrev pub calls_by : Option Stop → (is_new : Bool) → Kernel R → ℕ
+  calls_by over is_new k =
+      turns_by over is_new + deliveries_left k + most_between * (2 ^ 63 - k.clock)
+
+  -- unless a write failed, a call that advanced left fewer instructions or fewer such calls
+  abbrev pub IsLess : Progress → (failed : Bool) → Option Stop → (is_new : Bool) → Kernel R
+      → (most : ℕ) → Type 0
+  IsLess (Stopped stop) failed over is_new k most = ⊤
+  IsLess (Advanced left) true over is_new k most = ⊤
+  IsLess (Advanced left) false over is_new k most =
+      most_between * left + calls_by over is_new k < most

@@ -10,11 +10,12 @@ use Rattle.iop_isa.specs.Instructions.{inst_of}
 use Rattle.iop_isa.specs.declared.instruction.Inst.TheVariants.{Jr, Syscall}
 use Rattle.iop_registry.specs.KernelLibraries.{kernel_libraries}
 use Rattle.iop_registry.specs.declared.registry.Entry.{Entry}
+use Rattle.iop_script.specs.declared.raise.Raise.{Raise}
 use Rattle.irx_tables.specs.Exports.{header_of, functions}
 use Rattle.iop_machine.specs.declared.arguments.TheConstants.{MODULE_RETURN}
 use Rattle.iop_kernel.specs.declared.call.TheConstants.{SERVICES, THREAD_RETURN_CALL, HANDLER_RETURN_CALL, MODULE_RETURN_CALL}
 use Rattle.iop_thread.specs.declared.thread.TheConstants.{THREAD_RETURN}
-use Rattle.iop_machine.specs.declared.kernel_area.TheConstants.{HANDLER_RETURN}
+use Rattle.iop_kernel.specs.declared.active_handler.TheConstants.{HANDLER_RETURN}
 use Rattle.iop_machine.specs.KernelArea.{syscall_word, service_at, kernel_area}
 use Rattle.iop_machine.specs.Modules.{Module, HasRoom}
 use Rattle.iop_machine.specs.Stepping.{step}
@@ -58,5 +59,6 @@ KernelAreaIsRead = (ram : List ℕ) → HasKernel (with_bytes ram 0 kernel_area)
 -- and booting, which loads modules whose words have room in the argument block, leaves it so
 abbrev pub BootingKeepsKernel : Type 0
 BootingKeepsKernel =
-    (size : ℕ) (modules : List Module) → IsRamSize size → All HasRoom modules
-    → HasKernel (step (beginning size modules)).state.iop.memory.ram
+    (size : ℕ) (modules : List Module) (events : List Raise) → IsRamSize size
+    → All HasRoom modules
+    → HasKernel (step (beginning size modules events)).state.iop.memory.ram

@@ -3,10 +3,11 @@ use Rattle.std.specs.Prelude.{ℕ, zero, suc, Bool, true, false, Option, None, o
 use Rattle.iop_exec.specs.Row.{Row, Serves, at_next, row}
 use Rattle.iop_kernel.specs.Histories.{Called, called}
 use Rattle.iop_machine.specs.Iop.{Iop, system_of}
+use Rattle.iop_machine.specs.Looking.{takes_events}
 use Rattle.iop_machine.specs.Stepping.{steps, executes}
 use Rattle.iop_machine.specs.World.{World}
 
--- the service that an instruction of the thread that runs calls, if it is a call of one
+-- the service that an instruction calls, if it is a call of one
 abbrev pub call_at : Iop → Row → Option Called
 call_at s (Serves code) = called (system_of (record s { cpu = at_next s.cpu })) code
 call_at s other = None
@@ -16,9 +17,9 @@ abbrev pub call_by : Iop → (executing : Bool) → Option Called
 call_by s true = call_at s (row s.memory.ram s.cpu)
 call_by s false = None
 
--- the service that the next step calls
+-- the service that the next step calls, behind the script's events that are due
 unfoldable pub call_in : World → Option Called
-call_in w = call_by w.iop (executes w)
+call_in w = call_by (takes_events w.iop) (executes w)
 
 -- those that so many steps call, in order
 unfoldable pub calls_in : ℕ → World → List Called

@@ -8,6 +8,7 @@ use Rattle.iop_base.specs.declared.stop.Stop.{Stop}
 use Rattle.iop_base.specs.declared.line.Line.{Line}
 use Rattle.iop_exec.specs.declared.cpu.Cpu.{Cpu}
 use Rattle.iop_registry.specs.declared.registry.Entry.{Entry}
+use Rattle.iop_script.specs.declared.raise.Raise.{Raise}
 use Rattle.iop_stubs.specs.Stubs.{Memory}
 use Rattle.iop_stubs.specs.declared.live_stub.Stub.{Stub}
 use Rattle.iop_sysmem.specs.BlockMap.{BlockMap}
@@ -27,6 +28,8 @@ pub record Iop : Type 0 where
   pub libraries : List Entry
   -- the modules that were not loaded yet, in order
   pub modules : List Module
+  -- the script's events that are still to come
+  pub events : List Raise
   -- the module that the loader's thread begins or runs, if there is one
   pub begun : Option BegunModule
   -- why it is stopped, where it is

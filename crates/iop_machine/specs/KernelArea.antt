@@ -6,7 +6,7 @@ use Rattle.iop_base.specs.declared.libraries.TheConstants.{KERNEL_LIBRARIES}
 use Rattle.iop_kernel.specs.declared.call.TheConstants.{THREAD_RETURN_CALL, HANDLER_RETURN_CALL, MODULE_RETURN_CALL}
 use Rattle.iop_thread.specs.declared.thread.TheConstants.{THREAD_RETURN}
 use Rattle.iop_machine.specs.declared.arguments.TheConstants.{MODULE_RETURN}
-use Rattle.iop_machine.specs.declared.kernel_area.TheConstants.{HANDLER_RETURN}
+use Rattle.iop_kernel.specs.declared.active_handler.TheConstants.{HANDLER_RETURN}
 use Rattle.iop_base.specs.declared.words.TheConstants.{EXPORT_MAGIC, JUMP_BACK}
 
 -- syscall code

@@ -1,23 +1,28 @@
 -- What the laws on runs and on live stubs say.
-use Rattle.std.specs.Prelude.{◌≡◌, ℕ, suc, ◌+◌, ◌/◌, ◌*◌, ◌^◌, ◌≤◌, true, ◌⊎◌, false, if◌then◌else◌, Option, Some, None, List, [], ◌∷◌, ◌++◌, length, Contains}
+use Rattle.std.specs.Prelude.{◌≡◌, ℕ, suc, ◌+◌, ◌/◌, ◌*◌, ◌^◌, ◌<◌, ◌≤◌, true, ◌⊎◌, false, if◌then◌else◌, Option, Some, None, List, [], ◌∷◌, ◌++◌, length, All, Contains}
 use Rattle.iop_base.specs.Numbers.{wrapped}
 use Rattle.iop_base.specs.Places.{IsRamSize, phys}
 use Rattle.iop_base.specs.declared.guest_fault.GuestFault.TheVariants.{BranchInSlot}
 use Rattle.iop_base.specs.declared.stop.Stop.{Stop}
 use Rattle.iop_exec.specs.declared.cpu.Cpu.{Cpu}
 use Rattle.iop_exec.specs.Row.{Row, Goes, Faults, Storing, row}
+use Rattle.iop_script.specs.declared.raise.Raise.{Raise}
 use Rattle.iop_stubs.specs.Binding.{IsSound}
 use Rattle.iop_stubs.specs.Stubs.{Memory, stub_line}
 use Rattle.iop_stubs.specs.declared.live_stub.Stub.{Stub}
 use Rattle.iop_modload.specs.Laws.{HasBlocks}
 use Rattle.iop_machine.specs.Histories.{calls_in}
-use Rattle.iop_machine.specs.Running.{Ends, Runs}
-use Rattle.iop_machine.specs.Stepping.{step, steps, executes, run_of}
+use Rattle.iop_machine.specs.Events.{CanCome}
+use Rattle.iop_machine.specs.Looking.{takes_events, next_coming}
+use Rattle.iop_machine.specs.Running.{Ends}
+use Rattle.iop_machine.specs.Stepping.{step, steps, executes, most_steps, run_of}
 use Rattle.iop_machine.specs.World.{World, booted, beginning}
 use Rattle.iop_kernel.specs.Histories.{AreCounted, AreDelivered}
 use Rattle.iop_kernel.specs.Laws.{IsCore, IsSwitch}
+use Rattle.iop_kernel.specs.Deliveries.{Delivered, delivers}
 use Rattle.iop_kernel.specs.Dispatching.{Dispatched, dispatches}
-use Rattle.iop_kernel.specs.System.{may_switch}
+use Rattle.iop_kernel.specs.Overdue.{NoMomentHasCome}
+use Rattle.iop_kernel.specs.System.{in_handler, is_active, may_dispatch}
 use Rattle.iop_thread.specs.Laws.{IsSettled}
 use Rattle.iop_machine.specs.Iop.{Iop, silent, core_of}
 use Rattle.iop_machine.specs.Modules.{Module}
@@ -50,14 +55,33 @@ abbrev pub OverStays : Type 0
 OverStays = (w : World) (n k : ℕ) (stop : Stop) → w.iop.over ≡ Some stop → Ends w n 0 stop
     × (steps k w ≡ silent w)
 
--- each run ends
+-- what holds of every machine
+pub record IsMachine (w : World) : Type 0 where
+  -- its memory is sound, and its blocks are those of that memory
+  pub whole : HasBlocks w.iop.memory w.iop.blocks
+  -- before it is booted no stub is live
+  pub none_live : w.is_new ≡ true → w.iop.memory.live ≡ []
+  pub core : IsCore (core_of w.iop)
+  -- each alarm and each delay took an instruction
+  pub numbers : w.iop.kernel.timers.next ≤ w.iop.kernel.clock + 1
+  pub events : CanCome w.iop.events
+
+-- a machine begins as one
+abbrev pub RunsBeginAsMachines : Type 0
+RunsBeginAsMachines =
+    (size : ℕ) (modules : List Module) (events : List Raise) → IsRamSize size → CanCome events
+    → IsMachine (beginning size modules events)
+
+-- each run of a machine ends, and takes no more steps than that
 abbrev pub RunsEnd : Type 0
-RunsEnd = (w : World) (n : ℕ) → (k : ℕ) × (stop : Stop) × (k ≤ 2 * n + 3) × Ends w n k stop
+RunsEnd =
+    (w : World) (n : ℕ) → IsMachine w
+    → (k : ℕ) × (stop : Stop) × (k < most_steps n w) × Ends w n k stop
 
 -- and is what the function gives
 abbrev pub RunsAreComputed : Type 0
 RunsAreComputed =
-    (w : World) (n k : ℕ) (stop : Stop) → Ends w n k stop
+    (w : World) (n k : ℕ) (stop : Stop) → IsMachine w → Ends w n k stop
     → run_of n w ≡ record {
       world = (steps k w).state;
       pieces = (steps k w).pieces;
@@ -65,11 +89,13 @@ RunsAreComputed =
           stop;
     }
 
--- the address that a stub's jump at an address goes to: the target of its function, in the segment of the stub
+-- the address that a stub's jump at an address goes to: the target of its function, in the segment
+-- of the stub
 abbrev pub stub_target : ℕ → Stub → ℕ
 stub_target at stub = wrapped (at + 4) / 2 ^ 28 * 2 ^ 28 + stub.target
 
--- what a live stub does: in a delay slot it faults; else its jump is taken after the instruction behind it
+-- what a live stub does: in a delay slot it faults; else its jump is taken after the instruction
+-- behind it
 abbrev pub stub_row : Cpu → Stub → Row
 stub_row c stub =
     if c.in_slot then Faults BranchInSlot
@@ -81,28 +107,22 @@ StubsReachTheirFunctions =
     (memory : Memory) (stub : Stub) (c : Cpu) → IsSound memory → Contains memory.live stub
     → phys (length memory.ram) c.pc ≡ Some stub.at → row memory.ram c ≡ stub_row c stub
 
--- what holds of every machine: its memory is sound, its blocks are those of that memory, and before it is
--- booted no stub is live
-pub record IsMachine (w : World) : Type 0 where
-  pub whole : HasBlocks w.iop.memory w.iop.blocks
-  pub none_live : w.is_new ≡ true → w.iop.memory.live ≡ []
-
 -- what holds in each state that a machine reaches which has bound these stubs on the way
 pub record StaysSound (stubs : List Stub) (s : Iop) : Type 0 where
   pub whole : HasBlocks s.memory s.blocks
   -- each live stub is one that a linking has bound
   pub live : (stub : Stub) → Contains s.memory.live stub → Contains stubs stub
-  -- threads stand where their states say; where none runs, another may; and outside a delay slot the next
-  -- instruction of each is the one behind
+  -- threads stand where their states say; where none runs, another may; and outside a delay slot
+  -- the next instruction of each is the one behind
   pub core : IsCore (core_of s)
 
 abbrev pub RunsStaySound : Type 0
 RunsStaySound =
-    (size : ℕ) (modules : List Module) (k : ℕ) → IsRamSize size
-    → let run = steps k (beginning size modules) in StaysSound run.bound run.state.iop
+    (size : ℕ) (modules : List Module) (events : List Raise) (k : ℕ) → IsRamSize size
+    → let run = steps k (beginning size modules events) in StaysSound run.bound run.state.iop
 
--- a stub that was live before a step, or that the step binds, is live after it, or its line is one of the
--- step's pieces
+-- a stub that was live before a step, or that the step binds, is live after it, or its line is one
+-- of the step's pieces
 abbrev pub StubsLeaveWithTheirLine : Type 0
 StubsLeaveWithTheirLine =
     (w : World) (stub : Stub) → IsMachine w
@@ -110,7 +130,8 @@ StubsLeaveWithTheirLine =
     → Contains (step w).state.iop.memory.live stub
     ⊎ Contains (step w).pieces (stub_line w.iop.kernel.clock stub)
 
--- a stub that is live after some steps was live before them, or was bound in them; and a machine stays one
+-- a stub that is live after some steps was live before them, or was bound in them; and a machine
+-- stays one
 pub record KeepsStubs (w : World) (k : ℕ) : Type 0 where
   pub live : (stub : Stub) → Contains (steps k w).state.iop.memory.live stub
       → Contains w.iop.memory.live stub ⊎ Contains (steps k w).bound stub
@@ -126,47 +147,91 @@ behind_stub s stub = record s {
   cpu = record s.cpu { pc = s.cpu.next; next = stub_target s.cpu.pc stub; in_slot = true };
 }
 
--- first that one, and after it, if it goes on, the one at the target of the stub's function
+-- first that one, and after it, if it goes on, the one at the target of the stub's function: no
+-- delivery and no dispatch comes between them
 pub record IsFollowed (s : Iop) (stub : Stub) : Type 0 where
-  pub slot : (step (booted s)).state ≡ booted (behind_stub s stub)
+  pub slot : (step (booted s)).state ≡ booted (behind_stub (takes_events s) stub)
   pub target : (after : Cpu) (storing : Option Storing)
       → row s.memory.ram (behind_stub s stub).cpu ≡ Goes after storing
       → (steps 2 (booted s)).state.iop.cpu.pc ≡ stub_target s.cpu.pc stub
 
 abbrev pub StubsAreFollowed : Type 0
 StubsAreFollowed =
-    (s : Iop) (stub : Stub) → Runs s → IsSound s.memory
+    (s : Iop) (stub : Stub) → executes (booted s) ≡ true → IsSound s.memory
     → Contains s.memory.live stub → phys (length s.memory.ram) s.cpu.pc ≡ Some stub.at
     → s.cpu.in_slot ≡ false → IsFollowed s stub
 
--- what each step of a run shows of its threads
+-- what each step of a run shows of its threads, behind the script's events that are due
 pub record IsStrict (s : Iop) : Type 0 where
-  -- where a thread is dispatched, it is the first of the best priority, and the step tells its `run` line
-  pub switch : (d : Dispatched) → dispatches (core_of s) ≡ Some d
+  -- where something is delivered, the step tells its line
+  pub delivery : (d : Delivered) → delivers (core_of s) ≡ Some d
+      → (step (booted s)).pieces ≡ d.line ∷ []
+  -- where a thread is dispatched, nothing is to be delivered, it is the first of the best priority,
+  -- and the step tells its `run` line
+  pub switch : (d : Dispatched) → delivers (core_of s) ≡ None → dispatches (core_of s) ≡ Some d
       → IsSwitch (core_of s) d × ((step (booted s)).pieces ≡ d.line ∷ [])
-  -- where an instruction is executed while another thread may run, no ready one is better
-  pub settled : executes (booted s) ≡ true → may_switch s.kernel ≡ true
+  -- where a thread executes an instruction while another may run, no ready one is better
+  pub settled : executes (booted s) ≡ true → may_dispatch s.kernel ≡ true
       → IsSettled s.kernel.threads
 
 -- in each state that a run reaches and in which it goes on
 abbrev pub RunsAreStrict : Type 0
 RunsAreStrict =
-    (size : ℕ) (modules : List Module) (k : ℕ) → IsRamSize size
-    → let run = steps (suc k) (beginning size modules) in
-    run.state.iop.over ≡ None → IsStrict run.state.iop
+    (size : ℕ) (modules : List Module) (events : List Raise) (k : ℕ) → IsRamSize size
+    → let run = steps (suc k) (beginning size modules events) in
+    run.state.iop.over ≡ None → IsStrict (takes_events run.state.iop)
+
+-- where a thread executes an instruction, outside a delay slot and while interrupts are on, no alarm
+-- and no delay has come
+abbrev pub IsOnTime : Iop → Type 0
+IsOnTime s =
+    executes (booted s) ≡ true → in_handler s.kernel ≡ false → s.kernel.interrupts ≡ true
+    → s.cpu.in_slot ≡ false → NoMomentHasCome s.kernel
+
+-- in each state, behind the script's events that are due
+abbrev pub RunsAreOnTime : Type 0
+RunsAreOnTime = (s : Iop) → IsOnTime (takes_events s)
+
+-- in each state that a run reaches and in which it goes on, nothing executes only while interrupts
+-- are on and dispatch is enabled; and what comes next, if something does, is later than now
+pub record IsAwake (s : Iop) : Type 0 where
+  pub switches : is_active s.kernel ≡ false → may_dispatch s.kernel ≡ true
+  pub later : is_active s.kernel ≡ false → delivers (core_of s) ≡ None → (moment : ℕ)
+      → next_coming s ≡ Some moment → (s.kernel.clock < moment) × (moment < 2 ^ 63)
+
+abbrev pub RunsAreAwake : Type 0
+RunsAreAwake =
+    (size : ℕ) (modules : List Module) (events : List Raise) (k : ℕ) → IsRamSize size
+    → CanCome events → let run = steps (suc k) (beginning size modules events) in
+    run.state.iop.over ≡ None → IsAwake (takes_events run.state.iop)
+
+-- each event of the script is taken once, in the first step at its tick or behind it: those that
+-- are still to come are the ones of later ticks, but for those of ticks that no step has begun at
+pub record KeepsEvents (events : List Raise) (s : Iop) : Type 0 where
+  pub taken : All (λ e. s.kernel.clock < e.at) (takes_events s).events
+  -- none is left out
+  pub later : (event : Raise) → Contains events event → s.kernel.clock < event.at
+      → Contains s.events event
+  -- and none is new
+  pub stood : (event : Raise) → Contains s.events event → Contains events event
+
+abbrev pub RunsKeepEvents : Type 0
+RunsKeepEvents =
+    (size : ℕ) (modules : List Module) (events : List Raise) (k : ℕ)
+    → KeepsEvents events (steps k (beginning size modules events)).state.iop
 
 -- in each state that a run reaches, the count of each live semaphore is what its first count and
 -- the calls of the run so far have made of it, and at most its most
 abbrev pub RunsAreCounted : Type 0
 RunsAreCounted =
-    (size : ℕ) (modules : List Module) (k : ℕ) → IsRamSize size
-    → let world = beginning size modules in
+    (size : ℕ) (modules : List Module) (events : List Raise) (k : ℕ) → IsRamSize size
+    → let world = beginning size modules events in
     AreCounted (steps k world).state.iop.kernel.semaphores (calls_in k world)
 
 -- and each message that was sent to a live mailbox was received from it or is queued, as often, in
 -- order where messages are not taken by their priority
 abbrev pub RunsAreDelivered : Type 0
 RunsAreDelivered =
-    (size : ℕ) (modules : List Module) (k : ℕ) → IsRamSize size
-    → let world = beginning size modules in
+    (size : ℕ) (modules : List Module) (events : List Raise) (k : ℕ) → IsRamSize size
+    → let world = beginning size modules events in
     AreDelivered (steps k world).state.iop.kernel.mailboxes (calls_in k world)

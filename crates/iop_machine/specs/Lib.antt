@@ -1,6 +1,8 @@
 pub mod KernelArea
 pub mod Modules
 pub mod Iop
+pub mod Events
+pub mod Looking
 pub mod World
 pub mod Storing
 pub mod Services
@@ -10,6 +12,7 @@ pub mod Histories
 pub mod Running
 pub mod Advancing
 pub mod Laws
+pub mod EventLaws
 pub mod Standing
 pub mod ArgumentLaws
 pub mod AreaLaws

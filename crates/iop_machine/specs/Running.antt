@@ -1,18 +1,37 @@
 -- What the runs of a machine give: this project's profile.
-use Rattle.std.specs.Prelude.{◌≡◌, ℕ, suc, ◌-◌, ◌<◌, true, is_some, Some, None, List, [], ◌∷◌, ◌++◌}
+use Rattle.std.specs.Prelude.{◌≡◌, ℕ, suc, ◌+◌, ◌-◌, ◌^◌, ◌<◌, max, true, Some, None, List, [], ◌∷◌, ◌++◌, All}
 use Rattle.iop_base.specs.Piece.{Piece, IsPartOf}
 use Rattle.iop_base.specs.Output.{Output, Adds, HasNoFault, FailsAt}
 use Rattle.iop_base.specs.declared.stop.Stop.{Stop}
+use Rattle.iop_exec.specs.declared.cpu.Cpu.{Cpu}
+use Rattle.iop_kernel.specs.Deliveries.{delivers}
 use Rattle.iop_kernel.specs.Dispatching.{dispatches}
+use Rattle.iop_kernel.specs.System.{is_active}
 use Rattle.iop_machine.specs.Iop.{Iop, core_of}
+use Rattle.iop_machine.specs.Looking.{moved}
 use Rattle.iop_machine.specs.Stepping.{step, steps, executed, stop_at}
 use Rattle.iop_machine.specs.World.{World}
 
--- a thread runs, and nothing else is to be done first
+-- a thread runs or a handler is active, and nothing else is to be done first
 pub record Runs (s : Iop) : Type 0 where
   pub over : s.over ≡ None
+  -- no event is due
+  pub events : All (λ e. s.kernel.clock < e.at) s.events
+  pub delivery : delivers (core_of s) ≡ None
   pub dispatch : dispatches (core_of s) ≡ None
-  pub running : is_some s.kernel.threads.running ≡ true
+  pub active : is_active s.kernel ≡ true
+
+-- nor is it before any of so many instructions, as long as they are plain, whatever the processor
+-- is like by then
+pub record RunsFor (s : Iop) (most : ℕ) : Type 0 where
+  pub now : Runs s
+  pub ahead : (cpu : Cpu) (moment : ℕ) → s.kernel.clock < moment
+      → moment < s.kernel.clock + most → Runs (moved s cpu moment)
+
+-- there is time for a run by so many instructions, also where the clock goes on to the last moment
+-- that comes: neither it nor the count of alarms and delays passes 2^64
+abbrev pub HasTime : (clock budget : ℕ) → Type 0
+HasTime clock budget = max clock (2 ^ 63 - 1) + budget < 2 ^ 64 - 1
 
 -- after k steps the run goes on
 abbrev pub GoesOn : World → ℕ → ℕ → Type 0

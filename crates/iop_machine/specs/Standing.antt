@@ -18,6 +18,7 @@ iop_of m kernel = record {
   blocks = m.blocks;
   libraries = m.registry;
   modules = m.waiting;
+  events = m.events;
   begun = m.begun;
   over = m.over;
 }

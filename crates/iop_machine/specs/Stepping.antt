@@ -1,12 +1,15 @@
 -- The steps of the machine, and its whole runs: this project's profile.
-use Rattle.std.specs.Prelude.{ℕ, zero, suc, ◌+◌, ◌-◌, ◌*◌, Bool, true, false, Option, Some, None, is_some, List, [], ◌∷◌, ◌++◌}
+use Rattle.std.specs.Prelude.{ℕ, zero, suc, ◌+◌, ◌-◌, ◌*◌, Bool, true, false, Option, Some, None, List, [], ◌∷◌, ◌++◌, length}
 use Rattle.iop_base.specs.Piece.{Piece}
 use Rattle.iop_base.specs.declared.stop.Stop.{Stop}
 use Rattle.iop_base.specs.declared.stop.Stop.TheVariants.{Quiet, Budget}
 use Rattle.iop_exec.specs.Arithmetic.{one_if}
 use Rattle.iop_exec.specs.Row.{Row, Goes, Serves, Faults, Storing, at_next, row}
+use Rattle.iop_kernel.specs.Deliveries.{Delivered, delivers}
 use Rattle.iop_kernel.specs.Dispatching.{Dispatched, dispatches}
+use Rattle.iop_kernel.specs.System.{is_active}
 use Rattle.iop_machine.specs.Loading.{boots}
+use Rattle.iop_machine.specs.Looking.{takes_events, next_coming, at_moment}
 use Rattle.iop_machine.specs.Services.{calls, faults_with}
 use Rattle.iop_machine.specs.Storing.{stores_number}
 use Rattle.iop_machine.specs.Iop.{Iop, Transition, silent, and_then, with_state, later, core_of, with_core}
@@ -17,26 +20,41 @@ abbrev pub stores_it : Iop → Option Storing → Transition Iop
 stores_it s None = silent s
 stores_it s (Some storing) = stores_number s storing.at storing.width storing.value
 
--- an instruction of the thread that runs
+-- an instruction of the thread that runs, or of the handler that is active
 abbrev pub performs : Iop → Row → Transition Iop
 performs s (Goes after storing) = with_state later (stores_it (record s { cpu = after }) storing)
 performs s (Serves code) = calls s (at_next s.cpu) code
 performs s (Faults kind) = silent (faults_with s kind)
 
--- where no thread is dispatched: the one that runs executes an instruction, or nothing is left to do
-abbrev pub acts_by : Iop → (running : Option ℕ) → Transition Iop
-acts_by s None = silent (record s { over = Some Quiet })
-acts_by s (Some id) = performs s (row s.memory.ram s.cpu)
+-- where nothing executes the clock goes on to what comes next, and where nothing comes all is quiet
+abbrev pub waits_by : Iop → (coming : Option ℕ) → Transition Iop
+waits_by s None = silent (record s { over = Some Quiet })
+waits_by s (Some moment) = silent (at_moment s moment)
 
--- first a thread is dispatched, if one is to be
-abbrev pub goes_by : Iop → Option Dispatched → Transition Iop
-goes_by s (Some d) = record { state = with_core s d.core; pieces = d.line ∷ []; bound = [] }
-goes_by s None = acts_by s s.kernel.threads.running
+-- where nothing is delivered or dispatched an instruction is executed, if a thread runs or a
+-- handler is active
+abbrev pub acts_by : Iop → (active : Bool) → Transition Iop
+acts_by s false = waits_by s (next_coming s)
+acts_by s true = performs s (row s.memory.ram s.cpu)
 
--- first it is booted
+-- before that a thread is dispatched, if one is to be
+abbrev pub dispatches_by : Iop → Option Dispatched → Transition Iop
+dispatches_by s (Some d) = record { state = with_core s d.core; pieces = d.line ∷ []; bound = [] }
+dispatches_by s None = acts_by s (is_active s.kernel)
+
+-- before that a line, an alarm or a delay is delivered, if one is to be
+abbrev pub delivers_by : Iop → Option Delivered → Transition Iop
+delivers_by s (Some d) = record { state = with_core s d.core; pieces = d.line ∷ []; bound = [] }
+delivers_by s None = dispatches_by s (dispatches (core_of s))
+
+-- and first of all the script's events that are due are taken
+abbrev pub goes : Iop → Transition Iop
+goes s = let v = takes_events s in delivers_by v (delivers (core_of v))
+
+-- before all that it is booted
 abbrev pub begins_by : Iop → (is_new : Bool) → Transition Iop
 begins_by s true = boots s
-begins_by s false = goes_by s (dispatches (core_of s))
+begins_by s false = goes s
 
 -- where it is stopped nothing more happens
 abbrev pub steps_by : World → Option Stop → Transition World
@@ -46,17 +64,20 @@ steps_by w None = with_state booted (begins_by w.iop w.is_new)
 unfoldable pub step : World → Transition World
 step w = steps_by w w.iop.over
 
-abbrev pub executes_by : Option Stop → (is_new : Bool) → Option Dispatched → (running : Option ℕ)
-    → Bool
-executes_by (Some stop) is_new dispatch running = false
-executes_by None true dispatch running = false
-executes_by None false (Some d) running = false
-executes_by None false None running = is_some running
+abbrev pub executes_by : Option Stop → (is_new : Bool) → Option Delivered → Option Dispatched
+    → (active : Bool) → Bool
+executes_by (Some stop) is_new delivery dispatch active = false
+executes_by None true delivery dispatch active = false
+executes_by None false (Some d) dispatch active = false
+executes_by None false None (Some d) active = false
+executes_by None false None None active = active
 
 -- whether the next step executes an instruction, or faults at one
 unfoldable pub executes : World → Bool
 executes w =
-    executes_by w.iop.over w.is_new (dispatches (core_of w.iop)) w.iop.kernel.threads.running
+    let s = takes_events w.iop in
+    executes_by w.iop.over w.is_new (delivers (core_of s)) (dispatches (core_of s))
+    (is_active s.kernel)
 
 -- whether a run stops here with so many instructions left, and why
 abbrev pub stops_by : Option Stop → Bool → ℕ → Option Stop
@@ -95,7 +116,17 @@ run_within zero budget w = record { world = w; pieces = []; stop = Budget }
 run_within (suc most) budget w =
     ran_by (stop_at w budget) w (run_within most (budget - one_if (executes w)) (step w).state)
 
--- the whole run: besides the instructions it takes one step at most that boots it, one dispatch at most
--- before the first instruction and behind each, and one that finds that nothing is left to do
+-- how many steps at most stand between two instructions, but for those in which the clock goes on
+-- to the tick of an event: at most 255 delays come due, each at its own moment, one handler begins,
+-- and threads are dispatched
+abbrev pub most_between : ℕ
+most_between = 599
+
+-- how many steps a run takes at most: besides one for each event of the script, so many before the
+-- first instruction, with each, and behind the last
+abbrev pub most_steps : (budget : ℕ) → World → ℕ
+most_steps budget w = length w.iop.events + (most_between + 1) * (budget + 1)
+
+-- the whole run
 unfoldable pub run_of : ℕ → World → Ran
-run_of budget w = run_within (2 * budget + 4) budget w
+run_of budget w = run_within (most_steps budget w) budget w

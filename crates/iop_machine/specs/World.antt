@@ -1,6 +1,7 @@
 -- The state of the whole machine: this project's own profile.
 use Rattle.std.specs.Prelude.{ℕ, Bool, true, false, None, List, [], ◌∷◌, replicate}
 use Rattle.iop_registry.specs.KernelLibraries.{kernel_libraries}
+use Rattle.iop_script.specs.declared.raise.Raise.{Raise}
 use Rattle.iop_sysmem.specs.declared.blocks.TheConstants.{KERNEL}
 use Rattle.iop_kernel.specs.System as kernel
 use Rattle.iop_thread.specs.States.{zeroed_at}
@@ -19,19 +20,21 @@ booted s = record { is_new = false; iop = s }
 unfoldable pub zeros : ℕ → List ℕ
 zeros size = replicate size 0
 
--- the core as it begins, with a memory of zeros in which the kernel's block alone is used
-abbrev pub reset : ℕ → List Module → Iop
-reset size modules = record {
+-- the core as it begins, with a memory of zeros in which the kernel's block alone is used: it is to
+-- load these modules, and these events are to come
+abbrev pub reset : ℕ → List Module → List Raise → Iop
+reset size modules events = record {
   kernel = kernel.beginning;
   cpu = zeroed_at 0;
   memory = record { ram = zeros size; live = [] };
   blocks = record { size = size; used = KERNEL ∷ [] };
   libraries = kernel_libraries;
   modules = modules;
+  events = events;
   begun = None;
   over = None;
 }
 
 -- the machine before its first step
-abbrev pub beginning : ℕ → List Module → World
-beginning size modules = record { is_new = true; iop = reset size modules }
+abbrev pub beginning : ℕ → List Module → List Raise → World
+beginning size modules events = record { is_new = true; iop = reset size modules events }

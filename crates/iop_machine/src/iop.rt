@@ -4,6 +4,7 @@ ghost use Rattle.iop_machine.specs.Standing.{Stands};
 ghost use Rattle.iop_machine.specs.World.{reset};
 
 use crate::begun_module::BegunModule;
+use crate::events::Events;
 use crate::waiting::Waiting;
 use iop_base::Stop;
 use iop_exec::Cpu;
@@ -25,6 +26,8 @@ pub(crate) struct Iop {
     pub(crate) registry: Registry,
     /// The modules that were not loaded yet.
     pub(crate) waiting: Waiting,
+    /// The script's events that are still to come.
+    pub(crate) events: Events,
     /// The module that the loader's thread begins or runs, if there is one.
     pub(crate) begun: Option<BegunModule>,
     /// Why it is stopped, where it is.
@@ -33,10 +36,15 @@ pub(crate) struct Iop {
 
 impl Iop {
     /// Makes it as it is after a reset: memory, of `size` bytes, is all zero, the kernel's block alone
-    /// is used, and no thread runs. These modules are to be loaded.
-    pub(crate) fn new(alloc: Global, size: u32, waiting: Waiting) -> Result<Self, AllocError>
+    /// is used, and no thread runs. These modules are to be loaded, and these events are to come.
+    pub(crate) fn new(
+        alloc: Global,
+        size: u32,
+        waiting: Waiting,
+        events: Events,
+    ) -> Result<Self, AllocError>
         requires { IsRamSize size }
-        ensures { IfOk result (λ iop. Stands iop (reset size waiting)) }
+        ensures { IfOk result (λ iop. Stands iop (reset size waiting events)) }
     {
         Ok(Iop {
             kernel: Kernel::new(alloc, KernelReady::new(alloc)?)?,
@@ -45,6 +53,7 @@ impl Iop {
             blocks: Blocks::new(alloc, size)?,
             registry: Registry::new(alloc)?,
             waiting,
+            events,
             begun: None,
             over: None,
         })

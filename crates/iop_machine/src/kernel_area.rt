@@ -7,15 +7,12 @@ ghost use Rattle.iop_machine.specs.KernelArea.{syscall_word, name_word, service_
 
 use crate::arguments::MODULE_RETURN;
 use iop_base::{EXPORT_MAGIC, JUMP_BACK, KERNEL_LIBRARIES, Lines, Width};
-use iop_kernel::{HANDLER_RETURN_CALL, MODULE_RETURN_CALL, THREAD_RETURN_CALL};
+use iop_kernel::{HANDLER_RETURN, HANDLER_RETURN_CALL, MODULE_RETURN_CALL, THREAD_RETURN_CALL};
 use iop_stubs::Guest;
 use iop_thread::THREAD_RETURN;
 
 /// The version of the kernel's libraries, and mode 0.
 const VERSION: u32 = 0x0101;
-
-/// Where a handler returns to.
-pub(crate) const HANDLER_RETURN: u32 = 0x3010;
 
 /// How many words the kernel's area has.
 const WORDS: u32 = 0x4000;

@@ -3,7 +3,8 @@
 
 ghost use Rattle.iop_machine.specs.ArgumentLaws.{ArgumentsAreRead};
 ghost use Rattle.iop_machine.specs.AreaLaws.{KernelAreaIsRead, BootingKeepsKernel};
-ghost use Rattle.iop_machine.specs.Laws.{StepsCompose, RunsCompose, RunsAreDetermined, OverStays, RunsEnd, RunsAreComputed, StubsReachTheirFunctions, RunsStaySound, StubsLeaveWithTheirLine, RunsKeepStubs, StubsAreFollowed, RunsAreStrict, RunsAreCounted, RunsAreDelivered};
+ghost use Rattle.iop_machine.specs.EventLaws.{StepsTakeTheirEvents, EventsRaiseTheirLines, NextComingIsLeast};
+ghost use Rattle.iop_machine.specs.Laws.{StepsCompose, RunsCompose, RunsAreDetermined, OverStays, RunsBeginAsMachines, RunsEnd, RunsAreComputed, StubsReachTheirFunctions, RunsStaySound, StubsLeaveWithTheirLine, RunsKeepStubs, StubsAreFollowed, RunsAreStrict, RunsAreOnTime, RunsAreAwake, RunsKeepEvents, RunsAreCounted, RunsAreDelivered};
 
 /// The steps of a run are those of its first part, and then those of the rest.
 pub fn steps_compose()
@@ -25,8 +26,15 @@ pub fn over_stays()
     ensures { OverStays }
 {}
 
-/// Each run ends: besides its instructions it takes one step at most that boots it, one dispatch at
-/// most before the first instruction and behind each, and one that finds that nothing is left.
+/// A machine of either size, with any modules and with events in the order of their ticks, begins as
+/// one.
+pub fn runs_begin_as_machines()
+    ensures { RunsBeginAsMachines }
+{}
+
+/// Each run ends: besides one step for each event of the script at most it takes fewer than 600
+/// before the first instruction, between each two, and behind the last. They boot it, deliver what
+/// is due, dispatch threads, go on to the next moment, and find that nothing is left.
 pub fn runs_end()
     ensures { RunsEnd }
 {}
@@ -54,22 +62,23 @@ pub fn booting_keeps_kernel()
     ensures { BootingKeepsKernel }
 {}
 
-/// A module's words are read as they are meant from the argument block: the address of each, a word 0
-/// behind the last address, each word with a zero byte behind it, and zeros up to the block's end.
+/// A module's words are read as they are meant from the argument block: the address of each, a word
+/// 0 behind the last address, each word with a zero byte behind it, and zeros up to the block's
+/// end.
 pub fn arguments_are_read()
     ensures { ArgumentsAreRead }
 {}
 
 /// In each state that the machine reaches from its beginning memory is sound, the blocks are those
 /// of that memory, each live stub is one that a linking has bound on the way, threads stand where
-/// their states say, no wait is overdue, and outside a delay slot the next instruction of each is the
-/// one behind.
+/// their states say, no wait is overdue, and outside a delay slot the next instruction of each is
+/// the one behind.
 pub fn runs_stay_sound()
     ensures { RunsStaySound }
 {}
 
-/// A stub that was live, or that a step binds, is live after the step, or the step's pieces have its
-/// line.
+/// A stub that was live, or that a step binds, is live after the step, or the step's pieces have
+/// its line.
 pub fn stubs_leave_with_their_line()
     ensures { StubsLeaveWithTheirLine }
 {}
@@ -79,16 +88,52 @@ pub fn runs_keep_stubs()
     ensures { RunsKeepStubs }
 {}
 
-/// After a live stub that a thread executes, the instruction behind it is executed, and then the
-/// one at the target of the stub's function.
+/// After a live stub that a thread or a handler executes, the instruction behind it is executed,
+/// and then the one at the target of the stub's function: nothing is delivered in between.
 pub fn stubs_are_followed()
     ensures { StubsAreFollowed }
 {}
 
 /// In each state that a run reaches, a dispatch takes the first ready thread of the best priority,
-/// and tells it; and no instruction is executed while a better thread is ready and may run.
+/// and tells it, and nothing is to be delivered then; and no thread executes an instruction while a
+/// better one is ready and may run.
 pub fn runs_are_strict()
     ensures { RunsAreStrict }
+{}
+
+/// Where a thread executes an instruction, outside a delay slot and while interrupts are on, no alarm
+/// and no delay has come that was not delivered.
+pub fn runs_are_on_time()
+    ensures { RunsAreOnTime }
+{}
+
+/// In each state that a run reaches, nothing executes only while interrupts are on and dispatch is
+/// enabled, and the moment to which the clock then goes on is later than now and below 2^63.
+pub fn runs_are_awake()
+    ensures { RunsAreAwake }
+{}
+
+/// In each state that a run reaches, the events that are still to come are those of the script, but
+/// for those that were due: none of a later tick is taken, and none that is due is left by a step.
+pub fn runs_keep_events()
+    ensures { RunsKeepEvents }
+{}
+
+/// Each step behind the first, which boots, takes the script's events that are due, and no others:
+/// since the clock does not go back, each event is taken by one step alone.
+pub fn steps_take_their_events()
+    ensures { StepsTakeTheirEvents }
+{}
+
+/// The events that are due raise their interrupt lines, and change nothing else.
+pub fn events_raise_their_lines()
+    ensures { EventsRaiseTheirLines }
+{}
+
+/// What comes next, where nothing executes, is the least tick or moment of all that are still to come;
+/// nothing comes next only where none is.
+pub fn next_coming_is_least()
+    ensures { NextComingIsLeast }
 {}
 
 /// In each state that a run reaches, the count of each live semaphore is its first count, and one

@@ -4,11 +4,13 @@
 mod arguments;
 mod begun_module;
 mod burst;
+mod events;
 mod guest_bus;
 mod iop;
 mod kernel_area;
 pub mod laws;
 mod loading;
+mod looking;
 mod machine;
 mod module;
 mod progress;

@@ -1,4 +1,4 @@
-ghost use Rattle.std.specs.Prelude.{◌≡◌, ℕ, suc, ◌+◌, ◌^◌, ◌<◌, ◌≤◌, false, IfOk, OnErr, [], All, length, option_map};
+ghost use Rattle.std.specs.Prelude.{◌≡◌, ℕ, suc, ◌+◌, ◌*◌, ◌≤◌, false, IfOk, OnErr, All, length, option_map};
 ghost use Rattle.iop_trace.specs.Outs.{has_failed, output_of, sinks};
 ghost use Rattle.iop_base.specs.Places.{IsRamSize};
 ghost use Rattle.iop_ready.specs.ReadyList.{StandsFor};
@@ -9,10 +9,12 @@ ghost use Rattle.iop_machine.specs.declared.module.TheConstants.{MOST_MODULES};
 ghost use Rattle.iop_machine.specs.World.{World, beginning};
 ghost use Rattle.iop_machine.specs.Laws.{IsMachine};
 ghost use Rattle.iop_machine.specs.Standing.{StandsForWorld, IsSoundMachine};
-ghost use Rattle.iop_machine.specs.Stepping.{steps};
-ghost use Rattle.iop_machine.specs.Running.{Finishes, Faults};
-ghost use Rattle.iop_machine.specs.Advancing.{Progresses, IsLess, turns_by};
+ghost use Rattle.iop_machine.specs.Events.{CanCome};
+ghost use Rattle.iop_machine.specs.Stepping.{steps, most_between};
+ghost use Rattle.iop_machine.specs.Running.{Finishes, Faults, HasTime};
+ghost use Rattle.iop_machine.specs.Advancing.{Progresses, IsLess, calls_by};
 
+use crate::events::Events;
 use crate::iop::Iop;
 use crate::module::Module;
 use crate::progress::Progress;
@@ -35,11 +37,12 @@ pub struct Machine {
 }
 
 impl Machine {
-    /// Makes a machine with `size` bytes of RAM, 2 MiB or 8 MiB, that will load these modules, one after
-    /// the other, each handed its word of the command line and the words that the script has for it. They
-    /// are at most `MOST_MODULES`, no file has more than `LONGEST_FILE` bytes, and the words of each have
-    /// room in the argument block: at most `MOST_WORDS`, which take `MOST_WORD_BYTES` bytes. The script
-    /// raises no interrupt line yet.
+    /// Makes a machine with `size` bytes of RAM, 2 MiB or 8 MiB, that will load these modules, one
+    /// after the other, each handed its word of the command line and the words that the script has
+    /// for it. They are at most `MOST_MODULES`, no file has more than `LONGEST_FILE` bytes, and the
+    /// words of each have room in the argument block: at most `MOST_WORDS`, which take
+    /// `MOST_WORD_BYTES` bytes. The script raises interrupt lines below 64, in the order of their
+    /// ticks, which are below 2^63.
     pub fn new(
         alloc: Global,
         size: u32,
@@ -49,15 +52,17 @@ impl Machine {
         requires sized { IsRamSize size }
         requires few { length modules.items ≤ MOST_MODULES }
         requires room { All HasRoom (modules_from script.args 1 modules.items) }
-        requires no_events { script.events ≡ [] }
+        requires events { CanCome script.events }
         ensures stands { IfOk result (λ machine.
-            StandsForWorld machine (beginning size (modules_from script.args 1 modules.items))) }
+            StandsForWorld machine
+            (beginning size (modules_from script.args 1 modules.items) script.events)) }
         ensures sound { IfOk result IsSoundMachine }
     {
         let waiting = Waiting::new(modules, script.args);
+        let events = Events::new(script.events);
         Ok(Machine {
             is_new: true,
-            iop: Iop::new(alloc, size, waiting)?,
+            iop: Iop::new(alloc, size, waiting, events)?,
         })
     }
 
@@ -69,7 +74,8 @@ impl Machine {
         self.iop.kernel.ready()
     }
 
-    /// Answers the moment, in ticks of the clock: how many instructions were executed.
+    /// Answers the moment, in ticks of the clock: one for each instruction that was executed, and
+    /// those that went by while nothing was.
     pub fn now(&self) -> u64
         ensures clock { result ≡ self.now.iop.kernel.clock }
         ensures moment { (w : World) → StandsForWorld self.now w → result ≡ w.iop.kernel.clock }
@@ -88,14 +94,15 @@ impl Machine {
     /// Goes on: boots, or lets the core go on.
     fn advance<C: Sink, T: Sink>(&mut self, budget: u64, out: &mut Out<'_, C, T>) -> Progress
         requires sound { IsSoundMachine self.old }
-        requires time { self.old.iop.kernel.clock + budget < 2 ^ 64 }
+        requires time { HasTime self.old.iop.kernel.clock budget }
         requires well { has_failed out.old ≡ false }
         ensures progresses { (w : World) → StandsForWorld self.old w → IsMachine w
             → Progresses StandsForWorld result w budget self.new
             (output_of C.told T.told out.old)
             (output_of C.told T.told out.new) }
         ensures less { IsLess result (has_failed out.new) self.new.iop.over self.new.is_new
-            (budget + turns_by self.old.iop.over self.old.is_new) }
+            self.new.iop.kernel (most_between * budget
+            + calls_by self.old.iop.over self.old.is_new self.old.iop.kernel) }
     {
         if let Some(stop) = self.iop.over {
             return Progress::Stopped(stop);
@@ -109,12 +116,14 @@ impl Machine {
         }
     }
 
-    /// Runs until the machine is stopped, or the next step would execute one instruction too many: `budget`
-    /// are allowed. It gives the lines of the run to the trace and the texts to the console.
+    /// Runs until the machine is stopped, or the next step would execute one instruction too many:
+    /// `budget` are allowed, and none of them must come behind moment 2^64 - 2, nor behind 2^63 - 1
+    /// and `budget` more, since the clock goes on by itself to 2^63 - 1 at most. It gives the lines
+    /// of the run to the trace and the texts to the console.
     ///
-    /// The first run boots: it begins with the loading of the first module that loads. After `Quiet` or
-    /// a fault another run gives the same at once. `WriteFault` comes exactly where a write fails; the machine then stands after the step in
-    /// which it failed.
+    /// The first run boots: it begins with the loading of the first module that loads. After
+    /// `Quiet` or a fault another run gives the same at once. `WriteFault` comes exactly where a
+    /// write fails; the machine then stands after the step in which it failed.
     pub fn run<C: Sink, T: Sink>(
         &mut self,
         budget: u64,
@@ -122,7 +131,7 @@ impl Machine {
         trace: &mut T,
     ) -> Result<Stop, WriteFault>
         requires sound { IsSoundMachine self.old }
-        requires time { self.old.iop.kernel.clock + budget < 2 ^ 64 }
+        requires time { HasTime self.old.iop.kernel.clock budget }
         ensures sound { IsSoundMachine self.new }
         ensures whole { IfOk result (λ stop. (w : World) → StandsForWorld self.old w → IsMachine w
             → (k : ℕ) × StandsForWorld self.new (steps k w).state

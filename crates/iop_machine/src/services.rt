@@ -1,8 +1,10 @@
 //! What a `syscall` leaves of the machine, and how modules end.
 
-ghost use Rattle.std.specs.Prelude.{◌≡◌, ◌+◌, ◌^◌, ◌<◌, true, is_some, length};
+ghost use Rattle.std.specs.Prelude.{◌≡◌, ◌+◌, ◌^◌, ◌<◌, true, length};
 ghost use Rattle.iop_exec.specs.Positions.{standing_at};
 ghost use Rattle.iop_machine.specs.Iop.{Iop as State, Takes, later};
+ghost use Rattle.iop_kernel.specs.Standing.{HasNumber};
+ghost use Rattle.iop_kernel.specs.System.{is_active};
 ghost use Rattle.iop_machine.specs.Services.{faults_with, returns_by, ends_module, calls, concludes};
 ghost use Rattle.iop_machine.specs.Standing.{Stands, IsSound};
 
@@ -74,9 +76,9 @@ impl Iop {
     /// Does what a code asks for. Its `syscall` stood at `before`, and the processor has moved on from
     /// it.
     fn call<L: Lines>(&mut self, code: u32, before: Position, lines: &mut L)
-        requires runs { (s : State) × Stands self.old s
-            × (is_some s.kernel.threads.running ≡ true) }
+        requires runs { (s : State) × Stands self.old s × (is_active s.kernel ≡ true) }
         requires time { self.old.kernel.clock + 1 < 2 ^ 64 }
+        requires number { HasNumber self.old.kernel }
         requires same_size { self.old.blocks.size ≡ length self.old.guest.ram }
         ensures { (s : State) → Stands self.old s
             → let stood = record s { cpu = standing_at before s.cpu } in
@@ -109,9 +111,9 @@ impl Iop {
     #[inline(never)]
     #[tactic(auto, using(iop_base::proofs::Giving::gives_none))]
     pub(crate) fn conclude<L: Lines>(&mut self, event: Event, before: Position, lines: &mut L)
-        requires runs { (s : State) × Stands self.old s
-            × (is_some s.kernel.threads.running ≡ true) }
+        requires runs { (s : State) × Stands self.old s × (is_active s.kernel ≡ true) }
         requires time { self.old.kernel.clock + 1 < 2 ^ 64 }
+        requires number { HasNumber self.old.kernel }
         requires same_size { self.old.blocks.size ≡ length self.old.guest.ram }
         ensures { (s : State) → Stands self.old s
             → Takes Stands (concludes s before event) self.new

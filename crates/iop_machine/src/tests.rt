@@ -2,8 +2,6 @@ ghost use Rattle.std.specs.Prelude.{◌≡◌, ◌≤◌, IfOk, [], ◌∷◌, l
 ghost use Rattle.iop_machine.specs.Standing.{IsSoundMachine};
 
 use crate::{Machine, Module, laws};
-use iop_base::Stop;
-use iop_ports::MemSink;
 use iop_script::{Args, Script, Word};
 use std::alloc::{AllocError, Global};
 use std::test::Fail;
@@ -66,34 +64,10 @@ fn loads_it_twice(alloc: Global) -> Result<Machine, AllocError>
 }
 
 #[test]
-fn runs_in_parts(rt: HostRuntime) -> Result<(), Fail> {
+fn begins_at_moment_0(rt: HostRuntime) -> Result<(), Fail> {
     let alloc: Global = rt.alloc();
-    let mut machine = loads_it_twice(alloc)?;
-    let mut console = MemSink::new(alloc, 100, Vec::new(alloc))?;
-    let mut trace = MemSink::new(alloc, 200, Vec::new(alloc))?;
-    for (budget, stop, now) in [
-        (0_u8, Stop::Budget, 0),
-        (3, Stop::Budget, 3),
-        (100, Stop::Quiet, 6),
-        (100, Stop::Quiet, 6),
-    ] {
-        assert!(rt; machine.now() <= 100);
-        let budget = u64::from(budget);
-        assert_eq!(rt; machine.run(budget, &mut console, &mut trace), Ok(stop));
-        assert_eq!(rt; machine.now(), now);
-        if now == 0 {
-            let arguments = b"\x10\x20\0\0\x16\x20\0\0\x18\x20\0\0\0\0\0\0m.irx\0a\0bc\0";
-            assert_eq!(rt; machine.window(0x2000, 27), Some(arguments.as_slice()));
-        }
-    }
-    assert_eq!(rt;
-        trace.bytes(),
-        b"0 load 1 ok 00010000 00000008\n0 run 1\n2 result 1 0 resident\n\
-        2 load 2 ok 00010100 00000008\n5 result 2 0 resident\n"
-            .as_slice()
-    );
-    let arguments = b"\x08\x20\0\0\0\0\0\0m.irx\0\0".as_slice();
-    assert_eq!(rt; machine.window(0x2000, 15), Some(arguments));
+    let machine = loads_it_twice(alloc)?;
+    assert_eq!(rt; machine.now(), 0);
     assert_eq!(rt; machine.window(0x1F_FFF8, 9), None);
     Ok(())
 }
@@ -115,4 +89,7 @@ fn laws_hold() {
     laws::runs_keep_stubs();
     laws::stubs_are_followed();
     laws::runs_are_strict();
+    laws::runs_are_on_time();
+    laws::runs_are_awake();
+    laws::runs_keep_events();
 }

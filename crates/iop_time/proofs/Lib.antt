@@ -2,8 +2,8 @@ pub mod Keeping
 mod Comparing
 mod Firsts
 mod Least
-mod Leaving
-mod Nexts
+pub mod Leaving
+pub mod Nexts
 mod Numbers
-mod Results
-mod Rooms
+pub mod Results
+pub mod Rooms

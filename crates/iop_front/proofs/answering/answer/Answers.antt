@@ -5,7 +5,7 @@ use Rattle.iop_front.proofs.CauseLemmas.{good_words}
 use Rattle.iop_front.proofs.answering.answer.Goals as goal
 
 pub returns-in-Some-clause-untouched : goal.returns-in-Some-clause-untouched
-returns-in-Some-clause-untouched g c = λ e. absurd (good_words c.answer_modules.ensures e)
+returns-in-Some-clause-untouched g c = λ e. absurd (good_words c.answer_command.ensures e)
 
 pub returns-in-None-clause-answers : goal.returns-in-None-clause-answers
 returns-in-None-clause-answers g c =

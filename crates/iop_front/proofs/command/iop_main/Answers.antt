@@ -29,28 +29,36 @@ pub returns-clause-unread_shows : goal.returns-clause-unread_shows
 returns-clause-unread_shows g c =
     λ ne. c.code.ensures ∙ causes.unread_shows c.answer.ensures.answers ne
 
+pub returns-clause-bad_script_line : goal.returns-clause-bad_script_line
+returns-clause-bad_script_line g c =
+    λ command named e.
+    let h = causes.answers_as c.answer.ensures.answers command named in
+    causes.bad_script_told h (sym c.code.ensures ∙ e)
+
 pub returns-clause-unread_line : goal.returns-clause-unread_line
 returns-clause-unread_line g c =
-    λ names named e.
-    causes.unread_line c.answer.ensures.answers names named (sym c.code.ensures ∙ e)
+    λ command named e.
+    let h = causes.answers_as c.answer.ensures.answers command named in
+    causes.unread_line h (sym c.code.ensures ∙ e)
 
 pub returns-clause-read : goal.returns-clause-read
-returns-clause-read g c = causes.opened_first c.answer.ensures.answers
+returns-clause-read g c = λ command named.
+    let h = causes.answers_as c.answer.ensures.answers command named in
+    causes.opened_first h
 
 pub returns-clause-read_all : goal.returns-clause-read_all
-returns-clause-read_all g c = λ names named run.
-    causes.opened_all c.answer.ensures.answers names named (subst IsRunCode c.code.ensures run)
+returns-clause-read_all g c = λ command named run.
+    let h = causes.answers_as c.answer.ensures.answers command named in
+    causes.opened_all h (subst IsRunCode c.code.ensures run)
 
 pub returns-clause-no_stray : goal.returns-clause-no_stray
 returns-clause-no_stray g c = causes.no_strays c.answer.ensures.answers
 
 pub returns-clause-too_long_line : goal.returns-clause-too_long_line
-returns-clause-too_long_line g c = λ names named e.
-    let seen = outside g.F.Files.told g.F.Files.faults g.C.Sink.told g.T.Sink.told in
-    causes.too_long_told
-    {old = seen c.args.files.now c.args.console.now c.args.trace.now}
-    {new = seen c.answer.new.files c.answer.new.console c.answer.new.trace}
-    c.answer.ensures.answers names named (sym c.code.ensures ∙ e)
+returns-clause-too_long_line g c =
+    λ command named e.
+    let h = causes.answers_as c.answer.ensures.answers command named in
+    causes.too_long_told h (sym c.code.ensures ∙ e)
 
 pub returns-clause-cut : goal.returns-clause-cut
 returns-clause-cut g c = λ e. causes.cut_cause c.answer.ensures.answers (sym c.code.ensures ∙ e)

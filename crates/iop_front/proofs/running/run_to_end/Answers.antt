@@ -13,7 +13,7 @@ returns-in-Ok g c = λ w stands machine.
     let ran = c.in-Ok.ensures.whole w stands machine in
     let sent = c.write_end.ensures in
     let line = ap (λ t. line_bytes t (End c.in-Ok.stop)) (c.now.ensures.moment _ ran.1) in
-    whole_run w BUDGET (seen c.args.console.now c.args.trace.now)
+    whole_run w machine BUDGET (seen c.args.console.now c.args.trace.now)
     sent.0 c.write_end.result ran.0 c.in-Ok.stop _
     (seen c.run.new.console c.run.new.trace) (seen c.run.new.console c.write_end.new.trace)
     sent.1 line ran.2 (sent_leaves sent.0 _ _ _ _ sent.2)
@@ -22,5 +22,5 @@ pub returns-in-Err : goal.returns-in-Err
 returns-in-Err g c = λ w stands machine.
     let seen = sinks g.C.Sink.told g.T.Sink.told in
     let cut = c.in-Err.ensures.fault w stands machine in
-    cut_run w BUDGET (seen c.args.console.now c.args.trace.now)
+    cut_run w machine BUDGET (seen c.args.console.now c.args.trace.now)
     cut.0 _ (seen c.run.new.console c.run.new.trace) refl cut.2

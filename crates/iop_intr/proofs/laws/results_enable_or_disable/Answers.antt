@@ -1,5 +1,5 @@
-use Rattle.iop_intr.proofs.Changing.{results}
+use Rattle.iop_intr.proofs.Changing.{results_enable_or_disable}
 use Rattle.iop_intr.proofs.laws.results_enable_or_disable.Goals as goal
 
 pub returns : goal.returns
-returns c = results
+returns c = results_enable_or_disable

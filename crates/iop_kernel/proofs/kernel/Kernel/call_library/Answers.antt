@@ -1,4 +1,4 @@
-use Rattle.std.proofs.Common.{ℕ, false, ap, ◌∙◌}
+use Rattle.std.proofs.Common.{ℕ, ap, ◌∙◌}
 use Rattle.iop_libs.specs.Calls.{Sight, After}
 use Rattle.iop_services.specs.Table.{row_of}
 use Rattle.iop_kernel.specs.Serving.{answers_by, calls_library}
@@ -18,13 +18,13 @@ pub answer_call-requires-clause-same_size : goal.answer_call-requires-clause-sam
 answer_call-requires-clause-same_size g c =
     let sight : Sight = record { memory = c.args.guest.now; cpu = c.args.cpu.now } in
     ap (λ (after : After). after.blocks.size) c.call-answer.ensures.answer
-    ∙ (row_keeps sight c.args.blocks.now c.args.registry.now false
-    (row_of c.args.library c.args.number)).size ∙ c.requires.same_size
+    ∙ (row_keeps sight c.args.blocks.now c.args.registry.now
+    c.in_handler-inside.result (row_of c.args.library c.args.number)).size ∙ c.requires.same_size
 
 pub returns : goal.returns
 unfolding calls_library
 returns g c = λ k h.
     let s = system k c.args.cpu.now c.args.guest.now c.args.blocks.now c.args.registry.now in
-    let told = c.call-answer.ensures in
+    let told = rw (c.in_handler-inside.ensures k h) at c.call-answer.ensures in
     serves_after (serves_as (c.answer_call.ensures k c.call-answer.new.registry h)
     (ap (answered_by c.args.library c.args.number s) told.answer)) told.lines

@@ -15,13 +15,14 @@ delete_ended-requires g c =
 
 pub returns-in-None : goal.returns-in-None
 returns-in-None g c = λ k h.
-    let runs = sym (c.caller.ensures k h) ∙ c.in-None.is in
+    let runs = sym (c.caller.ensures.id k h) ∙ c.in-None.is in
     rw (ap (exits_deleted_by (owner k c.args.cpu.now c.args.blocks.now)) runs)
     (record { core = record { answer = refl; kernel = h; processor = refl }; map = refl })
 
 pub returns-in-Some-eq1 : goal.returns-in-Some-eq1
 returns-in-Some-eq1 g c = λ k h.
-    let runs = sym (c.caller.ensures k h) ∙ c.in-Some-eq1.is ∙ ap Some c.in-Some-eq1.field-0-test in
+    let runs = sym (c.caller.ensures.id k h) ∙ c.in-Some-eq1.is
+    ∙ ap Some c.in-Some-eq1.field-0-test in
     let told = c.end_module.ensures in
     rw (ap (exits_deleted_by (owner k c.args.cpu.now c.args.blocks.now)) runs) (record {
       core = record { answer = told.answer; kernel = told.state k h; processor = refl };
@@ -30,7 +31,7 @@ returns-in-Some-eq1 g c = λ k h.
 
 pub returns-in-Some : goal.returns-in-Some
 returns-in-Some g c = λ k h.
-    let runs = sym (c.caller.ensures k h) ∙ c.in-Some.is in
+    let runs = sym (c.caller.ensures.id k h) ∙ c.in-Some.is in
     let other = ne_eqb c.in-Some.id LOADER c.in-Some.id-test.1 in
     rw (ap (exits_deleted_by (owner k c.args.cpu.now c.args.blocks.now)) runs) (rw other
     (c.delete_ended.ensures k c.args.cpu.now (c.end.ensures k h)))

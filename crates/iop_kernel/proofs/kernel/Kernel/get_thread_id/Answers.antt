@@ -5,7 +5,7 @@ use Rattle.iop_kernel.proofs.kernel.Kernel.get_thread_id.Goals as goal
 
 pub returns : goal.returns
 returns g c = λ k h.
-    let id = c.unwrap_or.ensures ∙ ap (λ o. unwrap_or o 0) (c.caller.ensures k h) in
+    let id = c.unwrap_or.ensures ∙ ap (λ o. unwrap_or o 0) (c.caller.ensures.id k h) in
     record {
       answer = c.answer_word.ensures.after;
       kernel = h;

@@ -1,8 +1,24 @@
-use Rattle.std.proofs.Common.{ap, ◌∙◌}
-use Rattle.std.specs.Prelude.{unwrap_or}
+use Rattle.std.proofs.Common.{ap, sym, ◌∙◌}
+use Rattle.std.specs.Prelude.{option_map, unwrap_or}
+use Rattle.iop_mbx.specs.Mailboxes.{without_messages}
+use Rattle.iop_objects.specs.Objects.{state_of}
 use Rattle.iop_kernel.specs.Standing.{board}
-use Rattle.iop_kernel.proofs.MailboxCalls.{refers_live}
+use Rattle.iop_kernel.proofs.MailboxCalls.{refers_live, refers_none}
+use Rattle.iop_kernel.proofs.Standing.{takes_quiet}
 use Rattle.iop_kernel.proofs.kernel.Kernel.refer_mbx_status.Goals as goal
+
+pub returns-in_default-get : goal.returns-in_default-get
+returns-in_default-get g c = λ k h.
+    let id = c.args.id in
+    let b = board k c.args.cpu.now c.args.guest.now in
+    rw (refers_none b id c.args.at c.in-Some.place c.in-Some.ensures.place
+    (c.in_default-get.ensures
+    ∙ ap (λ s. option_map without_messages (state_of s id)) (sym h.mailboxes)))
+    (takes_quiet c.args.guest.now (g.L.Lines.output c.args.lines.now) (record {
+      answer = c.answer.ensures.after;
+      kernel = h;
+      processor = c.answer.ensures.processor;
+    }))
 
 pub returns : goal.returns
 returns g c = λ k h.

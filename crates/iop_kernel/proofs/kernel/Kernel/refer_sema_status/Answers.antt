@@ -2,8 +2,21 @@ use Rattle.std.proofs.Common.{ap, sym, ◌∙◌}
 use Rattle.iop_objects.specs.Objects.{state_of, waiters_of}
 use Rattle.std.proofs.Common.{length}
 use Rattle.iop_kernel.specs.Standing.{board}
-use Rattle.iop_kernel.proofs.SemaphoreCalls.{refers_live}
+use Rattle.iop_kernel.proofs.SemaphoreCalls.{refers_live, refers_none}
+use Rattle.iop_kernel.proofs.Standing.{takes_quiet}
 use Rattle.iop_kernel.proofs.kernel.Kernel.refer_sema_status.Goals as goal
+
+pub returns-in_default-get : goal.returns-in_default-get
+returns-in_default-get g c = λ k h.
+    let id = c.args.id in
+    let b = board k c.args.cpu.now c.args.guest.now in
+    rw (refers_none b id c.args.at c.in-Some.place c.in-Some.ensures.place
+    (c.in_default-get.ensures ∙ ap (λ s. state_of s id) (sym h.semaphores)))
+    (takes_quiet c.args.guest.now (g.L.Lines.output c.args.lines.now) (record {
+      answer = c.answer.ensures.after;
+      kernel = h;
+      processor = c.answer.ensures.processor;
+    }))
 
 pub returns : goal.returns
 returns g c = λ k h.

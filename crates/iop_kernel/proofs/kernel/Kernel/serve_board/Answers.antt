@@ -13,6 +13,12 @@ returns-in_default g c = λ k h.
     let n = c.in_default in
     let b = board k c.args.cpu.now c.args.guest.now in
     let other : LooksAway c.args.service = record {
+      disable_intr = n.not-DisableIntr;
+      cpu_suspend_intr = n.not-CpuSuspendIntr;
+      get_system_time = n.not-GetSystemTime;
+      set_alarm = n.not-SetAlarm;
+      usec_to_clock = n.not-USec2SysClock;
+      clock_to_usec = n.not-SysClock2USec;
       create_sema = n.not-CreateSema;
       refer_sema_status = n.not-ReferSemaStatus;
       create_event_flag = n.not-CreateEventFlag;
@@ -48,5 +54,5 @@ returns-in-PollEventFlag g c = λ k h.
     rw c.in-PollEventFlag.is
     (subst (λ (w : Wanted). TakesBoard g.R.Ready.stands
     (poll_event_flag b (argument b.core 0) w) did.result did.new.self did.new.cpu did.new.guest
-    (g.L.Lines.output c.args.lines.now) (g.L.Lines.output did.new.lines)) (c.wanted-in-PollEventFlag.ensures k)
-    (did.ensures k h))
+    (g.L.Lines.output c.args.lines.now) (g.L.Lines.output did.new.lines))
+    (c.wanted-in-PollEventFlag.ensures k) (did.ensures k h))

@@ -8,7 +8,7 @@ use Rattle.iop_kernel.proofs.kernel.Kernel.wait_for_bits.Goals as goal
 
 pub returns-in_default : goal.returns-in_default
 returns-in_default g c = λ k h.
-    let runs = sym (c.caller.ensures k h) ∙ c.in_default.is in
+    let runs = sym (c.caller.ensures.id k h) ∙ c.in_default.is in
     rw (ap (waits_for_bits (core k c.args.cpu.now) c.args.id c.args.wanted) runs)
     (record { answer = refl; kernel = h; processor = refl })
 
@@ -27,7 +27,7 @@ returns g c = λ k h.
     let id = c.args.id in
     let wanted = c.args.wanted in
     let thread = c.in-Some.thread in
-    let runs = sym (c.caller.ensures k h) ∙ c.in-Some.is in
+    let runs = sym (c.caller.ensures.id k h) ∙ c.in-Some.is in
     let priority = priority_of k.threads.live thread in
     let now = flags.waits k.event_flags id thread priority wanted in
     let left = ap (λ s. flags.waits s id thread priority wanted) h.event_flags

@@ -8,7 +8,7 @@ use Rattle.iop_kernel.proofs.kernel.Kernel.wait_for_sema.Goals as goal
 
 pub returns-in_default : goal.returns-in_default
 returns-in_default g c = λ k h.
-    let runs = sym (c.caller.ensures k h) ∙ c.in_default.is in
+    let runs = sym (c.caller.ensures.id k h) ∙ c.in_default.is in
     rw (ap (waits_for_sema (core k c.args.cpu.now) c.args.id) runs)
     (record { answer = refl; kernel = h; processor = refl })
 
@@ -26,7 +26,7 @@ pub returns : goal.returns
 returns g c = λ k h.
     let id = c.args.id in
     let thread = c.in-Some.thread in
-    let runs = sym (c.caller.ensures k h) ∙ c.in-Some.is in
+    let runs = sym (c.caller.ensures.id k h) ∙ c.in-Some.is in
     let priority = priority_of k.threads.live thread in
     let now = semaphores.waits k.semaphores id thread priority in
     let left = ap (λ s. semaphores.waits s id thread priority) h.semaphores

@@ -1,6 +1,6 @@
 use Rattle.std.proofs.Common.{◌+◌, sym, ◌∙◌, arith}
 use Rattle.iop_exec.specs.Row.{row}
-use Rattle.iop_machine.proofs.Bursting.{stands_after, size_kept, length-performed, bursts_first, burst_runs, turn_of, plain_advances, plain_goes_on, conclude_advances}
+use Rattle.iop_machine.proofs.Bursting.{stands_after, size_kept, number_kept, length-performed, bursts_first, burst_runs, turn_of, plain_advances, plain_goes_on, conclude_advances}
 use Rattle.iop_machine.proofs.iop.Iop.burst.Goals as goal
 
 pub instructions-init : goal.instructions-init
@@ -12,6 +12,7 @@ instructions-init g c =
       later = omega (arith, now);
       some = c.requires.some;
       few = omega arith;
+      number = c.requires.number;
       same_size = c.requires.same_size;
       bursts = bursts_first c.args.self.now c.now-clock.result c.args.budget _ now c.requires.well;
     }
@@ -24,9 +25,10 @@ instructions-preserved g c =
       later = omega arith;
       some = omega arith;
       few = omega arith;
+      number = i.number;
       same_size = i.same_size ∙ sym (length-performed _ _ _ _ _ _ _ _ _ c.perform.ensures);
       bursts = λ s h r. plain_goes_on (turn_of (i.bursts s h r) i.some c.perform.ensures)
-          c.in-Plain.is (sym c.failed.ensures ∙ c.if-failed.false)
+          (omega arith) c.in-Plain.is (sym c.failed.ensures ∙ c.if-failed.false)
           (λ t k. stands_after c.perform.new.cpu c.perform.new.guest (c.instructions.clock + 1) k);
     }
 
@@ -53,7 +55,7 @@ pub conclude-requires-clause-runs : goal.conclude-requires-clause-runs
 conclude-requires-clause-runs g c =
     let r = burst_runs c.instructions.self c.perform.new.guest c.requires.runs
     c.instructions.invariant.bursts in
-    (_, c.settle-in_default.ensures r.0 r.1, r.2.running)
+    (_, c.settle-in_default.ensures r.0 r.1, r.2)
 
 pub conclude-requires-clause-time : goal.conclude-requires-clause-time
 conclude-requires-clause-time g c =
@@ -61,6 +63,13 @@ conclude-requires-clause-time g c =
     c.instructions.invariant.bursts in
     let clock = (c.settle-in_default.ensures r.0 r.1).kernel.holds.clock in
     let i = c.instructions.invariant in omega (arith, clock, i.time, i.some)
+
+pub conclude-requires-clause-number : goal.conclude-requires-clause-number
+conclude-requires-clause-number g c =
+    let r = burst_runs c.instructions.self c.perform.new.guest c.requires.runs
+    c.instructions.invariant.bursts in
+    number_kept c.perform.new.cpu c.instructions.clock r.1 (c.settle-in_default.ensures r.0 r.1)
+    c.instructions.invariant.number
 
 pub conclude-requires-clause-same_size : goal.conclude-requires-clause-same_size
 conclude-requires-clause-same_size g c =

@@ -1,7 +1,8 @@
 use Rattle.std.proofs.Common.{◌≡◌, ◌+◌, ◌<◌, ◌≤◌, ◌^◌, length}
+use Rattle.iop_kernel.specs.Standing.{HasNumber}
 use Rattle.iop_trace.specs.Outs.{output_of}
 use Rattle.iop_machine.specs.Iop.{Iop as State}
-use Rattle.iop_machine.specs.Running.{Runs}
+use Rattle.iop_machine.specs.Running.{RunsFor}
 use Rattle.iop_machine.specs.Standing.{Stands}
 use Rattle.iop_machine.specs.World.{booted}
 use Rattle.iop_machine.proofs.Bursting.{Bursts, held}
@@ -13,8 +14,9 @@ invariant-instructions g l = record {
   later : l.self.kernel.clock ≤ l.clock;
   some : 0 < l.left;
   few : l.left ≤ l.fn.budget;
+  number : HasNumber l.self.kernel;
   same_size : l.self.blocks.size ≡ length l.self.guest.ram;
-  bursts : (s : State) → Stands l.fn.self s → Runs s
+  bursts : (s : State) → Stands l.fn.self s → RunsFor s l.fn.budget
       → Bursts (booted s) l.fn.budget l.left (held l.self l.cpu l.self.guest l.clock)
       (output_of g.C.Sink.told g.T.Sink.told l.initial.out)
       (output_of g.C.Sink.told g.T.Sink.told l.out);

@@ -10,6 +10,7 @@ use Rattle.iop_machine.proofs.iop.Iop.call.Goals as goal
 pub service-after-requires : goal.service-after-requires
 service-after-requires g c = record {
   active = (_, c.requires.runs.1.kernel, c.requires.runs.2);
+  number = c.requires.number;
   same_size = c.requires.same_size;
 }
 

@@ -3,7 +3,7 @@ use Rattle.iop_base.proofs.Giving.{gives_none}
 use Rattle.iop_machine.specs.Standing.{StandsForWorld}
 use Rattle.iop_machine.specs.declared.progress.Progress.TheVariants.{Stopped, Advanced}
 use Rattle.iop_machine.proofs.Advancing.{progress_names, same_sinks, finished, faulted}
-use Rattle.iop_machine.proofs.Progressing.{reached_machine, then_progresses, progressed_sound, advances_time}
+use Rattle.iop_machine.proofs.Progressing.{reached_machine, then_progresses, progressed_sound, advances_time, less_of}
 use Rattle.iop_machine.proofs.Reaching.{reached_none, reached_more}
 use Rattle.iop_machine.proofs.machine.Machine.run.Goals as goal
 
@@ -74,10 +74,15 @@ steps-preserved g c = record {
       let r = c.requires.sound in
       let i = c.steps.invariant.reached r.0 r.1 r.2 in
       let next = c.in-Advanced.ensures.progresses _ i.1.state (reached_machine i.1 r.2) in
-      advances_time _ i.1.state next.1 c.steps.invariant.time;
+      advances_time (reached_machine i.1 r.2) i.1.state next.1 c.steps.invariant.time;
   reached = λ w h machine.
       let i = c.steps.invariant.reached w h machine in
       let all = then_progresses i.1 machine (Advanced c.in-Advanced.field-0) c.advance.new.self _
       c.in-Advanced.ensures.progresses in
       (suc all.0, reached_more all.1 (sym c.failed.ensures ∙ c.if-failed.false));
 }
+
+pub steps-smaller : goal.steps-smaller
+steps-smaller g c =
+    less_of c.in-Advanced.field-0 _ _ _ _ (sym c.failed.ensures ∙ c.if-failed.false)
+    c.in-Advanced.ensures.less

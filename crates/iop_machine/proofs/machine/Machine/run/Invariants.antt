@@ -1,14 +1,16 @@
-use Rattle.std.proofs.Common.{ℕ, ◌+◌, ◌<◌, ◌^◌}
+use Rattle.std.proofs.Common.{ℕ, ◌+◌, ◌*◌}
 use Rattle.iop_trace.specs.Outs.{output_of}
-use Rattle.iop_machine.specs.Advancing.{Reached, turns_by}
+use Rattle.iop_machine.specs.Advancing.{Reached, calls_by}
 use Rattle.iop_machine.specs.Laws.{IsMachine}
 use Rattle.iop_machine.specs.Standing.{StandsForWorld}
+use Rattle.iop_machine.specs.Running.{HasTime}
+use Rattle.iop_machine.specs.Stepping.{most_between}
 use Rattle.iop_machine.specs.World.{World}
 use Rattle.iop_machine.proofs.machine.Machine.run.Given as goal
 
 abbrev pub invariant-steps : goal.invariant-steps
 invariant-steps g l = record {
-  time : l.self.iop.kernel.clock + l.left < 2 ^ 64;
+  time : HasTime l.self.iop.kernel.clock l.left;
   reached : (w : World) → StandsForWorld l.fn.self w → IsMachine w
       → (k : ℕ) × Reached StandsForWorld w l.fn.budget k l.left l.self
       (output_of g.C.Sink.told g.T.Sink.told l.initial.out)
@@ -16,4 +18,5 @@ invariant-steps g l = record {
 }
 
 abbrev pub decreases-steps : goal.decreases-steps
-decreases-steps g l = l.left + turns_by l.self.iop.over l.self.is_new
+decreases-steps g l =
+    most_between * l.left + calls_by l.self.iop.over l.self.is_new l.self.iop.kernel

@@ -1,0 +1,105 @@
+//! What a command reads before the machine is made: its script and its modules.
+
+ghost use Rattle.std.specs.Prelude.{◌≡◌, ◌≤◌, true, Some, is_some, [], ◌∷◌, All, IfOk, MatchResult, length, option_map, option_to_list};
+ghost use Rattle.iop_machine.specs.declared.module.TheConstants.{MOST_MODULES};
+ghost use Rattle.iop_script.specs.Laws.{CanRun};
+ghost use Rattle.iop_script.specs.Reading.{empty_script};
+ghost use Rattle.iop_front.specs.Commands.{command_held};
+ghost use Rattle.iop_front.specs.Modules.{seen, HasScript, HasInputs, HasStopped, IsShort};
+ghost use Rattle.iop_front.specs.Outcome.{read_limit};
+ghost use Rattle.iop_front.specs.Words.{has_script, files_of};
+
+use crate::command_words::CommandWords;
+use crate::modules::{read_buffer, read_modules};
+use crate::reading::read_whole;
+use crate::unread::Unread;
+use iop_machine::Module;
+use iop_ports::Files;
+use iop_script::{Script, parse};
+use std::alloc::Global;
+
+/// What a command has read.
+#[derive(Debug, Drop)]
+pub(crate) struct Inputs {
+    pub(crate) script: Script,
+    pub(crate) modules: Vec<Module>,
+}
+
+/// The script of a command that names none.
+fn no_script(alloc: Global) -> Script
+    ensures script { result ≡ empty_script }
+    ensures runs { CanRun result }
+{
+    Script {
+        events: Vec::new(alloc),
+        args: Vec::new(alloc),
+    }
+}
+
+/// Reads the script of a file through a buffer of `READ_LIMIT` bytes.
+fn read_script<'a, F: Files>(
+    alloc: Global,
+    name: &'a str,
+    buffer: &mut [u8],
+    files: &mut F,
+) -> Result<Script, Unread<'a>>
+    requires { length buffer.old ≡ read_limit }
+    ensures read { MatchResult result
+        (λ script. HasScript (Some name.now) script
+        (seen F.told F.faults files.old) (seen F.told F.faults files.new))
+        (λ unread. HasStopped true (name.now ∷ []) unread
+        (seen F.told F.faults files.old) (seen F.told F.faults files.new)) }
+    ensures runs { IfOk result CanRun }
+    ensures buffer { length buffer.new ≡ read_limit }
+{
+    let len = read_whole(name, buffer, files)?;
+    Ok(parse(alloc, &buffer[..len])?)
+}
+
+/// Reads the script of a file, if there is one; else the script says nothing.
+fn read_script_of<'a, F: Files>(
+    alloc: Global,
+    name: Option<&'a str>,
+    buffer: &mut [u8],
+    files: &mut F,
+) -> Result<Script, Unread<'a>>
+    requires { length buffer.old ≡ read_limit }
+    ensures read { let named = option_map (λ n. n.now) name.entry in
+        MatchResult result
+        (λ script. HasScript named script
+        (seen F.told F.faults files.old) (seen F.told F.faults files.new))
+        (λ unread. HasStopped (is_some named) (option_to_list named) unread
+        (seen F.told F.faults files.old) (seen F.told F.faults files.new)) }
+    ensures runs { IfOk result CanRun }
+    ensures buffer { length buffer.new ≡ read_limit }
+{
+    match name {
+        Some(name) => read_script(alloc, name, buffer, files),
+        None => Ok(no_script(alloc)),
+    }
+}
+
+/// Reads what a command names: first its script, and then its modules, in order. The first file
+/// that cannot be read or is too long, or a bad line of the script, decides, and no later file is
+/// opened. Nor is one where there is no memory.
+#[inline(never)]
+pub(crate) fn read_inputs<'a, F: Files>(
+    alloc: Global,
+    command: CommandWords<'a>,
+    files: &mut F,
+) -> Result<Inputs, Unread<'a>>
+    ensures read { MatchResult result
+        (λ inputs. HasInputs (command_held command.entry) inputs.script inputs.modules.items
+        (seen F.told F.faults files.old) (seen F.told F.faults files.new))
+        (λ unread. HasStopped (has_script (command_held command.entry))
+        (files_of (command_held command.entry)) unread
+        (seen F.told F.faults files.old) (seen F.told F.faults files.new)) }
+    ensures runs { IfOk result (λ inputs. CanRun inputs.script) }
+    ensures few { IfOk result (λ inputs. length inputs.modules.items ≤ MOST_MODULES) }
+    ensures short { IfOk result (λ inputs. All IsShort inputs.modules.items) }
+{
+    let mut buffer = read_buffer(alloc)?;
+    let script = read_script_of(alloc, command.script, &mut buffer, files)?;
+    let modules = read_modules(alloc, command.modules, &mut buffer, files)?;
+    Ok(Inputs { script, modules })
+}

@@ -1,0 +1,5 @@
+use Rattle.iop_kernel.proofs.ResultsGiven.{results_are_given}
+use Rattle.iop_kernel.proofs.laws.results_are_given.Goals as goal
+
+pub returns : goal.returns
+returns c = results_are_given

@@ -1,0 +1,118 @@
+-- A run from behind the script's events that are due is the run from before them.
+use Rattle.std.proofs.Common.{◌≡◌, ℕ, zero, suc, ◌+◌, ◌-◌, ◌≤◌, None, false, ◌++◌, refl, ap, sym, ◌∙◌, arith, subst}
+use Rattle.iop_base.specs.Output.{Output, Gives}
+use Rattle.iop_exec.specs.Arithmetic.{one_if}
+use Rattle.iop_kernel.specs.Deliveries.{delivers}
+use Rattle.iop_kernel.specs.Dispatching.{dispatches}
+use Rattle.iop_kernel.specs.System.{is_active}
+use Rattle.iop_machine.specs.Advancing.{Advances}
+use Rattle.iop_machine.specs.Iop.{Iop, Transition, with_state, core_of}
+use Rattle.iop_machine.specs.Looking.{takes_events}
+use Rattle.iop_machine.specs.Running.{GoesOn, GoesOnFor}
+use Rattle.iop_machine.specs.Stepping.{step, steps, executes, executes_by, executed, stops_by, stop_at, delivers_by}
+use Rattle.iop_machine.specs.World.{World, booted}
+use Rattle.iop_machine.proofs.Composing.{steps_front, executed_front}
+use Rattle.iop_machine.proofs.GoingOn.{goes_on_with}
+use Rattle.iop_machine.proofs.LookingLemmas.{takes_again}
+use Rattle.iop_machine.proofs.Reaching.{steps_zero}
+use Rattle.iop_machine.proofs.Stepping.{step_begins, executes_are}
+
+-- their next steps are the same
+pub record AreAlike (w v : World) : Type 0 where
+  pub over : w.iop.over ≡ v.iop.over
+  pub executes : executes w ≡ executes v
+  pub step : step w ≡ step v
+
+module _ (w v : World) (alike : AreAlike w v) where
+  -- so are all steps from the first on
+  pub steps_alike : (k : ℕ) → steps (suc k) w ≡ steps (suc k) v
+  steps_alike k =
+      steps_front w k
+      ∙ ap (λ (t : Transition World). record {
+        state = (steps k t.state).state;
+        pieces = t.pieces ++ (steps k t.state).pieces;
+        bound = t.bound ++ (steps k t.state).bound;
+      }) alike.step
+      ∙ sym (steps_front v k)
+
+  -- and what they execute
+  pub executed_alike : (k : ℕ) → executed (suc k) w ≡ executed (suc k) v
+  executed_alike k =
+      executed_front w k
+      ∙ ap (λ b. one_if b + executed k (step w).state) alike.executes
+      ∙ ap (λ (t : Transition World). one_if (executes v) + executed k t.state) alike.step
+      ∙ sym (executed_front v k)
+
+  -- so both go on
+  goes_alike : (budget j : ℕ) → GoesOn v budget j → GoesOn w budget j
+  unfolding steps executed
+  goes_alike budget zero goes =
+      ap (λ o. stops_by o (executes w) (budget - 0)) alike.over
+      ∙ ap (λ b. stops_by v.iop.over b (budget - 0)) alike.executes ∙ goes
+  goes_alike budget (suc j) goes =
+      ap (λ (t : Transition World). stop_at t.state (budget - executed (suc j) w)) (steps_alike j)
+      ∙ ap (λ n. stop_at (steps (suc j) v).state (budget - n)) (executed_alike j) ∙ goes
+
+  -- the pieces of the first steps, and those of the next one
+  first_alike : (k : ℕ) (a b : Output) → Gives a b (steps k v).pieces
+      → Gives a b (steps k w).pieces
+  first_alike zero a b gives =
+      subst (Gives a b)
+      (ap (λ (t : Transition World). t.pieces) (steps_zero v)
+      ∙ sym (ap (λ (t : Transition World). t.pieces) (steps_zero w))) gives
+  first_alike (suc k) a b gives =
+      subst (λ (t : Transition World). Gives a b t.pieces) (sym (steps_alike k)) gives
+
+  next_alike : (k : ℕ) (a b : Output) → Gives a b (step (steps k v).state).pieces
+      → Gives a b (step (steps k w).state).pieces
+  unfolding steps
+  next_alike zero a b gives =
+      subst (λ (t : Transition World). Gives a b t.pieces) (sym alike.step) gives
+  next_alike (suc k) a b gives =
+      subst (λ (t : Transition World). Gives a b (step t.state).pieces) (sym (steps_alike k)) gives
+
+  pub advances_alike : {P : Type 0} {stands_for : P → World → Type 0} {budget k left : ℕ}
+      {now : P} {a b : Output}
+      → Advances stands_for v budget k left now a b → Advances stands_for w budget k left now a b
+  advances_alike {stands_for = stands_for} {budget} {k} {left} {now} {a} {b} h = record {
+    before = λ j lt. goes_alike budget j (h.before j lt);
+    state = subst (λ (t : Transition World). stands_for now t.state) (sym (steps_alike k)) h.state;
+    left_is = let same = executed_alike k in omega (arith, h.left_is, same);
+    seen = h.seen;
+    first = first_alike k a h.seen h.first;
+    well = h.well;
+    last = next_alike k h.seen b h.last;
+  }
+
+-- where more is allowed more is left
+pub advances_more : {P : Type 0} {stands_for : P → World → Type 0} {w : World}
+    {most k left : ℕ} {now : P} {a b : Output} (budget : ℕ) → most ≤ budget
+    → Advances stands_for w most k left now a b
+    → Advances stands_for w budget k (budget - most + left) now a b
+advances_more {w = w} {most} {k} {left} budget le h =
+    let all : most + (budget - most) ≡ budget = omega (arith, le) in
+    record {
+      before = subst (λ n. GoesOnFor w n (suc k)) all
+          (goes_on_with w most (budget - most) (suc k) h.before);
+      state = h.state;
+      left_is = omega (arith, le, h.left_is);
+      seen = h.seen;
+      first = h.first;
+      well = h.well;
+      last = h.last;
+    }
+
+-- so it is with a state and the one behind its events that are due
+pub taken_alike : (s : Iop) → s.over ≡ None → AreAlike (booted s) (booted (takes_events s))
+taken_alike s over =
+    let again = takes_again s in
+    record {
+      over = refl;
+      executes = executes_are (booted s)
+          ∙ ap (λ (x : Iop). executes_by s.over false (delivers (core_of x))
+          (dispatches (core_of x)) (is_active x.kernel)) (sym again)
+          ∙ sym (executes_are (booted (takes_events s)));
+      step = step_begins (booted s) false over refl
+          ∙ ap (λ (x : Iop). with_state booted (delivers_by x (delivers (core_of x)))) (sym again)
+          ∙ sym (step_begins (booted (takes_events s)) false over refl);
+    }

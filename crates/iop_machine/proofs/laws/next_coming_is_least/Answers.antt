@@ -1,0 +1,5 @@
+use Rattle.iop_machine.proofs.ComingFirst.{next_coming_is_least}
+use Rattle.iop_machine.proofs.laws.next_coming_is_least.Goals as goal
+
+pub returns : goal.returns
+returns c = next_coming_is_least

@@ -1,0 +1,50 @@
+-- The script's events that are still to come: interrupt lines, each of which is raised at its tick.
+-- That those that are due are all taken together is this project's own profile.
+use Rattle.std.specs.Prelude.{◌≡◌, ℕ, ◌^◌, ◌<◌, ◌≤◌, min, nat_le, not, Bool, Option, Some, None, List, ◌∷◌, [], map, filter, fold, length, drop, All, AllPairs}
+use Rattle.iop_script.specs.declared.raise.Raise.{Raise}
+use Rattle.iop_machine.specs.declared.events.Events.TheInside.{Inside}
+
+-- events that can come in a run: in the order of their ticks, and of lines that there are
+pub record CanCome (events : List Raise) : Type 0 where
+  pub order : AllPairs (λ x y. x.at ≤ y.at) events
+  pub ticks : All (λ e. e.at < 2 ^ 63) events
+  pub lines : All (λ e. e.line < 64) events
+
+-- whether an event is due at a moment
+abbrev pub is_due : ℕ → Raise → Bool
+is_due moment event = nat_le event.at moment
+
+-- the lines of all events that are due at a moment
+abbrev pub due_lines : ℕ → List Raise → List ℕ
+due_lines moment events = map (λ e. e.line) (filter (is_due moment) events)
+
+-- the events that are left once these are taken
+abbrev pub left_events : ℕ → List Raise → List Raise
+left_events moment events = filter (λ e. not (is_due moment e)) events
+
+-- the earlier of two moments, if there are two
+abbrev pub earlier : Option ℕ → Option ℕ → Option ℕ
+earlier None other = other
+earlier (Some moment) None = Some moment
+earlier (Some moment) (Some other) = Some (min moment other)
+
+-- the earlier of a moment and the tick of an event
+abbrev pub earlier_with : Option ℕ → Raise → Option ℕ
+earlier_with moment event = earlier moment (Some event.at)
+
+-- the least tick of all events
+abbrev pub next_tick : List Raise → Option ℕ
+next_tick events = fold earlier_with None events
+
+-- the events that the program has not taken yet
+abbrev pub events_of : Inside → List Raise
+events_of e = drop e.taken e.events.items
+
+-- the next event was taken, whose line this is, or none was due
+abbrev pub TakesDue : Option ℕ → (moment : ℕ) → (old new : List Raise) → Type 0
+TakesDue None moment old new = (new ≡ old) × (due_lines moment old ≡ [])
+TakesDue (Some line) moment old new =
+    (line < 64)
+    × (due_lines moment old ≡ line ∷ due_lines moment new)
+    × (left_events moment old ≡ left_events moment new)
+    × (length new < length old)

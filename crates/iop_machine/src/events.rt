@@ -1,0 +1,66 @@
+ghost use Rattle.std.specs.Prelude.{◌≡◌, ◌^◌, ◌<◌, IfSome};
+ghost use Rattle.iop_machine.specs.Events.{CanCome, TakesDue, next_tick};
+
+use iop_script::Raise;
+use std::marker::Model;
+
+/// The events of a script that are still to come, in the order of their ticks.
+#[derive(Drop)]
+pub(crate) struct Events {
+    events: Vec<Raise>,
+    /// How many events were taken.
+    taken: usize,
+}
+
+impl Model for Events {
+    ghost use Rattle.std.specs.Prelude.{◌≤◌, List, length};
+    ghost use Rattle.iop_script.specs.declared.raise.Raise.{Raise as Event};
+    ghost use Rattle.iop_machine.specs.Events.{CanCome, events_of};
+
+    ghost Value = { List Event };
+
+    ghost view = { events_of };
+
+    ghost invariant = { λ e. CanCome (events_of e) × (e.taken ≤ length e.events.items) };
+}
+
+impl Events {
+    /// Makes them of the events of a script: in the order of their ticks, which are below 2^63, and
+    /// of lines below 64.
+    pub(crate) fn new(events: Vec<Raise>) -> Self
+        requires { CanCome events.items }
+        ensures { result ≡ events.items }
+    {
+        Events { events, taken: 0 }
+    }
+
+    /// Lends those that were not taken yet.
+    pub(crate) fn left(&self) -> &[Raise]
+        ensures left { result.now ≡ self.now }
+        ensures come { CanCome result.now }
+    {
+        &self.events[self.taken..]
+    }
+
+    /// Tells the tick of the next one. None exactly where none is left.
+    pub(crate) fn next_tick(&self) -> Option<u64>
+        ensures tick { result ≡ next_tick self.now }
+        ensures comes { IfSome result (λ tick. tick < 2 ^ 63) }
+    {
+        let event = self.events.get(self.taken)?;
+        Some(event.at)
+    }
+
+    /// Takes the next one, if it is due at a moment, and tells its line. None exactly where none is
+    /// due.
+    pub(crate) fn take_due(&mut self, moment: u64) -> Option<u8>
+        ensures { TakesDue result moment self.old self.new }
+    {
+        let event = *self.events.get(self.taken)?;
+        if event.at > moment {
+            return None;
+        }
+        self.taken += 1;
+        Some(event.line)
+    }
+}

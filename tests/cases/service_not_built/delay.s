@@ -1,3 +1,0 @@
-; A service that is not built yet faults
-    .name delay
-    syscall 801
