@@ -9,7 +9,7 @@ use Rattle.iop_isa.specs.declared.instruction.Inst.TheVariants.{Sll, Srl, Sra, S
 use Rattle.iop_isa.specs.Instructions.{inst_of}
 use Rattle.iop_exec.specs.declared.cpu.Cpu.{Cpu}
 use Rattle.iop_exec.specs.Laws.{GoesToNext, cpu_after}
-use Rattle.iop_exec.specs.Positions.{IsStraight}
+use Rattle.iop_exec.specs.Processors.{IsStraight}
 use Rattle.iop_exec.specs.Row.{Row, Goes, Serves, Faults, Storing, at_next, after_jump, with_reg, with_link, results, sums, loads, pairs, place, word_round, stores_as, stores_made, effect_of, inst_row, word_row, row_of, row}
 
 -- what the laws say of a row

@@ -8,20 +8,6 @@ use Rattle.iop_isa.specs.declared.instruction.Inst.{Inst}
 use Rattle.iop_isa.specs.Instructions.{inst_of, is_jump}
 use Rattle.iop_exec.specs.Row.{Faults, effect_of, inst_row, row, row_of, word_row}
 
-module _ (word : ℕ) (memory : List ℕ) (c : Cpu) where
-  word_row_some : (i : Inst)
-      → inst_of word ≡ Some i → (c.in_slot && is_jump i) ≡ false
-      → word_row word memory c ≡ effect_of i memory c
-  unfolding word_row
-  word_row_some i e allowed =
-      ap (λ o. inst_row o memory c) e
-      ∙ ap (λ b. cond b (Faults BranchInSlot) (effect_of i memory c)) allowed
-
-  pub word_row_no_slot : (i : Inst)
-      → inst_of word ≡ Some i → c.in_slot ≡ false
-      → word_row word memory c ≡ effect_of i memory c
-  word_row_no_slot i e out = word_row_some i e (rw out refl)
-
 module _ (memory : List ℕ) (c : Cpu) where
   pub row_some : (word : ℕ)
       → load_at memory c.pc Word ≡ Some word → row memory c ≡ word_row word memory c

@@ -1,7 +1,7 @@
 -- What the laws on rows say.
 use Rattle.std.specs.Prelude.{◌≡◌, ℕ, List}
 use Rattle.iop_exec.specs.declared.cpu.Cpu.{Cpu}
-use Rattle.iop_exec.specs.Positions.{IsStraight}
+use Rattle.iop_exec.specs.Processors.{IsStraight}
 use Rattle.iop_exec.specs.Row.{Row, Goes, Serves, Faults, at_next, row}
 
 -- the processor after a row

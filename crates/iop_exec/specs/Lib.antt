@@ -1,5 +1,5 @@
 pub mod Arithmetic
 pub mod Row
 pub mod Stepping
-pub mod Positions
+pub mod Processors
 pub mod Laws

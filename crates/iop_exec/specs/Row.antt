@@ -1,7 +1,7 @@
 -- What an instruction does (MIPS I: the R3000's table of instructions). That an address outside
 -- RAM, a word that is no instruction and a jump in a delay slot fault, and that a syscall calls a
 -- service, is this project's profile. Operands are those from before the instruction.
-use Rattle.std.specs.Prelude.{ℕ, ◌+◌, ◌-◌, ◌*◌, ◌/◌, ◌%◌, ◌^◌, ◌==◌, nat_lt, Bool, true, false, not, ◌&&◌, ◌||◌, if◌then◌else◌, ◌+ℤ◌, ◌-ℤ◌, Option, Some, None, option_map, List, slice_index, slice_set, bit_and, bit_or, bit_xor}
+use Rattle.std.specs.Prelude.{ℕ, ◌+◌, ◌-◌, ◌*◌, ◌/◌, ◌%◌, ◌^◌, ◌==◌, nat_lt, Bool, not, ◌&&◌, ◌||◌, if◌then◌else◌, ◌+ℤ◌, ◌-ℤ◌, Option, Some, None, option_map, List, slice_index, slice_set, bit_and, bit_or, bit_xor}
 use Rattle.iop_base.specs.Numbers.{sign_extended, wrapped}
 use Rattle.iop_base.specs.Places.{load_at, store_at}
 use Rattle.iop_base.specs.declared.guest_fault.GuestFault.{GuestFault}
@@ -11,8 +11,9 @@ use Rattle.iop_base.specs.declared.width.Width.TheVariants.{Byte, Half, Word}
 use Rattle.iop_isa.specs.declared.instruction.Inst.{Inst}
 use Rattle.iop_isa.specs.declared.instruction.Inst.TheVariants.{Sll, Srl, Sra, Sllv, Srlv, Srav, Jr, Jalr, Syscall, Break, Mfhi, Mthi, Mflo, Mtlo, Mult, Multu, Div, Divu, Add, Addu, Sub, Subu, And, Or, Xor, Nor, Slt, Sltu, Bltz, Bgez, Bltzal, Bgezal, J, Jal, Beq, Bne, Blez, Bgtz, Addi, Addiu, Slti, Sltiu, Andi, Ori, Xori, Lui, Lb, Lh, Lwl, Lw, Lbu, Lhu, Lwr, Sb, Sh, Swl, Sw, Swr}
 use Rattle.iop_isa.specs.Instructions.{inst_of, is_jump}
-use Rattle.iop_isa.specs.Targets.{branch_target, jump_target}
+use Rattle.iop_isa.specs.Targets.{jump_target}
 use Rattle.iop_exec.specs.declared.cpu.Cpu.{Cpu}
+use Rattle.iop_exec.specs.Processors.{position_of, standing_at, next_position, position_after_jump, position_after_branch}
 use Rattle.iop_exec.specs.Arithmetic.{as_signed, fitting_word, left_shift, right_shift, signed_shift, complement, is_less, is_negative, one_if, signed_product, signed_quotient, signed_remainder, quotient, remainder, left_load, right_load, left_store, right_store}
 
 -- the one store that an instruction makes: the low bytes of a value
@@ -30,24 +31,25 @@ pub data Row : Type 0 where
   Faults : (fault : GuestFault) → Row
 
 -- register 0 reads zero
+abbrev pub reg_in : List ℕ → ℕ → ℕ
+reg_in regs n = if n == 0 then 0 else slice_index regs n
+
 abbrev pub reg : Cpu → ℕ → ℕ
-reg c n = if n == 0 then 0 else slice_index c.regs n
+reg c n = reg_in c.regs n
 
 -- and what is written to it is dropped
 abbrev pub with_reg : Cpu → ℕ → ℕ → Cpu
 with_reg c n value = if n == 0 then c else record c { regs = slice_set c.regs n value }
 
--- on to the next instruction
+-- the processor at the next instruction, after a jump, and after a branch
 abbrev pub at_next : Cpu → Cpu
-at_next c = record c { pc = c.next; next = wrapped (c.next + 4); in_slot = false }
+at_next c = standing_at (next_position (position_of c)) c
 
--- a jump: first the next instruction is executed, in the delay slot, then the one at the target
 abbrev pub after_jump : Cpu → ℕ → Cpu
-after_jump c target = record c { pc = c.next; next = target; in_slot = true }
+after_jump c target = standing_at (position_after_jump (position_of c) target) c
 
--- a branch has a delay slot, taken or not
 abbrev pub after_branch : Cpu → Bool → ℕ → Cpu
-after_branch c taken imm = after_jump c (if taken then branch_target c.pc imm else wrapped (c.next + 4))
+after_branch c taken imm = standing_at (position_after_branch (position_of c) taken imm) c
 
 -- the address behind the delay slot goes into a register
 abbrev pub with_link : Cpu → ℕ → Cpu
@@ -75,9 +77,12 @@ pairs c hi lo = Goes (at_next (record c { hi = hi; lo = lo })) None
 abbrev pub products : Cpu → ℕ → Row
 products c product = pairs c (product / 2 ^ 32) (product % 2 ^ 32)
 
--- the place of a load or a store
+-- the place of a load or a store: a register plus a signed immediate
+abbrev pub place_from : (base imm : ℕ) → ℕ
+place_from base imm = wrapped (base + sign_extended 16 imm)
+
 abbrev pub place : Cpu → (rs imm : ℕ) → ℕ
-place c rs imm = wrapped (reg c rs + sign_extended 16 imm)
+place c rs imm = place_from (reg c rs) imm
 
 -- the word in which a place stands
 abbrev pub word_start : ℕ → ℕ

@@ -1,4 +1,4 @@
-//! Executes one instruction of the R3000 over the registers of a processor and a bus.
+//! Executes one instruction of the R3000 over a processor and a bus.
 #![tactic(auto)]
 
 mod arithmetic;
@@ -8,10 +8,12 @@ mod execution;
 pub mod laws;
 mod memory;
 mod position;
+mod registers;
 #[cfg(test)]
 mod tests;
 
 pub use bus::Bus;
 pub use cpu::{Cpu, Event};
-pub use execution::step;
+pub use execution::{step, step_apart};
 pub use position::Position;
+pub use registers::Registers;

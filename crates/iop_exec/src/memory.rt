@@ -3,13 +3,16 @@
 ghost use Rattle.iop_base.specs.Numbers.{sign_extended};
 ghost use Rattle.iop_base.specs.Places.{load_at};
 ghost use Rattle.iop_exec.specs.Arithmetic.{left_load, right_load, left_store, right_store};
+ghost use Rattle.iop_exec.specs.Processors.{cpu_of};
 ghost use Rattle.iop_exec.specs.Row.{word_start, word_round, stores, stores_over};
 ghost use Rattle.iop_exec.specs.Stepping.{Does};
 ghost use Rattle.std.specs.Prelude.{◌≡◌, option_map};
 
 use crate::arithmetic::{left_load, left_store, right_load, right_store};
 use crate::bus::Bus;
-use crate::cpu::{Cpu, Event};
+use crate::cpu::Event;
+use crate::position::Position;
+use crate::registers::Registers;
 use iop_base::{GuestFault, Width, sign_extended};
 
 /// Loads the unsigned number at an address: `None` where there is none.
@@ -55,13 +58,20 @@ pub(crate) fn lower_part<B: Bus>(bus: &B, at: u32, old: u32) -> Option<u32>
 }
 
 /// Stores the low bytes of a value: `Address` where they have no place.
-pub(crate) fn store<B: Bus>(cpu: &mut Cpu, bus: &mut B, at: u32, width: Width, value: u32) -> Event
-    ensures { Does B.bytes B.stores (stores cpu.old (B.bytes bus.old) at width value)
-        result cpu.old bus.old cpu.new bus.new }
+pub(crate) fn store<B: Bus>(
+    position: &mut Position,
+    bus: &mut B,
+    at: u32,
+    width: Width,
+    value: u32,
+) -> Event
+    ensures { (r : Registers) → Does B.bytes B.stores
+        (stores (cpu_of r position.old) (B.bytes bus.old) at width value)
+        result (cpu_of r position.old) bus.old (cpu_of r position.new) bus.new }
 {
     match bus.store(at, width, value) {
         Ok(()) => {
-            cpu.advance();
+            position.advance();
             Event::Plain
         }
         Err(_) => Event::Fault(GuestFault::Address),
@@ -69,14 +79,19 @@ pub(crate) fn store<B: Bus>(cpu: &mut Cpu, bus: &mut B, at: u32, width: Width, v
 }
 
 /// Stores as `swl` does: `Address` where there is no word.
-pub(crate) fn store_upper_part<B: Bus>(cpu: &mut Cpu, bus: &mut B, at: u32, value: u32) -> Event
-    ensures { Does B.bytes B.stores
-        (stores_over cpu.old (B.bytes bus.old) at (left_store at value))
-        result cpu.old bus.old cpu.new bus.new }
+pub(crate) fn store_upper_part<B: Bus>(
+    position: &mut Position,
+    bus: &mut B,
+    at: u32,
+    value: u32,
+) -> Event
+    ensures { (r : Registers) → Does B.bytes B.stores
+        (stores_over (cpu_of r position.old) (B.bytes bus.old) at (left_store at value))
+        result (cpu_of r position.old) bus.old (cpu_of r position.new) bus.new }
 {
     match load_at(bus, word_start(at), Width::Word) {
         Some(word) => store(
-            cpu,
+            position,
             bus,
             word_start(at),
             Width::Word,
@@ -87,14 +102,19 @@ pub(crate) fn store_upper_part<B: Bus>(cpu: &mut Cpu, bus: &mut B, at: u32, valu
 }
 
 /// Stores as `swr` does: `Address` where there is no word.
-pub(crate) fn store_lower_part<B: Bus>(cpu: &mut Cpu, bus: &mut B, at: u32, value: u32) -> Event
-    ensures { Does B.bytes B.stores
-        (stores_over cpu.old (B.bytes bus.old) at (right_store at value))
-        result cpu.old bus.old cpu.new bus.new }
+pub(crate) fn store_lower_part<B: Bus>(
+    position: &mut Position,
+    bus: &mut B,
+    at: u32,
+    value: u32,
+) -> Event
+    ensures { (r : Registers) → Does B.bytes B.stores
+        (stores_over (cpu_of r position.old) (B.bytes bus.old) at (right_store at value))
+        result (cpu_of r position.old) bus.old (cpu_of r position.new) bus.new }
 {
     match load_at(bus, word_start(at), Width::Word) {
         Some(word) => store(
-            cpu,
+            position,
             bus,
             word_start(at),
             Width::Word,

@@ -11,11 +11,11 @@ use Rattle.iop_script.specs.Reading.{empty_script, script_of}
 use Rattle.iop_script.specs.Scripts.{Script}
 use Rattle.iop_trace.specs.Outs.{Leaves, output_with}
 use Rattle.iop_front.specs.Answers.{Answers, AreFilesOf, Outside, HasNoCommand, bad_words, cannot_read, no_memory, from_files}
-use Rattle.iop_front.specs.Modules.{Seen, GoesOn, HasInputs, HasStoppedUnread, HasStoppedTooLong, HasStoppedBad, HasStoppedShort}
-use Rattle.iop_front.specs.Modules.{IsScriptOf, IsShort}
+use Rattle.iop_front.specs.Inputs.{Seen, GoesOn, HasInputs, HasStoppedUnread, HasStoppedTooLong, HasStoppedBad, HasStoppedShort}
+use Rattle.iop_front.specs.Inputs.{IsScriptOf, IsShort}
 use Rattle.iop_front.specs.Outcome.{Outcome, Meets, Comes, Refuses, refusal, bad_script_line, cannot_read_line, too_long_line}
 use Rattle.iop_front.specs.Outcome.{first_too_long, script_by, outcome_behind, outcome_by, outcome_of_inputs, outcome_of_modules}
-use Rattle.iop_front.specs.Words.{Command, has_script, files_of}
+use Rattle.iop_front.specs.Words.{Command, AsScript, kind_by, first_kind, files_of}
 use Rattle.iop_front.specs.declared.status.Status.{Status}
 use Rattle.iop_front.specs.declared.status.Status.TheVariants.{BadWords, BadScript, CannotRead, TooLong, NoMemory}
 use Rattle.iop_front.proofs.OpeningLemmas.{found}
@@ -46,7 +46,7 @@ record IsLongInput (name : Option (List ℕ)) (files : List NamedFile) (long : N
     : Type 0 where
   script : Option NamedFile
   modules : List NamedFile
-  is_script : is_some script ≡ is_some name
+  has_script : is_some script ≡ is_some name
   are : option_to_list script ++ modules ≡ files
   is : outcome_of_inputs script modules ≡ refusal TooLong (too_long_line long.name)
   ends : (is_err (script_by script) ≡ true) ⊎ IsSome (first_too_long modules)
@@ -54,7 +54,7 @@ record IsLongInput (name : Option (List ℕ)) (files : List NamedFile) (long : N
 -- behind a script that is not too long, by what it reads as
 long_behind : (name : List ℕ) (script : NamedFile) (modules : List NamedFile) (long : NamedFile)
     (read : Result Script ℕ) → nat_lt LONGEST_FILE (length script.file) ≡ false
-    → first_too_long modules ≡ Some long → GoesOn true (script ∷ modules)
+    → first_too_long modules ≡ Some long → GoesOn AsScript (script ∷ modules)
     → script_of script.file ≡ read → IsLongInput (Some name) (script ∷ modules) long
 long_behind name script [] long read short e on is = absurd (cc)
 long_behind name script (first ∷ rest) long (Err number) short e on is =
@@ -62,7 +62,7 @@ long_behind name script (first ∷ rest) long (Err number) short e on is =
 long_behind name script (first ∷ rest) long (Ok says) short e on is = record {
   script = Some script;
   modules = first ∷ rest;
-  is_script = refl;
+  has_script = refl;
   are = refl;
   is = ap (λ r. outcome_behind r (first ∷ rest)) (from_short script (Ok says) short is)
       ∙ long_outcome says (first ∷ rest) long e;
@@ -71,11 +71,11 @@ long_behind name script (first ∷ rest) long (Ok says) short e on is = record {
 
 -- by the first file, if a script is named
 long_input : (name : Option (List ℕ)) (files : List NamedFile) (long : NamedFile)
-    → first_too_long files ≡ Some long → GoesOn (is_some name) files → IsLongInput name files long
+    → first_too_long files ≡ Some long → GoesOn (kind_by name) files → IsLongInput name files long
 long_input None files long e on = record {
   script = None;
   modules = files;
-  is_script = refl;
+  has_script = refl;
   are = refl;
   is = long_outcome empty_script files long e;
   ends = inr (ap is_some e);
@@ -85,7 +85,7 @@ long_input (Some name) (script ∷ modules) long e on = elim (found script modul
   | inl h ↦ record {
     script = Some script;
     modules = modules;
-    is_script = refl;
+    has_script = refl;
     are = refl;
     is = ap (λ r. outcome_behind r modules) (from_long script h.0)
         ∙ ap (λ (named : NamedFile). refusal TooLong (too_long_line named.name)) h.1;
@@ -93,6 +93,11 @@ long_input (Some name) (script ∷ modules) long e on = elim (found script modul
   }
   | inr h ↦ long_behind name script modules long (script_of script.file) h.0 h.1 on refl
 ]
+
+-- where the first file is read as a script, one is named
+script_named : (script : Option (List ℕ)) → kind_by script ≡ AsScript → true ≡ is_some script
+script_named None e = absurd (cc)
+script_named (Some name) e = refl
 
 -- whether or not the write failed
 refusal_comes : (status refused : Status) (line : List ℕ) (failed : Bool) (old new : Output)
@@ -129,26 +134,26 @@ module _ (command : Command) (status : Status) (old new : Seen) (sinks after : O
       (outside_of new after)) (sym e) h
 
   pub answers_unread : (name : List ℕ)
-      → HasStoppedUnread (has_script command) (files_of command) name old new
+      → HasStoppedUnread (first_kind command) (files_of command) name old new
       → status ≡ CannotRead → Refuses (cannot_read_line name) sinks after → IsAnswer
   answers_unread name h e line =
       of_status CannotRead e (cannot_read h.before name h.left h.are_names
       (record { files = h.read; cause = h.cause; line = line }))
 
-  pub answers_short : HasStoppedShort (has_script command) (files_of command) old new
+  pub answers_short : HasStoppedShort (first_kind command) (files_of command) old new
       → status ≡ NoMemory → after ≡ sinks → IsAnswer
   answers_short h e same =
       of_status NoMemory e (no_memory h.opened h.left h.are_names h.read h.no_fault same)
 
   pub answers_too_long : (name : List ℕ)
-      → HasStoppedTooLong (has_script command) (files_of command) name old new
+      → HasStoppedTooLong (first_kind command) (files_of command) name old new
       → status ≡ TooLong → Refuses (too_long_line name) sinks after → IsAnswer
   answers_too_long name h e line =
       let long : NamedFile = record { name = name; file = h.file } in
       let is = long_input command.script h.files long h.decides h.taken.goes_on in
       from_files h.opened h.left is.script is.modules (record {
         are_names = h.are_names;
-        is_script = is.is_script;
+        has_script = is.has_script;
         read = record {
           are_files = subst (λ (fs : List NamedFile). AreFilesOf h.opened fs old.told)
               (sym is.are) h.taken.are_files;
@@ -160,14 +165,14 @@ module _ (command : Command) (status : Status) (old new : Seen) (sinks after : O
       (outcome_of_inputs is.script is.modules) sinks after is.is e line)
 
   pub answers_bad : (number : ℕ)
-      → HasStoppedBad (has_script command) (files_of command) number old new
+      → HasStoppedBad (first_kind command) (files_of command) number old new
       → status ≡ BadScript → Refuses (bad_script_line number) sinks after → IsAnswer
   answers_bad number h e line =
       let short = h.short in
       let says = from_short h.file (Err number) (grind (arith, nat_tests, short)) h.bad in
       from_files (h.file.name ∷ []) h.left (Some h.file) [] (record {
         are_names = h.are_names;
-        is_script = sym h.is_one;
+        has_script = script_named command.script h.as_script;
         read = record {
           are_files = h.taken.are_files;
           read = h.taken.read;
@@ -183,7 +188,7 @@ module _ (command : Command) (status : Status) (old new : Seen) (sinks after : O
   answers_inputs script modules h short meets =
       from_files (files_of command) [] h.file modules (record {
         are_names = sym (append-nil (files_of command));
-        is_script = h.is_script;
+        has_script = h.has_file;
         read = record {
           are_files = h.taken.are_files;
           read = h.taken.read;

@@ -13,7 +13,7 @@ use Rattle.iop_front.specs.Answers as ways
 use Rattle.iop_front.specs.Answers.{Answers, Outside, FilesRead, HasFilesNamed, HasBadScript, IsUnread, IsTooLong, OpensFirst}
 use Rattle.iop_front.specs.Outcome.{MeetsCode, Refuses, bad_words_line, cannot_read_line, outcome_named, refusal}
 use Rattle.iop_front.specs.Statuses.{status_code, IsRunCode, IsRefusalCode, IsExitCode, IsCutCode}
-use Rattle.iop_front.specs.Words.{Command, has_script, files_of}
+use Rattle.iop_front.specs.Words.{Command, first_kind, files_of}
 use Rattle.iop_front.proofs.AnswerLemmas.{refusal_meets}
 use Rattle.iop_front.proofs.BadLemmas.{bad_read}
 use Rattle.iop_front.proofs.ConsoleLemmas.{ConsoleSame, refusal_console}
@@ -85,7 +85,7 @@ unread_line {command = command} {old = old} {new = new}
           (append_assoc before (name ∷ []) left ∙ sym are)
           (Contains-append_left (before ++ name ∷ []) left name (Contains-push before name));
       line = was.line;
-      asked = name_asked old.faults (has_script command) before name old.told new.told was.files;
+      asked = name_asked old.faults (first_kind command) before name old.told new.told was.files;
     }
 unread_line (ways.no_memory opened left are read none same) s = absurd (omega arith)
 unread_line {status = status} {old = old} {new = new}
@@ -127,7 +127,7 @@ not_run n high r = elim r [
 -- before a run all names were opened
 pub opened_all : {command : Command} {status : Status} {old new : Outside}
     → Answers (Some command) status old new → IsRunCode (status_code status)
-    → FilesRead (has_script command) (files_of command) old.faults old.told new.told
+    → FilesRead (first_kind command) (files_of command) old.faults old.told new.told
 opened_all (ways.cannot_read before name left are was) r = absurd (not_run 22 (omega arith) r)
 opened_all (ways.no_memory opened left are read none same) r =
     absurd (not_run 30 (omega arith) r)
@@ -137,7 +137,7 @@ opened_all {command = command} {status = status} {old = old} {new = new}
     let all : opened ≡ files_of command =
     sym (append-nil opened)
     ∙ ap (λ t. opened ++ t) (sym (none_left script files left ends run)) ∙ sym was.are_names in
-    subst (λ (ns : List (List ℕ)). FilesRead (has_script command) ns old.faults old.told new.told)
+    subst (λ (ns : List (List ℕ)). FilesRead (first_kind command) ns old.faults old.told new.told)
     all was.read.read
 
 -- no file is opened that the content does not have, if it has all that the words name
@@ -151,18 +151,18 @@ no_strays (ways.bad_words was) before after p q there =
     ap (λ (files : FilesTold). files.strays) (sym same)
 no_strays {old = old} {new = new} (ways.cannot_read {command = command} first name left are was)
     before after p q there =
-    no_stray old.faults (has_script command) (first ++ name ∷ []) left old.told new.told was.files
+    no_stray old.faults (first_kind command) (first ++ name ∷ []) left old.told new.told was.files
     before after p q
     (subst (λ ns. All (λ n. IsSome (before.content n)) ns)
     (are ∙ sym (append_assoc first (name ∷ []) left)) there)
 no_strays {old = old} {new = new}
     (ways.no_memory {command = command} names left are read none same) before after p q there =
-    no_stray old.faults (has_script command) names left old.told new.told read before after p q
+    no_stray old.faults (first_kind command) names left old.told new.told read before after p q
     (subst (λ ns. All (λ n. IsSome (before.content n)) ns) are there)
 no_strays {old = old} {new = new}
     (ways.from_files {command = command} names left script files was ends h)
     before after p q there =
-    no_stray old.faults (has_script command) names left old.told new.told was.read.read
+    no_stray old.faults (first_kind command) names left old.told new.told was.read.read
     before after p q (subst (λ ns. All (λ n. IsSome (before.content n)) ns) was.are_names there)
 
 -- 21, and its line
@@ -175,7 +175,7 @@ bad_script_told {command = command} {status = status} {old = old} {new = new}
     (ways.from_files opened left script files was ends h) s =
     let is = ended_bad (ended script files status old.sinks new.sinks h) s in
     let bad = bad_read command opened left script files is.named is.number old.faults old.told
-    new.told is.is_bad was.are_names was.is_script was.read.are_files was.read.read in
+    new.told is.is_bad was.are_names was.has_script was.read.are_files was.read.read in
     record {
       name = is.named.name;
       named = bad.named;
@@ -196,7 +196,7 @@ too_long_told {command = command} {status = status} {old = old} {new = new}
     (ways.from_files opened left script files was ends h) s =
     let all = option_to_list script ++ files in
     let is = ended_too_long (ended script files status old.sinks new.sinks h) s in
-    let last = long_read (has_script command) opened all old.faults old.told new.told is.long
+    let last = long_read (first_kind command) opened all old.faults old.told new.told is.long
     was.read.are_files was.read.read is.is_first in
     let named = subst (λ (ns : List (List ℕ)). Contains ns is.long.name)
     (names_of opened all old.told was.read.are_files) (is_named all is.long is.is_first) in
@@ -300,7 +300,7 @@ outcome {status = status} {old = old} {new = new} code
       status,
       e,
       read_outcome told command names left script files status old.sinks new.sinks was.are_names
-          was.is_script
+          was.has_script
           (subst (ways.AreFilesOf names (option_to_list script ++ files)) is was.read.are_files)
           ends h,
     )

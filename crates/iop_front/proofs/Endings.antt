@@ -1,5 +1,5 @@
 -- The ways in which files that were read are answered, and what each shows.
-use Rattle.std.proofs.Common.{◌≡◌, ◌≢◌, ◌⊎◌, ℕ, ◌<◌, ◌≤◌, nat_lt, Bool, true, false, cond, Option, Some, None, option_to_list, Result, Ok, Err, is_err, List, [], ◌++◌, length, refl, ap, sym}
+use Rattle.std.proofs.Common.{◌≡◌, ◌≢◌, ◌⊎◌, ℕ, ◌<◌, ◌≤◌, nat_lt, Bool, true, false, cond, Option, Some, None, option_to_list, Result, Ok, Err, is_err, List, ◌++◌, length, refl, ap, sym}
 use Rattle.std.proofs.Common.{◌∙◌, subst, arith, inl, inr}
 use Rattle.iop_base.specs.Counts.{HasCause}
 use Rattle.iop_base.specs.Piece.{Piece, Traced, Told}
@@ -24,7 +24,7 @@ use Rattle.iop_front.proofs.OutcomeLemmas.{from_short}
 
 -- the script's file is not too long, and has a bad line
 pub record IsBadScript (script : Option NamedFile) (named : NamedFile) (number : ℕ) : Type 0 where
-  pub is_script : script ≡ Some named
+  pub is_named : script ≡ Some named
   pub short : nat_lt LONGEST_FILE (length named.file) ≡ false
   pub bad : script_of named.file ≡ Err number
 
@@ -85,7 +85,7 @@ ended_script named (Ok says) failed files status old new short is h =
     (ap is_err (from_short named (Ok says) short is)) h
 ended_script named (Err number) failed files status old new short is h =
     as_bad_script named number
-    (record { is_script = refl; short = short; bad = is })
+    (record { is_named = refl; short = short; bad = is })
     (refused_status BadScript status (bad_script_line number) failed old new h) (failed, h.1)
 
 -- by whether it is too long

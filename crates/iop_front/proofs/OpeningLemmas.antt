@@ -12,6 +12,7 @@ use Rattle.iop_ports.specs.Files.{FilesTold, IsAskedName, Asked, Untold, NoName,
 use Rattle.iop_front.specs.Answers.{FilesRead, AreFilesOf, IsNameAsked}
 use Rattle.iop_front.specs.Outcome.{OpensAndReads, OpensInOrder, IsGoodFile, MayGoOn, none, more, read_limit, first_too_long}
 use Rattle.iop_front.specs.Reading.{file_named}
+use Rattle.iop_front.specs.Words.{FileKind, AsModule}
 
 -- the fronts of the files of these names
 abbrev files_in : (List ℕ → Option (List ℕ)) → List (List ℕ) → List NamedFile
@@ -23,8 +24,8 @@ content_then : {name : List ℕ} {faults : ℕ} {old new : FilesTold}
 content_then h = ap (λ (files : FilesTold). files.content) h.files
 
 -- the content stays
-same_content : {faults : ℕ} {is_script : Bool} {names : List (List ℕ)} {old new : FilesTold}
-    → OpensInOrder faults is_script names old new → new.content ≡ old.content
+same_content : {faults : ℕ} {kind : FileKind} {names : List (List ℕ)} {old new : FilesTold}
+    → OpensInOrder faults kind names old new → new.content ≡ old.content
 same_content none = refl
 same_content (more first fits rest) = same_content rest ∙ content_then first
 
@@ -39,70 +40,70 @@ whole_front file h =
     let short = short_whole file h in take_all read_limit file (omega (arith, short))
 
 -- another may be opened behind a file that is not too long, and good
-goes_on : (is_script : Bool) (file : List ℕ) (names : List (List ℕ))
-    → length (take read_limit file) ≤ LONGEST_FILE → IsGoodFile is_script (take read_limit file)
-    → MayGoOn is_script file names
-goes_on is_script file [] h good = tt
-goes_on is_script file (next ∷ names) h good =
-    (short_whole file h, subst (IsGoodFile is_script) (whole_front file h) good)
+goes_on : (kind : FileKind) (file : List ℕ) (names : List (List ℕ))
+    → length (take read_limit file) ≤ LONGEST_FILE → IsGoodFile kind (take read_limit file)
+    → MayGoOn kind file names
+goes_on kind file [] h good = tt
+goes_on kind file (next ∷ names) h good =
+    (short_whole file h, subst (IsGoodFile kind) (whole_front file h) good)
 
 -- its file is not too long
 abbrev pub IsNotLong : NamedFile → Type 0
 IsNotLong named = length named.file ≤ LONGEST_FILE
 
--- behind these files, of which the first is a script's or not, the modules' may be read
-abbrev pub AreFollowed : (is_script : Bool) → List NamedFile → Type 0
-AreFollowed is_script [] = is_script ≡ false
-AreFollowed is_script (first ∷ files) = IsGoodFile is_script first.file
+-- behind these files, of which the first is of this kind, the modules' may be read
+abbrev pub AreFollowed : (kind : FileKind) → List NamedFile → Type 0
+AreFollowed kind [] = kind ≡ AsModule
+AreFollowed kind (first ∷ files) = IsGoodFile kind first.file
 
 -- behind those of modules they may
-pub modules_followed : (files : List NamedFile) → AreFollowed false files
+pub modules_followed : (files : List NamedFile) → AreFollowed AsModule files
 modules_followed [] = refl
 modules_followed (first ∷ files) = tt
 
 -- so the modules' are opened behind these
-opens-append : {faults : ℕ} {is_script : Bool} {xs ys : List (List ℕ)}
+opens-append : {faults : ℕ} {kind : FileKind} {xs ys : List (List ℕ)}
     {old between new : FilesTold}
-    → OpensInOrder faults is_script xs old between → All IsNotLong (files_in old.content xs)
-    → AreFollowed is_script (files_in old.content xs)
-    → OpensInOrder faults false ys between new → OpensInOrder faults is_script (xs ++ ys) old new
+    → OpensInOrder faults kind xs old between → All IsNotLong (files_in old.content xs)
+    → AreFollowed kind (files_in old.content xs)
+    → OpensInOrder faults AsModule ys between new → OpensInOrder faults kind (xs ++ ys) old new
 opens-append {faults = faults} {ys = ys} {new = new} (none {files = files}) short follow h =
-    subst (λ b. OpensInOrder faults b ys files new) (sym follow) h
+    subst (λ kind. OpensInOrder faults kind ys files new) (sym follow) h
 opens-append {ys = ys} {old = old}
-    (more {is_script = is_script} {name = name} {names = names} {between = middle} first fits rest)
+    (more {kind = kind} {name = name} {names = names} {between = middle} first fits rest)
     short follow h =
     let front : NamedFile = record { name = name; file = take read_limit (file_named old name) } in
     let one = All-head IsNotLong front (files_in old.content names) short in
     let others = All-tail IsNotLong front (files_in old.content names) short in
-    more first (goes_on is_script (file_named old name) (names ++ ys) one follow)
+    more first (goes_on kind (file_named old name) (names ++ ys) one follow)
     (opens-append rest
     (subst (λ (c : List ℕ → Option (List ℕ)). All IsNotLong (files_in c names))
     (sym (content_then first)) others)
     (modules_followed (files_in middle.content names)) h)
 
 -- nothing is read
-pub read_none : (is_script : Bool) (faults : ℕ) (told : Option FilesTold)
-    → FilesRead is_script [] faults told told
-read_none is_script faults None = refl
-read_none is_script faults (Some files) = none
+pub read_none : (kind : FileKind) (faults : ℕ) (told : Option FilesTold)
+    → FilesRead kind [] faults told told
+read_none kind faults None = refl
+read_none kind faults (Some files) = none
 
-module _ (is_script : Bool) (xs ys : List (List ℕ)) (files : List NamedFile) (faults : ℕ) where
+module _ (kind : FileKind) (xs ys : List (List ℕ)) (files : List NamedFile) (faults : ℕ) where
   -- the same where the files may tell nothing
   pub read-append : (old between new : Option FilesTold) → AreFilesOf xs files old
-      → All IsNotLong files → AreFollowed is_script files
-      → FilesRead is_script xs faults old between → FilesRead false ys faults between new
-      → FilesRead is_script (xs ++ ys) faults old new
+      → All IsNotLong files → AreFollowed kind files
+      → FilesRead kind xs faults old between → FilesRead AsModule ys faults between new
+      → FilesRead kind (xs ++ ys) faults old new
   read-append None between new are short follow h k =
-      subst (λ (o : Option FilesTold). FilesRead false ys faults o new) h k
+      subst (λ (o : Option FilesTold). FilesRead AsModule ys faults o new) h k
   read-append (Some told) None new are short follow h k = absurd h
   read-append (Some told) (Some middle) None are short follow h k = k
   read-append (Some told) (Some middle) (Some after) are short follow h k =
       opens-append h (subst (λ (fs : List NamedFile). All IsNotLong fs) are short)
-      (subst (AreFollowed is_script) are follow) k
+      (subst (AreFollowed kind) are follow) k
 
   -- what was read is what those and these have
   pub are_files-append : (others : List NamedFile) (old between : Option FilesTold)
-      → AreFilesOf xs files old → FilesRead is_script xs faults old between
+      → AreFilesOf xs files old → FilesRead kind xs faults old between
       → AreFilesOf ys others between
       → AreFilesOf (xs ++ ys) (files ++ others) old
   are_files-append others None between h read k =
@@ -137,20 +138,20 @@ module _ (faults : ℕ) where
       subst (IsNameAsked name faults) (sym h.files)
       (asked_then old.asked name (old.content name), refl)
 
-  asked_last : (before : List (List ℕ)) (name : List ℕ) {is_script : Bool} {old new : FilesTold}
-      → OpensInOrder faults is_script (before ++ name ∷ []) old new → IsNameAsked name faults new
+  asked_last : (before : List (List ℕ)) (name : List ℕ) {kind : FileKind} {old new : FilesTold}
+      → OpensInOrder faults kind (before ++ name ∷ []) old new → IsNameAsked name faults new
   asked_last [] name (more first fits none) = asked_by_reading first
   asked_last (other ∷ before) name (more first fits rest) = asked_last before name rest
 
   -- the last name is the one last asked for
-  pub name_asked : (is_script : Bool) (before : List (List ℕ)) (name : List ℕ)
+  pub name_asked : (kind : FileKind) (before : List (List ℕ)) (name : List ℕ)
       (old new : Option FilesTold)
-      → FilesRead is_script (before ++ name ∷ []) faults old new
+      → FilesRead kind (before ++ name ∷ []) faults old new
       → IfSome new (IsNameAsked name faults)
-  name_asked is_script before name None new h =
+  name_asked kind before name None new h =
       subst (λ (o : Option FilesTold). IfSome o (IsNameAsked name faults)) (sym h) tt
-  name_asked is_script before name (Some files) None h = tt
-  name_asked is_script before name (Some files) (Some after) h = asked_last before name h
+  name_asked kind before name (Some files) None h = tt
+  name_asked kind before name (Some files) (Some after) h = asked_last before name h
 
   stray_not : {name : List ℕ} {old new : FilesTold} → OpensAndReads name faults old new
       → IsSome (old.content name) → new.strays ≡ old.strays
@@ -160,8 +161,8 @@ module _ (faults : ℕ) where
       ∙ ap (λ b. cond b old.strays (min (old.strays + 1) last_count)) there
 
   -- no file is opened that the content does not have, if it has all of these
-  same_strays : {is_script : Bool} {names : List (List ℕ)} {old new : FilesTold}
-      (left : List (List ℕ)) → OpensInOrder faults is_script names old new
+  same_strays : {kind : FileKind} {names : List (List ℕ)} {old new : FilesTold}
+      (left : List (List ℕ)) → OpensInOrder faults kind names old new
       → All (λ name. IsSome (old.content name)) (names ++ left) → new.strays ≡ old.strays
   same_strays left none there = refl
   same_strays {old = old} left (more {name = name} {names = names} first fits rest) there =
@@ -171,19 +172,19 @@ module _ (faults : ℕ) where
       (sym (content_then first)) tail)
       ∙ stray_not first (All-head (λ n. IsSome (old.content n)) name (names ++ left) there)
 
-  pub no_stray : (is_script : Bool) (names left : List (List ℕ)) (old new : Option FilesTold)
-      → FilesRead is_script names faults old new
+  pub no_stray : (kind : FileKind) (names left : List (List ℕ)) (old new : Option FilesTold)
+      → FilesRead kind names faults old new
       → (before after : FilesTold) → old ≡ Some before → new ≡ Some after
       → All (λ name. IsSome (before.content name)) (names ++ left)
       → after.strays ≡ before.strays
-  no_stray is_script names left None new h before after p q there = absurd (cc)
-  no_stray is_script names left (Some files) None h before after p q there = absurd (cc)
-  no_stray is_script names left (Some files) (Some next) h before after p q there =
+  no_stray kind names left None new h before after p q there = absurd (cc)
+  no_stray kind names left (Some files) None h before after p q there = absurd (cc)
+  no_stray kind names left (Some files) (Some next) h before after p q there =
       let same : files ≡ before = cc in
       let last : next ≡ after = cc in
       subst (λ (f : FilesTold). f.strays ≡ before.strays) last
       (same_strays left
-      (subst (λ (f : FilesTold). OpensInOrder faults is_script names f next) same h) there)
+      (subst (λ (f : FilesTold). OpensInOrder faults kind names f next) same h) there)
 
 -- the names of files that were read
 names_in : (content : List ℕ → Option (List ℕ)) (names : List (List ℕ))
@@ -251,8 +252,8 @@ not_long file short e =
     let over = ltb_true LONGEST_FILE (length (take read_limit file)) e in
     omega (arith, length-take read_limit file, over, short)
 
-long_last : {faults : ℕ} {is_script : Bool} {names : List (List ℕ)} {old new : FilesTold}
-    (long : NamedFile) → OpensInOrder faults is_script names old new
+long_last : {faults : ℕ} {kind : FileKind} {names : List (List ℕ)} {old new : FilesTold}
+    (long : NamedFile) → OpensInOrder faults kind names old new
     → first_too_long (files_in old.content names) ≡ Some long → IsLongOf long.name faults old new
 long_last long none e = absurd (cc)
 long_last {old = old} long (more {name = name} first fits none) e =
@@ -271,7 +272,7 @@ long_last {faults = faults} {old = old} {new = new} long
       | inr h ↦
           subst (λ (c : List ℕ → Option (List ℕ)). IsNameAsked long.name faults new
           × (LONGEST_FILE < length (unwrap_or (c long.name) []))) content
-          (long_last {is_script = false} {old = between} long (more second then rest)
+          (long_last {kind = AsModule} {old = between} long (more second then rest)
           (subst (λ (c : List ℕ → Option (List ℕ)).
           first_too_long (files_in c (next ∷ names)) ≡ Some long) (sym content) h.1))
     ]
@@ -281,16 +282,16 @@ pub record IsLongIn (name : List ℕ) (faults : ℕ) (old new : Option FilesTold
   pub asked : IfSome new (IsNameAsked name faults)
   pub long : IfSome old (λ files. LONGEST_FILE < length (file_named files name))
 
-pub long_read : (is_script : Bool) (names : List (List ℕ)) (files : List NamedFile) (faults : ℕ)
+pub long_read : (kind : FileKind) (names : List (List ℕ)) (files : List NamedFile) (faults : ℕ)
     (old new : Option FilesTold) (long : NamedFile) → AreFilesOf names files old
-    → FilesRead is_script names faults old new → first_too_long files ≡ Some long
+    → FilesRead kind names faults old new → first_too_long files ≡ Some long
     → IsLongIn long.name faults old new
-long_read is_script names files faults None new long are read e = record {
+long_read kind names files faults None new long are read e = record {
   asked = subst (λ (o : Option FilesTold). IfSome o (IsNameAsked long.name faults)) (sym read) tt;
   long = tt;
 }
-long_read is_script names files faults (Some told) None long are read e = absurd read
-long_read is_script names files faults (Some told) (Some after) long are read e =
+long_read kind names files faults (Some told) None long are read e = absurd read
+long_read kind names files faults (Some told) (Some after) long are read e =
     let last = long_last long read
     (subst (λ (fs : List NamedFile). first_too_long fs ≡ Some long) are e) in
     record { asked = last.0; long = last.1 }

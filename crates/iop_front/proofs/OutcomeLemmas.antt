@@ -1,5 +1,5 @@
 -- What the script's file and those of modules say of the outcome.
-use Rattle.std.proofs.Common.{◌≡◌, ℕ, nat_lt, true, false, cond, Option, Some, None, Result, Ok, Err, List, length, ap, ◌∙◌}
+use Rattle.std.proofs.Common.{◌≡◌, ℕ, nat_lt, true, false, cond, Option, Some, Result, Err, List, length, ap, ◌∙◌}
 use Rattle.iop_machine.specs.Modules.{NamedFile}
 use Rattle.iop_modload.specs.declared.limits.TheConstants.{LONGEST_FILE}
 use Rattle.iop_script.specs.Reading.{script_of}

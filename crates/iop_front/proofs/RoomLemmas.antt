@@ -1,11 +1,11 @@
 -- The modules that were read have room in the machine, each with its words of the script.
-use Rattle.std.proofs.Common.{◌≡◌, ℕ, suc, ◌+◌, ◌<◌, ◌≤◌, ◌==◌, Bool, true, false, cond, Option, Some, None, option_map, unwrap_or, List, [], ◌∷◌, ◌++◌, All, find, length, sum_by, refl, ap, arith}
+use Rattle.std.proofs.Common.{◌≡◌, ℕ, suc, ◌+◌, ◌<◌, ◌≤◌, ◌==◌, Bool, true, false, cond, Some, option_map, unwrap_or, List, [], ◌∷◌, All, find, length, sum_by, refl, arith}
 use Rattle.std.proofs.lemmas.List.{length-append}
 use Rattle.std.proofs.lemmas.List.Elements.{All-nil, All-cons, All-head, All-tail}
 use Rattle.std.proofs.lemmas.List.Sums.{sum_by-cons}
 use Rattle.iop_machine.specs.Modules.{NamedFile, HasRoom, modules_from, strings}
 use Rattle.iop_script.specs.Scripts.{Args, words_for}
-use Rattle.iop_front.specs.Modules.{IsShort}
+use Rattle.iop_front.specs.Inputs.{IsShort}
 
 -- the words that a script has for a module have room behind the module's own
 record AreShort (words : List (List ℕ)) : Type 0 where

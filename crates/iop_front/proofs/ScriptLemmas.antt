@@ -1,5 +1,5 @@
 -- From the reading of a script and of modules to that of a command's files.
-use Rattle.std.proofs.Common.{◌≡◌, ℕ, ◌≤◌, Bool, true, false, Option, Some, None, is_some, option_to_list, Ok, Err, is_ok, List}
+use Rattle.std.proofs.Common.{◌≡◌, ℕ, ◌≤◌, Option, Some, None, is_some, option_to_list, Ok, Err, is_ok, List}
 use Rattle.std.proofs.Common.{[], ◌∷◌, ◌++◌, All, length, append-nil, refl, ap, sym}
 use Rattle.std.proofs.lemmas.List.Elements.{All-nil, All-cons}
 use Rattle.iop_machine.specs.Modules.{NamedFile}
@@ -9,22 +9,21 @@ use Rattle.iop_script.specs.Reading.{empty_script, script_of}
 use Rattle.iop_script.specs.Scripts.{Script}
 use Rattle.iop_script.specs.declared.fault.ScriptFault.{ScriptFault}
 use Rattle.iop_script.specs.declared.fault.ScriptFault.TheVariants.{Line, Memory}
-use Rattle.iop_front.specs.Faults.{unread_of}
-use Rattle.iop_front.specs.Modules.{Seen, HasTaken, HasStopped, HasScript, HasInputs, IsScriptOf}
+use Rattle.iop_front.specs.Inputs.{Seen, HasTaken, HasStopped, HasScript, HasInputs, IsScriptOf, unread_of}
 use Rattle.iop_front.specs.Outcome.{IsGoodFile}
-use Rattle.iop_front.specs.Words.{Command, has_script, files_of}
+use Rattle.iop_front.specs.Words.{Command, FileKind, AsScript, AsModule, kind_by, first_kind, files_of}
 use Rattle.iop_front.specs.declared.unread.Unread.{Unread}
 use Rattle.iop_front.proofs.OpeningLemmas.{IsNotLong, AreFollowed}
 use Rattle.iop_front.proofs.TakingLemmas.{takes_none, takes-append, stops_short, stops_bad, stops_behind}
 
 module _ (name file : List ℕ) (old new : Seen) (short : length file ≤ LONGEST_FILE)
-    (taken : HasTaken true (name ∷ []) (record { name = name; file = file } ∷ []) old new) where
+    (taken : HasTaken AsScript (name ∷ []) (record { name = name; file = file } ∷ []) old new) where
   -- a file was read that is no script, or there was no memory for it
   pub stops_by_fault : (fault : ScriptFault) → Gives (Err fault) (script_of file)
-      → HasStopped true (name ∷ []) (unread_of fault) old new
+      → HasStopped AsScript (name ∷ []) (unread_of fault) old new
   stops_by_fault (Line number) bad = stops_bad name file number old new short bad taken
   stops_by_fault Memory h =
-      stops_short true (name ∷ []) (name ∷ []) [] (record { name = name; file = file } ∷ []) old new
+      stops_short AsScript (name ∷ []) (name ∷ []) [] (record { name = name; file = file } ∷ []) old new
       refl taken
 
   -- a script was read
@@ -32,7 +31,7 @@ module _ (name file : List ℕ) (old new : Seen) (short : length file ≤ LONGES
       → HasScript (Some name) script old new
   script_read script is = record {
     file = Some (record { name = name; file = file });
-    is_script = refl;
+    has_file = refl;
     taken = taken;
     says = (short, is);
   }
@@ -41,7 +40,7 @@ module _ (name file : List ℕ) (old new : Seen) (short : length file ≤ LONGES
 pub no_script : (script : Script) (seen : Seen) → script ≡ empty_script
     → HasScript None script seen seen
 no_script script seen e =
-    record { file = None; is_script = refl; taken = takes_none false seen; says = e }
+    record { file = None; has_file = refl; taken = takes_none AsModule seen; says = e }
 
 -- the file of a script is not too long
 script_short : (file : Option NamedFile) (script : Script) → IsScriptOf file script
@@ -50,41 +49,42 @@ script_short None script h = All-nil IsNotLong
 script_short (Some file) script h = All-cons IsNotLong file [] h.0 (All-nil IsNotLong)
 
 -- the file of a script is good
-script_good : (is_script : Bool) (file : List ℕ) (script : Script) → script_of file ≡ Ok script
-    → IsGoodFile is_script file
-script_good true file script e = ap is_ok e
-script_good false file script e = tt
+script_good : (kind : FileKind) (file : List ℕ) (script : Script) → script_of file ≡ Ok script
+    → IsGoodFile kind file
+script_good AsScript file script e = ap is_ok e
+script_good AsModule file script e = tt
 
 -- so the modules' may be read behind it
-script_followed : (is_script : Bool) (file : Option NamedFile) (script : Script)
-    → is_some file ≡ is_script → IsScriptOf file script
-    → AreFollowed is_script (option_to_list file)
-script_followed is_script None script e h = sym e
-script_followed is_script (Some file) script e h = script_good is_script file.file script h.1
+script_followed : (name : Option (List ℕ)) (file : Option NamedFile) (script : Script)
+    → is_some file ≡ is_some name → IsScriptOf file script
+    → AreFollowed (kind_by name) (option_to_list file)
+script_followed None None script e h = refl
+script_followed (Some name) None script e h = absurd (cc)
+script_followed name (Some file) script e h = script_good (kind_by name) file.file script h.1
 
 -- behind the script of a command
 module _ (command : Command) (script : Script) (old between new : Seen)
     (h : HasScript command.script script old between) where
   -- its modules were read
   pub inputs_read : (modules : List NamedFile)
-      → HasTaken false command.modules modules between new
+      → HasTaken AsModule command.modules modules between new
       → HasInputs command script modules old new
   inputs_read modules k = record {
     file = h.file;
-    is_script = h.is_script;
-    taken = takes-append (has_script command) (option_to_list command.script) command.modules
+    has_file = h.has_file;
+    taken = takes-append (first_kind command) (option_to_list command.script) command.modules
         (option_to_list h.file) modules old between new (script_short h.file script h.says)
-        (script_followed (has_script command) h.file script h.is_script h.says) h.taken k;
+        (script_followed command.script h.file script h.has_file h.says) h.taken k;
     says = h.says;
   }
 
   -- or one was not
-  pub stops_behind_script : (unread : Unread) → HasStopped false command.modules unread between new
-      → HasStopped (has_script command) (files_of command) unread old new
+  pub stops_behind_script : (unread : Unread) → HasStopped AsModule command.modules unread between new
+      → HasStopped (first_kind command) (files_of command) unread old new
   stops_behind_script unread k =
       let script_names = option_to_list command.script in
-      stops_behind (has_script command) (files_of command) script_names command.modules []
+      stops_behind (first_kind command) (files_of command) script_names command.modules []
       (option_to_list h.file) old between new
       (ap (λ t. script_names ++ t) (sym (append-nil command.modules))) h.taken
       (script_short h.file script h.says)
-      (script_followed (has_script command) h.file script h.is_script h.says) unread k
+      (script_followed command.script h.file script h.has_file h.says) unread k

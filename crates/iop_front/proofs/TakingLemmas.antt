@@ -1,5 +1,5 @@
 -- From the reading of one file to that of many.
-use Rattle.std.proofs.Common.{◌≡◌, ℕ, suc, ◌+◌, ◌<◌, ◌≤◌, nat_lt, Bool, true, false, cond, Option, Some, None, Ok, Err, List}
+use Rattle.std.proofs.Common.{◌≡◌, ℕ, suc, ◌+◌, ◌<◌, ◌≤◌, nat_lt, true, cond, Option, Some, None, Ok, Err, List}
 use Rattle.std.proofs.Common.{[], ◌∷◌, ◌++◌, All, get_or, length, map, take, drop, refl, ap, sym, ◌∙◌, subst}
 use Rattle.std.proofs.Common.{arith}
 use Rattle.std.specs.Option.{option_or}
@@ -16,9 +16,10 @@ use Rattle.iop_ports.specs.Files.{FilesTold}
 use Rattle.iop_ports.specs.declared.ports.Failed.{Failed}
 use Rattle.iop_script.specs.Reading.{script_of}
 use Rattle.iop_front.specs.Answers.{FilesRead, AreFilesOf}
-use Rattle.iop_front.specs.Modules.{Seen, GoesOn, HasTaken, HasStopped, HasStoppedUnread, HasStoppedTooLong, HasStoppedBad, IsShort}
+use Rattle.iop_front.specs.Inputs.{Seen, GoesOn, HasTaken, HasStopped, HasStoppedUnread, HasStoppedTooLong, HasStoppedBad, IsShort}
 use Rattle.iop_front.specs.Outcome.{IsGoodFile, OpensAndReads, none, more, read_limit, first_too_long}
 use Rattle.iop_front.specs.Reading.{HasRead, file_named, opened_with, left_after}
+use Rattle.iop_front.specs.Words.{FileKind, AsScript, AsModule}
 use Rattle.iop_front.specs.declared.unread.Unread.{Unread}
 use Rattle.iop_front.specs.declared.unread.Unread.TheVariants.{Unreadable, TooLong, BadScript, NoMemory}
 use Rattle.iop_front.proofs.OpeningLemmas.{IsNotLong, AreFollowed, read_none, read-append, are_files-append}
@@ -34,31 +35,31 @@ none_too_long files h =
     (λ k d within. let short = h k d within in grind (arith, nat_tests, short))
 
 -- a good file may be the first of any
-first_goes_on : (is_script : Bool) (first : NamedFile) (files : List NamedFile)
-    → IsGoodFile is_script first.file → GoesOn is_script (first ∷ files)
-first_goes_on is_script first [] h = tt
-first_goes_on is_script first (next ∷ files) h = h
+first_goes_on : (kind : FileKind) (first : NamedFile) (files : List NamedFile)
+    → IsGoodFile kind first.file → GoesOn kind (first ∷ files)
+first_goes_on kind first [] h = tt
+first_goes_on kind first (next ∷ files) h = h
 
 -- and so may these be before the modules'
-goes_on-append : (is_script : Bool) (files others : List NamedFile) → AreFollowed is_script files
-    → GoesOn false others → GoesOn is_script (files ++ others)
-goes_on-append is_script [] others e h = subst (λ b. GoesOn b others) (sym e) h
-goes_on-append is_script (first ∷ files) others good h =
-    first_goes_on is_script first (files ++ others) good
+goes_on-append : (kind : FileKind) (files others : List NamedFile) → AreFollowed kind files
+    → GoesOn AsModule others → GoesOn kind (files ++ others)
+goes_on-append kind [] others e h = subst (λ kind. GoesOn kind others) (sym e) h
+goes_on-append kind (first ∷ files) others good h =
+    first_goes_on kind first (files ++ others) good
 
 -- modules were read behind these files
-pub takes-append : (is_script : Bool) (xs ys : List (List ℕ)) (files others : List NamedFile)
-    (old between new : Seen) → All IsNotLong files → AreFollowed is_script files
-    → HasTaken is_script xs files old between → HasTaken false ys others between new
-    → HasTaken is_script (xs ++ ys) (files ++ others) old new
-takes-append is_script xs ys files others old between new short follow h k = record {
+pub takes-append : (kind : FileKind) (xs ys : List (List ℕ)) (files others : List NamedFile)
+    (old between new : Seen) → All IsNotLong files → AreFollowed kind files
+    → HasTaken kind xs files old between → HasTaken AsModule ys others between new
+    → HasTaken kind (xs ++ ys) (files ++ others) old new
+takes-append kind xs ys files others old between new short follow h k = record {
   are_files =
-      are_files-append is_script xs ys files old.faults others old.told between.told h.are_files
+      are_files-append kind xs ys files old.faults others old.told between.told h.are_files
       h.read k.are_files;
-  goes_on = goes_on-append is_script files others follow k.goes_on;
-  read = read-append is_script xs ys files old.faults old.told between.told new.told h.are_files
+  goes_on = goes_on-append kind files others follow k.goes_on;
+  read = read-append kind xs ys files old.faults old.told between.told new.told h.are_files
       short follow h.read
-      (subst (λ n. FilesRead false ys n between.told new.told) h.no_fault k.read);
+      (subst (λ n. FilesRead AsModule ys n between.told new.told) h.no_fault k.read);
   no_fault = k.no_fault ∙ h.no_fault;
 }
 
@@ -66,19 +67,19 @@ no_files : (told : Option FilesTold) → AreFilesOf [] [] told
 no_files None = refl
 no_files (Some files) = refl
 
-pub takes_none : (is_script : Bool) (seen : Seen) → HasTaken is_script [] [] seen seen
-takes_none is_script seen = record {
+pub takes_none : (kind : FileKind) (seen : Seen) → HasTaken kind [] [] seen seen
+takes_none kind seen = record {
   are_files = no_files seen.told;
   goes_on = tt;
-  read = read_none is_script seen.faults seen.told;
+  read = read_none kind seen.faults seen.told;
   no_fault = refl;
 }
 
 -- there is no memory for the modules behind those that were read
-pub stops_short : (is_script : Bool) (names xs left : List (List ℕ)) (files : List NamedFile)
-    (old new : Seen) → names ≡ xs ++ left → HasTaken is_script xs files old new
-    → HasStopped is_script names NoMemory old new
-stops_short is_script names xs left files old new e h = record {
+pub stops_short : (kind : FileKind) (names xs left : List (List ℕ)) (files : List NamedFile)
+    (old new : Seen) → names ≡ xs ++ left → HasTaken kind xs files old new
+    → HasStopped kind names NoMemory old new
+stops_short kind names xs left files old new e h = record {
   opened = xs;
   left = left;
   are_names = e;
@@ -92,28 +93,28 @@ within : (xs opened left zs : List (List ℕ))
 within xs opened left zs =
     ap (λ t. xs ++ t) (append_assoc opened left zs) ∙ sym (append_assoc xs opened (left ++ zs))
 
-module _ (is_script : Bool) (names xs ys zs : List (List ℕ)) (files : List NamedFile)
+module _ (kind : FileKind) (names xs ys zs : List (List ℕ)) (files : List NamedFile)
     (old between new : Seen) (e : names ≡ xs ++ (ys ++ zs))
-    (taken : HasTaken is_script xs files old between) (short : All IsNotLong files)
-    (follow : AreFollowed is_script files) where
+    (taken : HasTaken kind xs files old between) (short : All IsNotLong files)
+    (follow : AreFollowed kind files) where
   are_names : (opened left : List (List ℕ)) → ys ≡ opened ++ left
       → names ≡ xs ++ opened ++ (left ++ zs)
   are_names opened left s = e ∙ ap (λ t. xs ++ (t ++ zs)) s ∙ within xs opened left zs
 
-  read_then : (opened : List (List ℕ)) → FilesRead false opened between.faults between.told new.told
-      → FilesRead is_script (xs ++ opened) old.faults old.told new.told
+  read_then : (opened : List (List ℕ)) → FilesRead AsModule opened between.faults between.told new.told
+      → FilesRead kind (xs ++ opened) old.faults old.told new.told
   read_then opened h =
-      read-append is_script xs opened files old.faults old.told between.told new.told
+      read-append kind xs opened files old.faults old.told between.told new.told
       taken.are_files short follow taken.read
-      (subst (λ n. FilesRead false opened n between.told new.told) taken.no_fault h)
+      (subst (λ n. FilesRead AsModule opened n between.told new.told) taken.no_fault h)
 
-  pub stops_behind : (unread : Unread) → HasStopped false ys unread between new
-      → HasStopped is_script names unread old new
+  pub stops_behind : (unread : Unread) → HasStopped AsModule ys unread between new
+      → HasStopped kind names unread old new
   stops_behind (Unreadable word) h = record {
     before = xs ++ h.before;
     left = h.left ++ zs;
     are_names = are_names h.before (word.now ∷ h.left) h.are_names;
-    read = subst (λ opened. FilesRead is_script opened old.faults old.told new.told)
+    read = subst (λ opened. FilesRead kind opened old.faults old.told new.told)
         (sym (append_assoc xs h.before (word.now ∷ [])))
         (read_then (h.before ++ word.now ∷ []) h.read);
     cause = subst (λ n. HasCause n new.faults) taken.no_fault h.cause;
@@ -124,13 +125,13 @@ module _ (is_script : Bool) (names xs ys zs : List (List ℕ)) (files : List Nam
     are_names = are_names h.opened h.left h.are_names;
     files = files ++ h.files;
     file = h.file;
-    taken = takes-append is_script xs h.opened files h.files old between new short follow taken
+    taken = takes-append kind xs h.opened files h.files old between new short follow taken
         h.taken;
     decides =
         find-append (λ (named : NamedFile). nat_lt LONGEST_FILE (length named.file)) files h.files
         ∙ ap (λ o. option_or o (first_too_long h.files)) (none_too_long files short) ∙ h.decides;
   }
-  stops_behind (BadScript number) h = let never = h.is_one in absurd (cc)
+  stops_behind (BadScript number) h = let never = h.as_script in absurd (cc)
   stops_behind NoMemory h = record {
     opened = xs ++ h.opened;
     left = h.left ++ zs;
@@ -140,13 +141,13 @@ module _ (is_script : Bool) (names xs ys zs : List (List ℕ)) (files : List Nam
   }
 
 -- what is not read before others is not read where they are named too
-module _ (is_script : Bool) (names more : List (List ℕ)) (old new : Seen) where
+module _ (kind : FileKind) (names more : List (List ℕ)) (old new : Seen) where
   are_more : (opened left : List (List ℕ)) → names ≡ opened ++ left
       → names ++ more ≡ opened ++ (left ++ more)
   are_more opened left e = ap (λ t. t ++ more) e ∙ append_assoc opened left more
 
-  pub stops_before : (unread : Unread) → HasStopped is_script names unread old new
-      → HasStopped is_script (names ++ more) unread old new
+  pub stops_before : (unread : Unread) → HasStopped kind names unread old new
+      → HasStopped kind (names ++ more) unread old new
   stops_before (Unreadable word) h = record {
     before = h.before;
     left = h.left ++ more;
@@ -164,7 +165,7 @@ module _ (is_script : Bool) (names more : List (List ℕ)) (old new : Seen) wher
     decides = h.decides;
   }
   stops_before (BadScript number) h = record {
-    is_one = h.is_one;
+    as_script = h.as_script;
     file = h.file;
     left = h.left ++ more;
     are_names = ap (λ t. t ++ more) h.are_names;
@@ -181,12 +182,12 @@ module _ (is_script : Bool) (names more : List (List ℕ)) (old new : Seen) wher
   }
 
 -- one file was opened, and read as far as there was room
-module _ (is_script : Bool) (name : List ℕ) (room faults : ℕ) (limit : room ≡ read_limit) where
+module _ (kind : FileKind) (name : List ℕ) (room faults : ℕ) (limit : room ≡ read_limit) where
   opened_alone : (files after : FilesTold) (new : Option FilesTold)
       → OpensAndReads name faults files after → new ≡ Some after
-      → FilesRead is_script (name ∷ []) faults (Some files) new
+      → FilesRead kind (name ∷ []) faults (Some files) new
   opened_alone files after new h e =
-      subst (FilesRead is_script (name ∷ []) faults (Some files)) (sym e) (more h tt none)
+      subst (FilesRead kind (name ∷ []) faults (Some files)) (sym e) (more h tt none)
 
   is_file : (len : ℕ) (bytes : List ℕ) (old new : Option FilesTold)
       → HasRead name room faults (Ok len) bytes old new
@@ -198,7 +199,7 @@ module _ (is_script : Bool) (name : List ℕ) (room faults : ℕ) (limit : room 
 
   file_read : (len : ℕ) (bytes : List ℕ) (old new : Option FilesTold)
       → HasRead name room faults (Ok len) bytes old new
-      → FilesRead is_script (name ∷ []) faults old new
+      → FilesRead kind (name ∷ []) faults old new
   file_read len bytes None new h = h
   file_read len bytes (Some files) new h =
       opened_alone files
@@ -207,7 +208,7 @@ module _ (is_script : Bool) (name : List ℕ) (room faults : ℕ) (limit : room 
 
   file_unread : (failed : Failed) (bytes : List ℕ) (old new : Option FilesTold)
       → HasRead name room faults (Err failed) bytes old new
-      → FilesRead is_script (name ∷ []) faults old new
+      → FilesRead kind (name ∷ []) faults old new
   file_unread failed bytes None new h = h
   file_unread failed bytes (Some files) new h =
       opened_alone files
@@ -220,36 +221,36 @@ module _ (is_script : Bool) (name : List ℕ) (room faults : ℕ) (limit : room 
       }) h.3
 
 -- it was read whole, as far as there was room
-pub takes_one : (is_script : Bool) (name bytes : List ℕ) (room len : ℕ) (old new : Seen)
+pub takes_one : (kind : FileKind) (name bytes : List ℕ) (room len : ℕ) (old new : Seen)
     → room ≡ read_limit
     → HasRead name room old.faults (Ok len) bytes old.told new.told → new.faults ≡ old.faults
-    → HasTaken is_script (name ∷ []) (record { name = name; file = take len bytes } ∷ []) old new
-takes_one is_script name bytes room len old new limit h same = record {
-  are_files = is_file is_script name room old.faults limit len bytes old.told new.told h;
+    → HasTaken kind (name ∷ []) (record { name = name; file = take len bytes } ∷ []) old new
+takes_one kind name bytes room len old new limit h same = record {
+  are_files = is_file kind name room old.faults limit len bytes old.told new.told h;
   goes_on = tt;
-  read = file_read is_script name room old.faults limit len bytes old.told new.told h;
+  read = file_read kind name room old.faults limit len bytes old.told new.told h;
   no_fault = same;
 }
 
 -- it could not be read
-pub stops_unread : (is_script : Bool) (name bytes : List ℕ) (room : ℕ) (failed : Failed)
+pub stops_unread : (kind : FileKind) (name bytes : List ℕ) (room : ℕ) (failed : Failed)
     (old new : Seen) → room ≡ read_limit
     → HasRead name room old.faults (Err failed) bytes old.told new.told
-    → HasCause old.faults new.faults → HasStoppedUnread is_script (name ∷ []) name old new
-stops_unread is_script name bytes room failed old new limit h cause = record {
+    → HasCause old.faults new.faults → HasStoppedUnread kind (name ∷ []) name old new
+stops_unread kind name bytes room failed old new limit h cause = record {
   before = [];
   left = [];
   are_names = refl;
-  read = file_unread is_script name room old.faults limit failed bytes old.told new.told h;
+  read = file_unread kind name room old.faults limit failed bytes old.told new.told h;
   cause = cause;
 }
 
 -- it is too long
-pub stops_too_long : (is_script : Bool) (name file : List ℕ) (old new : Seen)
+pub stops_too_long : (kind : FileKind) (name file : List ℕ) (old new : Seen)
     → LONGEST_FILE < length file
-    → HasTaken is_script (name ∷ []) (record { name = name; file = file } ∷ []) old new
-    → HasStoppedTooLong is_script (name ∷ []) name old new
-stops_too_long is_script name file old new long h = record {
+    → HasTaken kind (name ∷ []) (record { name = name; file = file } ∷ []) old new
+    → HasStoppedTooLong kind (name ∷ []) name old new
+stops_too_long kind name file old new long h = record {
   opened = name ∷ [];
   left = [];
   are_names = refl;
@@ -264,10 +265,10 @@ stops_too_long is_script name file old new long h = record {
 -- a script has a bad line
 pub stops_bad : (name file : List ℕ) (number : ℕ) (old new : Seen) → length file ≤ LONGEST_FILE
     → script_of file ≡ Err number
-    → HasTaken true (name ∷ []) (record { name = name; file = file } ∷ []) old new
-    → HasStoppedBad true (name ∷ []) number old new
+    → HasTaken AsScript (name ∷ []) (record { name = name; file = file } ∷ []) old new
+    → HasStoppedBad AsScript (name ∷ []) number old new
 stops_bad name file number old new short bad h = record {
-  is_one = refl;
+  as_script = refl;
   file = record { name = name; file = file };
   left = [];
   are_names = refl;

@@ -1,5 +1,5 @@
 -- How the command comes to each of its answers.
-use Rattle.std.specs.Prelude.{◌≡◌, ◌⊎◌, ℕ, ◌<◌, Bool, true, Option, Some, None, is_some, option_to_list, IsSome, IfSome, Err, is_err, List, [], ◌∷◌, ◌++◌, All, Contains, length, map, take}
+use Rattle.std.specs.Prelude.{◌≡◌, ◌⊎◌, ℕ, ◌<◌, true, Option, Some, None, is_some, option_to_list, IsSome, IfSome, Err, is_err, List, [], ◌∷◌, ◌++◌, All, Contains, length, map, take}
 use Rattle.iop_base.specs.Counts.{HasCause}
 use Rattle.iop_base.specs.Output.{Output}
 use Rattle.iop_machine.specs.Modules.{NamedFile}
@@ -13,7 +13,7 @@ use Rattle.iop_front.specs.declared.status.Status.TheVariants.{BadWords, CannotR
 use Rattle.iop_front.specs.Outcome.{Meets, OpensInOrder, Refuses, outcome_of_inputs, script_by, first_too_long, bad_words_line}
 use Rattle.iop_front.specs.Outcome.{bad_script_line, cannot_read_line, too_long_line, read_limit}
 use Rattle.iop_front.specs.Reading.{file_named}
-use Rattle.iop_front.specs.Words.{Command, has_script, files_of}
+use Rattle.iop_front.specs.Words.{Command, FileKind, AsScript, first_kind, files_of}
 
 -- what can be seen outside: what the files tell, how often they have failed, and the two sinks
 pub record Outside : Type 0 where
@@ -31,14 +31,14 @@ module _ {F C T : Type 0} where
     sinks = sinks console_told trace_told console trace;
   }
 
--- where the files tell, these, of which the first is a script's or not, were opened and read in
--- order, as far as said
-abbrev pub FilesRead : (is_script : Bool) → List (List ℕ) → ℕ → Option FilesTold → Option FilesTold
+-- where the files tell, these were opened and read in order, the first as one of this kind and the
+-- others as modules, as far as said
+abbrev pub FilesRead : (kind : FileKind) → List (List ℕ) → ℕ → Option FilesTold → Option FilesTold
     → Type 0
-FilesRead is_script names faults None new = new ≡ None
-FilesRead is_script names faults (Some files) None = ⊥
-FilesRead is_script names faults (Some files) (Some after) =
-    OpensInOrder faults is_script names files after
+FilesRead kind names faults None new = new ≡ None
+FilesRead kind names faults (Some files) None = ⊥
+FilesRead kind names faults (Some files) (Some after) =
+    OpensInOrder faults kind names files after
 
 -- the content has all files that a command reads, if the words are one
 abbrev pub HasFilesNamed : Option Command → FilesTold → Type 0
@@ -58,16 +58,16 @@ AreFilesOf names files (Some told) =
     files
     ≡ map (λ name. record { name = name; file = take read_limit (file_named told name) }) names
 
-pub record HasReadFiles (is_script : Bool) (names : List (List ℕ)) (files : List NamedFile)
+pub record HasReadFiles (kind : FileKind) (names : List (List ℕ)) (files : List NamedFile)
     (old new : Outside) : Type 0 where
   pub are_files : AreFilesOf names files old.told
-  pub read : FilesRead is_script names old.faults old.told new.told
+  pub read : FilesRead kind names old.faults old.told new.told
   pub no_fault : new.faults ≡ old.faults
 
 -- after others a file could not be read: a call of the files failed
-pub record HasNotReadFile (is_script : Bool) (before : List (List ℕ)) (name : List ℕ)
+pub record HasNotReadFile (kind : FileKind) (before : List (List ℕ)) (name : List ℕ)
     (old new : Outside) : Type 0 where
-  pub files : FilesRead is_script (before ++ name ∷ []) old.faults old.told new.told
+  pub files : FilesRead kind (before ++ name ∷ []) old.faults old.told new.told
   pub cause : HasCause old.faults new.faults
   pub line : Refuses (cannot_read_line name) old.sinks new.sinks
 
@@ -81,8 +81,8 @@ pub record HasNoCommand (old new : Outside) : Type 0 where
 pub record HasReadInputs (command : Command) (names left : List (List ℕ))
     (script : Option NamedFile) (files : List NamedFile) (old new : Outside) : Type 0 where
   pub are_names : files_of command ≡ names ++ left
-  pub is_script : is_some script ≡ is_some command.script
-  pub read : HasReadFiles (has_script command) names (option_to_list script ++ files) old new
+  pub has_script : is_some script ≡ is_some command.script
+  pub read : HasReadFiles (first_kind command) names (option_to_list script ++ files) old new
 
 -- reading ended here: no name is left, the script is refused, or the last file is too long
 abbrev pub EndsReading : Option NamedFile → List NamedFile → List (List ℕ) → Type 0
@@ -94,11 +94,11 @@ pub data Answers : Option Command → Status → Outside → Outside → Type 0 
   bad_words : {old new : Outside} → HasNoCommand old new → Answers None BadWords old new
   cannot_read : {old new : Outside} {command : Command} (before : List (List ℕ)) (name : List ℕ)
       (left : List (List ℕ)) → files_of command ≡ before ++ name ∷ left
-      → HasNotReadFile (has_script command) before name old new
+      → HasNotReadFile (first_kind command) before name old new
       → Answers (Some command) CannotRead old new
   no_memory : {old new : Outside} {command : Command} (names left : List (List ℕ))
       → files_of command ≡ names ++ left
-      → FilesRead (has_script command) names old.faults old.told new.told
+      → FilesRead (first_kind command) names old.faults old.told new.told
       → new.faults ≡ old.faults → new.sinks ≡ old.sinks → Answers (Some command) NoMemory old new
   from_files : {status : Status} {old new : Outside} {command : Command}
       (names left : List (List ℕ)) (script : Option NamedFile) (files : List NamedFile)
@@ -114,7 +114,7 @@ pub record HasBadScript (command : Command) (faults : ℕ) (before after : Optio
   pub named : command.script ≡ Some name
   pub number : ℕ
   pub line : Refuses (bad_script_line number) old new
-  pub read : FilesRead true (name ∷ []) faults before after
+  pub read : FilesRead AsScript (name ∷ []) faults before after
   pub asked : IfSome after (IsNameAsked name faults)
   pub bad : IfSome before (λ files. script_of (file_named files name) ≡ Err number)
 
@@ -142,4 +142,4 @@ pub record OpensFirst (command : Command) (faults : ℕ) (old new : Option Files
   pub opened : List (List ℕ)
   pub left : List (List ℕ)
   pub are_first : files_of command ≡ opened ++ left
-  pub files : FilesRead (has_script command) opened faults old new
+  pub files : FilesRead (first_kind command) opened faults old new

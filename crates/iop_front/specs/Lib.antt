@@ -1,7 +1,5 @@
 pub mod Answers
-pub mod Commands
-pub mod Faults
-pub mod Modules
+pub mod Inputs
 pub mod Outcome
 pub mod Reading
 pub mod Statuses

@@ -1,6 +1,6 @@
 -- What a command is to write and to answer, by its words and the contents of the files: this
 -- project's profile.
-use Rattle.std.specs.Prelude.{◌≡◌, ◌⊎◌, ℕ, ◌+◌, ◌≤◌, nat_lt, Bool, true, false, if◌then◌else◌, Option, Some, None, option_map, Result, Ok, Err, is_ok, List, [], ◌∷◌}
+use Rattle.std.specs.Prelude.{◌≡◌, ◌⊎◌, ℕ, ◌+◌, ◌≤◌, nat_lt, Bool, true, if◌then◌else◌, Option, Some, None, option_map, Result, Ok, Err, is_ok, List, [], ◌∷◌}
 use Rattle.std.specs.Prelude.{◌++◌, codes, decimal, find, length, map}
 use Rattle.iop_base.specs.Piece.{Piece, Traced}
 use Rattle.iop_base.specs.Output.{Output}
@@ -17,7 +17,7 @@ use Rattle.iop_trace.specs.Outs.{Leaves}
 use Rattle.iop_front.specs.declared.limits.TheConstants.{BUDGET, MEMORY_SIZE}
 use Rattle.iop_front.specs.declared.status.Status.{Status}
 use Rattle.iop_front.specs.declared.status.Status.TheVariants.{BadWords, BadScript, TooLong, SinkFault, NoMemory}
-use Rattle.iop_front.specs.Words.{Command, command_of}
+use Rattle.iop_front.specs.Words.{Command, FileKind, AsScript, AsModule, command_of}
 use Rattle.iop_front.specs.Reading.{file_named, opened_with, left_after}
 use Rattle.iop_front.specs.Statuses.{status_code, status_of}
 
@@ -144,21 +144,22 @@ pub record OpensAndReads (name : List ℕ) (faults : ℕ) (old new : FilesTold) 
   pub within : taken ≤ read_limit
   pub files : new ≡ opened_with name opens faults (left_after name opens taken old) old
 
--- a file that is a script's has no bad line
-abbrev pub IsGoodFile : (is_script : Bool) → (file : List ℕ) → Type 0
-IsGoodFile true file = is_ok (script_of file) ≡ true
-IsGoodFile false file = Unit {0}
+-- a script has no bad line
+abbrev pub IsGoodFile : (kind : FileKind) → (file : List ℕ) → Type 0
+IsGoodFile AsScript file = is_ok (script_of file) ≡ true
+IsGoodFile AsModule file = Unit {0}
 
 -- another file may be opened behind this one only where it is not too long, and good
-abbrev pub MayGoOn : (is_script : Bool) → (file : List ℕ) → List (List ℕ) → Type 0
-MayGoOn is_script file [] = Unit {0}
-MayGoOn is_script file (next ∷ names) = (length file ≤ LONGEST_FILE) × IsGoodFile is_script file
+abbrev pub MayGoOn : (kind : FileKind) → (file : List ℕ) → List (List ℕ) → Type 0
+MayGoOn kind file [] = Unit {0}
+MayGoOn kind file (next ∷ names) = (length file ≤ LONGEST_FILE) × IsGoodFile kind file
 
--- so were these, one after the other, of which the first is a script's or not: none behind one that
--- is too long or a bad script; before each opening so many faults stood
-pub data OpensInOrder (faults : ℕ) : Bool → List (List ℕ) → FilesTold → FilesTold → Type 0 where
-  none : {is_script : Bool} {files : FilesTold} → OpensInOrder faults is_script [] files files
-  more : {is_script : Bool} {name : List ℕ} {names : List (List ℕ)} {old between new : FilesTold}
-      → OpensAndReads name faults old between → MayGoOn is_script (file_named old name) names
-      → OpensInOrder faults false names between new
-      → OpensInOrder faults is_script (name ∷ names) old new
+-- so were these, one after the other, the first as one of this kind and the others as modules: none
+-- behind one that is too long or a bad script; before each opening so many faults stood
+pub data OpensInOrder (faults : ℕ)
+    : (kind : FileKind) → List (List ℕ) → FilesTold → FilesTold → Type 0 where
+  none : {kind : FileKind} {files : FilesTold} → OpensInOrder faults kind [] files files
+  more : {kind : FileKind} {name : List ℕ} {names : List (List ℕ)} {old between new : FilesTold}
+      → OpensAndReads name faults old between → MayGoOn kind (file_named old name) names
+      → OpensInOrder faults AsModule names between new
+      → OpensInOrder faults kind (name ∷ names) old new

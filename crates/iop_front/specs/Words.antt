@@ -1,7 +1,7 @@
 -- The command's words, as they are until the options come: `--script` and the name of a script's
 -- file may stand first, and then 1 to 64 words, each of which names a module's file. This is this
 -- project's profile.
-use Rattle.std.specs.Prelude.{ℕ, ◌==◌, nat_le, Bool, not, ◌&&◌, ◌||◌, if◌then◌else◌, Option, Some, None, option_map, option_to_list, is_some, codes, List, ◌∷◌, ◌++◌, length, slice_index}
+use Rattle.std.specs.Prelude.{ℕ, ◌==◌, nat_le, Bool, not, ◌&&◌, ◌||◌, if◌then◌else◌, Option, Some, None, option_map, option_to_list, codes, List, ◌∷◌, ◌++◌, length, slice_index}
 use Rattle.std.specs.List.{list_all}
 use Rattle.std.specs.Str.{bytes_eq}
 use Rattle.iop_front.specs.declared.limits.TheConstants.{LONGEST_WORD}
@@ -47,10 +47,20 @@ command_of (option ∷ name ∷ behind) =
     behind
 command_of words = command_with None words
 
--- whether a command reads a script
-abbrev pub has_script : Command → Bool
-has_script command = is_some command.script
-
 -- the files that a command reads, in order
 abbrev pub files_of : Command → List (List ℕ)
 files_of command = option_to_list command.script ++ command.modules
+
+-- what a file is read as
+pub data FileKind : Type 0 where
+  AsScript : FileKind
+  AsModule : FileKind
+
+-- what the first file is read as: a script, if one is named
+abbrev pub kind_by : (script : Option (List ℕ)) → FileKind
+kind_by None = AsModule
+kind_by (Some name) = AsScript
+
+-- and what a command's is; all others are read as modules
+abbrev pub first_kind : Command → FileKind
+first_kind command = kind_by command.script

@@ -5,15 +5,14 @@ ghost use Rattle.iop_machine.specs.declared.module.TheConstants.{MOST_MODULES};
 ghost use Rattle.iop_trace.specs.Outs.{sinks};
 ghost use Rattle.iop_front.specs.Answers.{outside, Answers};
 ghost use Rattle.iop_script.specs.Laws.{CanRun};
-ghost use Rattle.iop_front.specs.Commands.{command_held};
 ghost use Rattle.iop_front.specs.Words.{command_of};
-ghost use Rattle.iop_front.specs.Modules.{IsShort};
+ghost use Rattle.iop_front.specs.Inputs.{command_held, IsShort};
 ghost use Rattle.iop_front.specs.Outcome.{Meets, outcome_of_modules};
 
 use crate::command_words::CommandWords;
 use crate::inputs::{Inputs, read_inputs};
 use crate::limits::MEMORY_SIZE;
-use crate::refusing::{bad_script, refuse, refuse_too_long, refuse_unread};
+use crate::refusing::{refuse, refuse_bad_script, refuse_too_long, refuse_unread};
 use crate::running::run_to_end;
 use crate::status::Status;
 use crate::unread::Unread;
@@ -58,7 +57,7 @@ fn answer_command<F: Files, C: Sink, T: Sink>(
         Ok(inputs) => run_modules(alloc, inputs, console, trace),
         Err(Unread::Unreadable(name)) => refuse_unread(name, trace),
         Err(Unread::TooLong(name)) => refuse_too_long(name, trace),
-        Err(Unread::BadScript(number)) => refuse(Status::BadScript, &bad_script(number), trace),
+        Err(Unread::BadScript(number)) => refuse_bad_script(number, trace),
         Err(Unread::NoMemory) => Status::NoMemory,
     }
 }

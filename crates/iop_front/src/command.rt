@@ -3,7 +3,7 @@ ghost use Rattle.iop_base.specs.Counts.{HasCause};
 ghost use Rattle.iop_ports.specs.Files.{FilesTold};
 ghost use Rattle.iop_trace.specs.Outs.{sinks};
 ghost use Rattle.iop_front.specs.Answers.{FilesRead, OpensFirst, HasFilesNamed, HasBadScript, IsUnread, IsTooLong};
-ghost use Rattle.iop_front.specs.Words.{Command, command_of, has_script, files_of};
+ghost use Rattle.iop_front.specs.Words.{Command, command_of, first_kind, files_of};
 ghost use Rattle.iop_front.specs.Outcome.{Refuses, MeetsCode, bad_words_line, outcome_of};
 ghost use Rattle.iop_front.specs.Statuses.{IsRunCode, IsRefusalCode, IsExitCode, IsCutCode};
 
@@ -66,7 +66,7 @@ pub fn iop_main<F: Files, C: Sink, T: Sink>(
         → OpensFirst command (F.faults files.old) (F.told files.old) (F.told files.new) }
     ensures read_all { (command : Command)
         → command_of (map string_bytes words.now) ≡ Some command → IsRunCode result
-        → FilesRead (has_script command) (files_of command)
+        → FilesRead (first_kind command) (files_of command)
         (F.faults files.old) (F.told files.old) (F.told files.new) }
     ensures no_stray { (before after : FilesTold)
         → F.told files.old ≡ Some before → F.told files.new ≡ Some after

@@ -1,5 +1,5 @@
 ghost use Rattle.std.specs.Prelude.{◌≡◌, map, string_bytes, option_map};
-ghost use Rattle.iop_front.specs.Commands.{command_held};
+ghost use Rattle.iop_front.specs.Inputs.{command_held};
 ghost use Rattle.iop_front.specs.Words.{command_with, command_of};
 
 use crate::words::{ModuleWords, is_name};

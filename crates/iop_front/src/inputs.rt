@@ -1,13 +1,12 @@
 //! What a command reads before the machine is made: its script and its modules.
 
-ghost use Rattle.std.specs.Prelude.{◌≡◌, ◌≤◌, true, Some, is_some, [], ◌∷◌, All, IfOk, MatchResult, length, option_map, option_to_list};
+ghost use Rattle.std.specs.Prelude.{◌≡◌, ◌≤◌, Some, [], ◌∷◌, All, IfOk, MatchResult, length, option_map, option_to_list};
 ghost use Rattle.iop_machine.specs.declared.module.TheConstants.{MOST_MODULES};
 ghost use Rattle.iop_script.specs.Laws.{CanRun};
 ghost use Rattle.iop_script.specs.Reading.{empty_script};
-ghost use Rattle.iop_front.specs.Commands.{command_held};
-ghost use Rattle.iop_front.specs.Modules.{seen, HasScript, HasInputs, HasStopped, IsShort};
+ghost use Rattle.iop_front.specs.Inputs.{command_held, seen, HasScript, HasInputs, HasStopped, IsShort};
 ghost use Rattle.iop_front.specs.Outcome.{read_limit};
-ghost use Rattle.iop_front.specs.Words.{has_script, files_of};
+ghost use Rattle.iop_front.specs.Words.{AsScript, kind_by, first_kind, files_of};
 
 use crate::command_words::CommandWords;
 use crate::modules::{read_buffer, read_modules};
@@ -47,7 +46,7 @@ fn read_script<'a, F: Files>(
     ensures read { MatchResult result
         (λ script. HasScript (Some name.now) script
         (seen F.told F.faults files.old) (seen F.told F.faults files.new))
-        (λ unread. HasStopped true (name.now ∷ []) unread
+        (λ unread. HasStopped AsScript (name.now ∷ []) unread
         (seen F.told F.faults files.old) (seen F.told F.faults files.new)) }
     ensures runs { IfOk result CanRun }
     ensures buffer { length buffer.new ≡ read_limit }
@@ -68,7 +67,7 @@ fn read_script_of<'a, F: Files>(
         MatchResult result
         (λ script. HasScript named script
         (seen F.told F.faults files.old) (seen F.told F.faults files.new))
-        (λ unread. HasStopped (is_some named) (option_to_list named) unread
+        (λ unread. HasStopped (kind_by named) (option_to_list named) unread
         (seen F.told F.faults files.old) (seen F.told F.faults files.new)) }
     ensures runs { IfOk result CanRun }
     ensures buffer { length buffer.new ≡ read_limit }
@@ -91,7 +90,7 @@ pub(crate) fn read_inputs<'a, F: Files>(
     ensures read { MatchResult result
         (λ inputs. HasInputs (command_held command.entry) inputs.script inputs.modules.items
         (seen F.told F.faults files.old) (seen F.told F.faults files.new))
-        (λ unread. HasStopped (has_script (command_held command.entry))
+        (λ unread. HasStopped (first_kind (command_held command.entry))
         (files_of (command_held command.entry)) unread
         (seen F.told F.faults files.old) (seen F.told F.faults files.new)) }
     ensures runs { IfOk result (λ inputs. CanRun inputs.script) }

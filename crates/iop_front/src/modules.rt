@@ -1,9 +1,10 @@
 //! The modules that a command names, read from their files.
 
-ghost use Rattle.std.specs.Prelude.{◌≡◌, ◌≤◌, false, [], ◌∷◌, All, IfOk, MatchResult, length, map, string_bytes};
+ghost use Rattle.std.specs.Prelude.{◌≡◌, ◌≤◌, [], ◌∷◌, All, IfOk, MatchResult, length, map, string_bytes};
 ghost use Rattle.iop_machine.specs.declared.module.TheConstants.{MOST_MODULES};
-ghost use Rattle.iop_front.specs.Modules.{seen, HasTaken, HasStopped, IsShort};
+ghost use Rattle.iop_front.specs.Inputs.{seen, HasTaken, HasStopped, IsShort};
 ghost use Rattle.iop_front.specs.Outcome.{read_limit};
+ghost use Rattle.iop_front.specs.Words.{AsModule};
 
 use crate::reading::read_whole;
 use crate::unread::Unread;
@@ -46,9 +47,9 @@ fn read_module<'a, F: Files>(
 ) -> Result<Module, Unread<'a>>
     requires { length buffer.old ≡ read_limit }
     ensures read { MatchResult result
-        (λ read. HasTaken false (word.entry.text.now ∷ []) (read ∷ [])
+        (λ read. HasTaken AsModule (word.entry.text.now ∷ []) (read ∷ [])
         (seen F.told F.faults files.old) (seen F.told F.faults files.new))
-        (λ unread. HasStopped false (word.entry.text.now ∷ []) unread
+        (λ unread. HasStopped AsModule (word.entry.text.now ∷ []) unread
         (seen F.told F.faults files.old) (seen F.told F.faults files.new)) }
     ensures short { IfOk result IsShort }
 {
@@ -67,9 +68,9 @@ pub(crate) fn read_modules<'a, F: Files>(
 ) -> Result<Vec<Module>, Unread<'a>>
     requires { length buffer.old ≡ read_limit }
     ensures read { MatchResult result
-        (λ modules. HasTaken false (map string_bytes words.entry.texts.now) modules.items
+        (λ modules. HasTaken AsModule (map string_bytes words.entry.texts.now) modules.items
         (seen F.told F.faults files.old) (seen F.told F.faults files.new))
-        (λ unread. HasStopped false (map string_bytes words.entry.texts.now) unread
+        (λ unread. HasStopped AsModule (map string_bytes words.entry.texts.now) unread
         (seen F.told F.faults files.old) (seen F.told F.faults files.new)) }
     ensures few { IfOk result (λ modules. length modules.items ≤ MOST_MODULES) }
     ensures short { IfOk result (λ modules. All IsShort modules.items) }

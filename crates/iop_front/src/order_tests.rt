@@ -1,8 +1,8 @@
-//! Commands that name several files.
+//! Commands that name several files, a script among them.
 
 use crate::test_files::{
-    FREES_ITSELF, IMPORTS_MISSING, IMPORTS_SHOUT, PLAIN, PUTS_IN_A_FUNCTION, TAKES_ITSELF_AGAIN,
-    exports, file_of, hello,
+    FREES_ITSELF, HANDLES_LINE_5, IMPORTS_MISSING, IMPORTS_SHOUT, PLAIN, PUTS_IN_A_FUNCTION,
+    TAKES_ITSELF_AGAIN, exports, file_of, hello,
 };
 use crate::{Status, iop_main};
 use iop_ports::{MemFiles, MemSink};
@@ -179,6 +179,41 @@ fn opens_no_file_behind_one_that_decides(rt: HostRuntime) -> Result<(), Fail> {
     answers(&rt, alloc, &words, &mut files, too_long)?;
     assert_eq!(rt; files.calls(), 9);
     Ok(())
+}
+
+/// Runs the module that handles line 5 under a script, and compares the status, the console and the
+/// trace.
+fn runs_under(
+    rt: &impl Abort,
+    alloc: Global,
+    script: &str,
+    wanted: (Status, &str, &str),
+) -> Result<(), Fail> {
+    let mut text = Vec::new(alloc);
+    text.extend_from_slice(script.as_bytes())?;
+    let mut files = MemFiles::new(alloc, Vec::new(alloc));
+    files.add("script", text)?;
+    files.add("a.irx", file_of(alloc, HANDLES_LINE_5)?)?;
+    let words = words_of(alloc, &["--script", "script", "a.irx"])?;
+    answers(rt, alloc, &words, &mut files, wanted)
+}
+
+#[test]
+fn raises_the_lines_of_a_script(rt: HostRuntime) -> Result<(), Fail> {
+    let trace = "0 load 1 ok 00010000 00000058
+0 run 1
+19 result 1 0 resident
+100 line 5
+103 end quiet
+";
+    let script = "script 1\nat 100 line 5\n";
+    runs_under(&rt, rt.alloc(), script, quiet("", trace))
+}
+
+#[test]
+fn tells_the_bad_line_of_a_script(rt: HostRuntime) -> Result<(), Fail> {
+    let bad = (Status::BadScript, "", "iop: script line 2\n");
+    runs_under(&rt, rt.alloc(), "script 1\nat 100 line 64\n", bad)
 }
 
 #[test]

@@ -1,9 +1,10 @@
-ghost use Rattle.std.specs.Prelude.{◌≡◌, ◌≤◌, Bool, [], ◌∷◌, length, take, IfOk, OnOk, OnErr, MatchResult};
+ghost use Rattle.std.specs.Prelude.{◌≡◌, ◌≤◌, [], ◌∷◌, length, take, IfOk, OnOk, OnErr, MatchResult};
 ghost use Rattle.iop_modload.specs.declared.limits.TheConstants.{LONGEST_FILE};
 ghost use Rattle.iop_ports.specs.Counts.{HasCause};
-ghost use Rattle.iop_front.specs.Modules.{seen, HasTaken, HasStopped};
+ghost use Rattle.iop_front.specs.Inputs.{seen, HasTaken, HasStopped};
 ghost use Rattle.iop_front.specs.Outcome.{read_limit};
 ghost use Rattle.iop_front.specs.Reading.{HasRead};
+ghost use Rattle.iop_front.specs.Words.{FileKind};
 
 use crate::unread::Unread;
 use iop_modload::LONGEST_FILE;
@@ -41,11 +42,11 @@ pub(crate) fn read_whole<'a, F: Files>(
     files: &mut F,
 ) -> Result<usize, Unread<'a>>
     requires { length buffer.old ≡ read_limit }
-    ensures read { (is_script : Bool) → MatchResult result
-        (λ len. HasTaken is_script (name.now ∷ [])
+    ensures read { (kind : FileKind) → MatchResult result
+        (λ len. HasTaken kind (name.now ∷ [])
         (record { name = name.now; file = take len buffer.new } ∷ [])
         (seen F.told F.faults files.old) (seen F.told F.faults files.new))
-        (λ unread. HasStopped is_script (name.now ∷ []) unread
+        (λ unread. HasStopped kind (name.now ∷ []) unread
         (seen F.told F.faults files.old) (seen F.told F.faults files.new)) }
     ensures short { IfOk result (λ len. len ≤ LONGEST_FILE) }
     ensures buffer { length buffer.new ≡ read_limit }

@@ -59,7 +59,7 @@ pub(crate) fn refuse_too_long<T: Sink>(name: &str, trace: &mut T) -> Status
 }
 
 /// Makes the line for a script whose first bad line has this number.
-pub(crate) fn bad_script(number: u32) -> ArrayVec<u8, LONGEST_SCRIPT_LINE>
+fn bad_script(number: u32) -> ArrayVec<u8, LONGEST_SCRIPT_LINE>
     ensures { result.items ≡ bad_script_line number }
 {
     let mut line = ArrayVec::new();
@@ -67,4 +67,13 @@ pub(crate) fn bad_script(number: u32) -> ArrayVec<u8, LONGEST_SCRIPT_LINE>
     append_number(&mut line, number);
     append(&mut line, b"\n");
     line
+}
+
+/// Refuses a script whose first bad line has this number.
+pub(crate) fn refuse_bad_script<T: Sink>(number: u32, trace: &mut T) -> Status
+    ensures status { result ≡ Status.BadScript }
+    ensures sent { (whole : Bool) × Sends whole (bad_script_line number)
+        (T.told trace.old) (T.told trace.new) }
+{
+    refuse(Status::BadScript, &bad_script(number), trace)
 }

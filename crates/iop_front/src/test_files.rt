@@ -112,8 +112,8 @@ main:
     addiu $v0, $0, 1
 ";
 
-/// A module that gives its own block back, at 0x10000, takes one of 512 bytes there, and then returns
-/// 1.
+/// A module that gives its own block back, at 0x10000, takes one of 512 bytes there, and then
+/// returns 1.
 pub const TAKES_ITSELF_AGAIN: &str = "
     .name takes
     .import sysmem 1 1
@@ -169,8 +169,31 @@ text:
     .asciz "ho\n"
 "#;
 
-/// Makes the source of a module that registers the library `shouts`, whose function prints `hi`, and
-/// whose last instruction is `last`.
+/// A module that has a handler for interrupt line 5, and enables the line.
+pub const HANDLES_LINE_5: &str = "
+    .name t
+    .import intrman 1 1
+    .fn RegisterIntrHandler 4
+    .fn EnableIntr 6
+    .endi
+    .entry main
+main:
+    addu $s0, $ra, $0
+    addiu $a0, $0, 5
+    lui $a2, %hi(handler)
+    jal RegisterIntrHandler
+    addiu $a2, $a2, %lo(handler)
+    jal EnableIntr
+    addiu $a0, $0, 5
+    jr $s0
+    addu $v0, $0, $0
+handler:
+    jr $ra
+    addiu $v0, $0, 1
+";
+
+/// Makes the source of a module that registers the library `shouts`, whose function prints `hi`,
+/// and whose last instruction is `last`.
 pub fn exports(alloc: Global, last: &str) -> Result<String, AllocError> {
     format!(in alloc;
         r#"

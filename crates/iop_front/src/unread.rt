@@ -27,7 +27,7 @@ impl<'a> From<AllocError> for Unread<'a> {
 }
 
 impl<'a> From<ScriptFault> for Unread<'a> {
-    ghost use Rattle.iop_front.specs.Faults.{unread_of};
+    ghost use Rattle.iop_front.specs.Inputs.{unread_of};
 
     ghost from_gives = { λ fault unread. unread ≡ unread_of fault };
 

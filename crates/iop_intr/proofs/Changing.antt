@@ -80,4 +80,5 @@ calls lines n size = record {
   release = leaves release_line lines n _ size (release_makes (line_of lines n) _ refl);
   enable = leaves enable_line lines n _ size (λ ok. refl);
   disable = leaves disable_line lines n _ size (disable_makes (line_of lines n) _ refl);
+  raise = λ below. changes (λ l. record l { raised = true }) lines n _ (omega (arith, size)) refl;
 }

@@ -76,6 +76,8 @@ pub record CallsChangeOneLine (lines : List IrqLine) (n : ℕ) (was : IrqLine) :
       (line_with was.raised true was.handler)
   pub disable : LeavesOneLine lines n (disabling lines n)
       (line_with was.raised false was.handler)
+  pub raise : n < IRQ_LINES
+      → ChangesOneLine lines (raising lines n) n (line_with true was.enabled was.handler)
 
 abbrev pub EachCallChangesOneLine : Type 0
 EachCallChangesOneLine = (lines : List IrqLine) (n : ℕ)

@@ -26,14 +26,15 @@ pub fn zero_disables()
 {}
 
 /// After a handler that gave 0 its line is disabled, and after one that gave another number it is
-/// enabled where it has a handler, else as it was. It stays raised or not and keeps its handler, and
-/// all other lines are as they were.
+/// enabled where it has a handler, else as it was. It stays raised or not and keeps its handler,
+/// and all other lines are as they were.
 pub fn results_enable_or_disable()
     ensures { ResultsEnableOrDisable }
 {}
 
 /// A call that answers `OK` changes its line alone, and only in what it is for: `register` gives it
-/// the handler, `release` takes it away and disables the line, `enable` and `disable` do that.
+/// the handler, `release` takes it away and disables the line, `enable` and `disable` do that. So
+/// does `raise`, which raises its line.
 pub fn each_call_changes_one_line()
     ensures { EachCallChangesOneLine }
 {}

@@ -31,9 +31,10 @@ use Rattle.iop_kernel.specs.Serving.{serves_core, serves_board, serves, answers_
 use Rattle.iop_kernel.specs.System.{Kernel, Core, Left, Done, System, Served, in_handler, argument as core_argument, caller, words_place}
 use Rattle.iop_kernel.specs.declared.status.TheConstants.{STATUS_WORDS}
 use Rattle.iop_kernel.specs.declared.creating.TheConstants.{PARAM_WORDS, FROM_ABOVE}
-use Rattle.iop_kernel.proofs.ObjectsSpared.{Parts, PartsStay, all_stay, spares_semaphores, spares_event_flags, spares_mailboxes, spares_timers, spares_irqs}
+use Rattle.iop_kernel.proofs.ObjectsSpared.{Parts, PartsStay, all_stay}
 use Rattle.iop_kernel.proofs.RowsPassing.{Pass, row_passes, answer_passes, library_passes}
-use Rattle.iop_kernel.proofs.RowsSparing.{leaves_kernel, leaves_libraries, is_of_interrupts, rows_leave_kernel, rows_leave_libraries, rows_are_of_interrupts, rows_spare_semaphores, rows_spare_event_flags, rows_spare_mailboxes, rows_spare_timers, rows_spare_irqs}
+use Rattle.iop_kernel.proofs.RowsSparing.{leaves_kernel, leaves_libraries, is_of_interrupts, rows_leave_kernel, rows_leave_libraries, rows_are_of_interrupts, rows_spare_semaphores, rows_spare_event_flags, rows_spare_mailboxes, rows_spare_timers, rows_spare_irqs, rows_spare_interrupts, rows_spare_dispatching}
+use Rattle.iop_kernel.proofs.ServicesSparing.{spares_semaphores, spares_event_flags, spares_mailboxes, spares_timers, spares_irqs, spares_interrupts, spares_dispatching}
 use Rattle.iop_kernel.proofs.ServicesStaying.{serves_stays}
 
 -- a service that leaves it does so
@@ -73,6 +74,8 @@ spared_for answer = record {
   mailboxes = answer_passes spares_mailboxes answer;
   timers = answer_passes spares_timers answer;
   irqs = answer_passes spares_irqs answer;
+  interrupts = answer_passes spares_interrupts answer;
+  dispatching = answer_passes spares_dispatching answer;
 }
 
 -- and it does
@@ -252,6 +255,10 @@ services_stay_apart s library number =
           (pass is_of_interrupts (rows_are_of_interrupts library same));
       irqs = λ other. stay.irqs (pass spares_irqs (rows_spare_irqs library other));
       timers = λ other. stay.timers (pass spares_timers (rows_spare_timers library other));
+      interrupts = λ other another.
+          stay.interrupts (pass spares_interrupts (rows_spare_interrupts library other another));
+      dispatching = λ other.
+          stay.dispatching (pass spares_dispatching (rows_spare_dispatching library other));
       handler = stay.handler;
       libraries = λ same. libraries_answered between library number called.answer
           ∙ libraries_of_row sight s.blocks s.libraries inside row (λ found is.

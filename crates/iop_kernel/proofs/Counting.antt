@@ -26,8 +26,8 @@ use Rattle.iop_kernel.specs.declared.call.Call.{Call}
 use Rattle.iop_kernel.specs.declared.call.Call.TheVariants.{Library, ThreadReturn, HandlerReturn, ModuleReturn}
 use Rattle.iop_kernel.specs.declared.semaphores.TheConstants.{SEMAPHORE_WORDS}
 use Rattle.iop_kernel.proofs.ObjectsKept.{same_objects}
-use Rattle.iop_kernel.proofs.ObjectsSpared.{spares_semaphores}
 use Rattle.iop_kernel.proofs.ObjectsStaying.{exits_spare, handler_return_leaves}
+use Rattle.iop_kernel.proofs.ServicesSparing.{spared_by}
 use Rattle.iop_kernel.proofs.ServicesStaying.{serves_stays}
 use Rattle.iop_kernel.proofs.CountingTables.{CountsBy, none_changes}
 use Rattle.iop_kernel.proofs.CountingCalls.{other_counts}
@@ -56,7 +56,7 @@ module _ (s : System) (registers : 2 < length s.core.cpu.regs) where
 
   -- each service of the kernel
   serves_counts : (x : Service) → Counts x (serves s x)
-  unfolding serves serves_board serves_core spares_semaphores
+  unfolding serves serves_board serves_core spared_by
   serves_counts service.CreateSema =
       creates_sema_counts s.core registers s.memory
       (words_place s.memory (core_argument s.core 0) SEMAPHORE_WORDS)

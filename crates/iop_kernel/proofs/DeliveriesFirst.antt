@@ -16,6 +16,7 @@ use Rattle.iop_time.specs.Taking.{takes_due}
 use Rattle.iop_time.specs.Timers.{Timers, AreTimers}
 use Rattle.iop_time.specs.declared.due.Due.{Due}
 use Rattle.iop_time.specs.declared.due.Due.TheVariants as due_variants
+use Rattle.iop_kernel.specs.Handlers.{alarm_handler}
 use Rattle.iop_kernel.specs.Deliveries.{Delivered, is_in_slot, may_deliver, delivers_line, delivers_due, delivers_by, delivers}
 use Rattle.iop_kernel.specs.DeliveryLaws.{NoLineComes, DeliversFirst, IsOpenToDelivery, DeliveryKeeps, DeliveriesAreInOrder}
 use Rattle.iop_kernel.specs.Laws.{IsCore}
@@ -77,12 +78,11 @@ module _ (c : Core) (alone : HoldsAlone c) where
             timers = refl;
             handler = handler;
             registered = has;
-            begins = record { handler = refl; registers = refl; threads = refl };
+            begins = record { active = refl; registers = refl; threads = refl };
             told = refl;
           },
         );
-        alone = begins_hold lowered (causes.Line line) handler.address handler.arg handler.gp
-            ((irqs_change c _).core alone);
+        alone = begins_hold lowered (causes.Line line) handler ((irqs_change c _).core alone);
         kernel = refl;
         running = refl;
       })
@@ -105,11 +105,12 @@ module _ (c : Core) (alone : HoldsAlone c) where
             irqs = refl;
             next = next;
             taken = is;
-            begins = record { handler = refl; registers = refl; threads = refl };
+            begins = record { active = refl; registers = refl; threads = refl };
             told = refl;
           },
         ));
-        alone = begins_hold now (causes.Alarm alarm.number) alarm.handler alarm.arg alarm.gp
+        alone = begins_hold now (causes.Alarm alarm.number)
+            (alarm_handler alarm)
             ((timers_change c left.next left (omega arith)).core alone);
         kernel = refl;
         running = refl;

@@ -28,8 +28,8 @@ use Rattle.iop_kernel.specs.declared.call.Call.{Call}
 use Rattle.iop_kernel.specs.declared.call.Call.TheVariants.{Library, ThreadReturn, HandlerReturn, ModuleReturn}
 use Rattle.iop_kernel.specs.declared.mailboxes.TheConstants.{MAILBOX_WORDS}
 use Rattle.iop_kernel.proofs.ObjectsKept.{same_objects}
-use Rattle.iop_kernel.proofs.ObjectsSpared.{spares_mailboxes}
 use Rattle.iop_kernel.proofs.ObjectsStaying.{exits_spare, handler_return_leaves}
+use Rattle.iop_kernel.proofs.ServicesSparing.{spared_by}
 use Rattle.iop_kernel.proofs.ServicesStaying.{serves_stays}
 use Rattle.iop_kernel.proofs.DeliveringTables.{DeliversBy, none_changes}
 use Rattle.iop_kernel.proofs.DeliveringCalls.{other_delivers}
@@ -60,7 +60,7 @@ module _ (s : System) (registers : 2 < length s.core.cpu.regs)
 
   -- each service of the kernel
   serves_delivers : (x : Service) → Delivers x (serves s x)
-  unfolding serves serves_board serves_core spares_mailboxes
+  unfolding serves serves_board serves_core spared_by
   serves_delivers service.CreateMbx =
       creates_mbx_delivers s.core registers s.memory
       (words_place s.memory (core_argument s.core 0) MAILBOX_WORDS)

@@ -211,8 +211,8 @@ module _ {R : Type 0} (stands_for : R → List Entry → Type 0) (c : Core) (pla
   pub line_delivered : (line : ℕ) (handler : Handler)
       → (line_of c.kernel.irqs line).handler ≡ Some handler
       → Holds stands_for now (begins_handler (with_irqs c (delivering c.kernel.irqs line))
-      (causes.Line line) handler.address handler.arg handler.gp).kernel
-      → cpu ≡ handler_registers handler.address handler.arg handler.gp
+      (causes.Line line) handler).kernel
+      → cpu ≡ handler_registers handler
       → Gives a b (Traced (line_bytes c.kernel.clock (lines.Irq line)) ∷ [])
       → Delivers stands_for c (delivers_line c line (line_of c.kernel.irqs line).handler) true now
       cpu a b

@@ -3,6 +3,7 @@ use Rattle.std.proofs.Common.{◌≡◌, ℕ, ◌==◌, true, IfSome, Option, So
 use Rattle.std.proofs.lemmas.Bool.{cond_both}
 use Rattle.iop_exec.specs.Row.{reg, with_reg}
 use Rattle.iop_exec.specs.declared.cpu.Cpu.{Cpu}
+use Rattle.iop_intr.specs.declared.handler.Handler.{Handler}
 use Rattle.iop_thread.specs.States.{zeroed_at}
 use Rattle.iop_time.specs.Timers.{Timers}
 use Rattle.iop_kernel.specs.Handlers.{handler_registers, begins_handler, alarm_gives, gives_result, handler_returned, returns_handler}
@@ -89,25 +90,26 @@ returns_handler_follows s handler value = record {
 }
 
 -- a handler begins with its registers
-begins_steady : (address arg gp : ℕ) → IsSteady (handler_registers address arg gp)
-begins_steady address arg gp =
-    let first = zeroed_at address in
-    let with_arg = with_reg first 4 arg in
-    let with_gp = with_reg with_arg 28 gp in
+begins_steady : (handler : Handler) → IsSteady (handler_registers handler)
+begins_steady handler =
+    let first = zeroed_at handler.address in
+    let with_arg = with_reg first 4 handler.arg in
+    let with_gp = with_reg with_arg 28 handler.gp in
     let with_sp = with_reg with_gp 29 HANDLER_STACK in
     steady_with_reg with_sp 31 HANDLER_RETURN (steady_with_reg with_gp 29 HANDLER_STACK
-    (steady_with_reg with_arg 28 gp (steady_with_reg first 4 arg (λ outside. refl, refl))))
+    (steady_with_reg with_arg 28 handler.gp
+    (steady_with_reg first 4 handler.arg (λ outside. refl, refl))))
 
 -- so the kernel keeps what holds where one begins
-pub begins_hold : (c : Core) (cause : Cause) (address arg gp : ℕ) → HoldsAlone c
-    → HoldsAlone (begins_handler c cause address arg gp)
-begins_hold c cause address arg gp h = record {
+pub begins_hold : (c : Core) (cause : Cause) (handler : Handler) → HoldsAlone c
+    → HoldsAlone (begins_handler c cause handler)
+begins_hold c cause handler h = record {
   placed = h.placed;
   awake = λ none. record {
     dispatching = (h.awake none).dispatching;
     interrupts = λ outside. absurd (cc outside);
   };
-  straight = begins_steady address arg gp;
+  straight = begins_steady handler;
   threads = h.threads;
   handler = record { registers = h.straight.1; straight = h.straight.0 };
 }

@@ -52,7 +52,6 @@ pub mod KeepingServices
 pub mod KeepingSystem
 pub mod KeepingThreads
 pub mod KeepingTiming
-pub mod LowPlaces
 pub mod MailboxCalls
 pub mod MailboxDeletion
 pub mod MailboxesStaying
@@ -106,6 +105,7 @@ pub mod RowsSparing
 pub mod RunningThread
 pub mod SemaphoreCalls
 pub mod SemaphoreDeletion
+pub mod ServicesSparing
 pub mod ServicesStaying
 pub mod Settling
 pub mod StackBlocks
@@ -115,9 +115,11 @@ pub mod StatusReading
 pub mod Steady
 pub mod Strict
 pub mod Terminating
+pub mod TimeReading
 pub mod TimingCalls
 pub mod WaitersTaken
 pub mod WaitsEnding
 pub mod WaitsHolding
 pub mod WordBytes
+pub mod WordReading
 pub mod Worlds

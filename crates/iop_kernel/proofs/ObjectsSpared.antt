@@ -6,8 +6,6 @@ use Rattle.iop_mbx.specs.Mailboxes as mailboxes
 use Rattle.iop_mbx.specs.Mailboxes.{Mailboxes}
 use Rattle.iop_sema.specs.Semaphores as semaphores
 use Rattle.iop_sema.specs.Semaphores.{Semaphores}
-use Rattle.iop_services.specs.declared.service.Service.{Service}
-use Rattle.iop_services.specs.declared.service.Service.TheVariants as service
 use Rattle.iop_thread.specs.declared.wait.Wait.{Wait}
 use Rattle.iop_thread.specs.declared.wait.Wait.TheVariants.{Delay, Semaphore, EventFlag, Mailbox}
 use Rattle.iop_kernel.specs.Laws.{KeepsObjects}
@@ -22,6 +20,8 @@ pub record Parts : Type 0 where
   pub mailboxes : Bool
   pub timers : Bool
   pub irqs : Bool
+  pub interrupts : Bool
+  pub dispatching : Bool
 
 -- all of them
 abbrev pub all_parts : Parts
@@ -31,6 +31,8 @@ all_parts = record {
   mailboxes = true;
   timers = true;
   irqs = true;
+  interrupts = true;
+  dispatching = true;
 }
 
 -- all but the semaphores, the event flags, the mailboxes, the alarms and delays, or the lines
@@ -49,6 +51,20 @@ but_timers = record all_parts { timers = false }
 abbrev pub but_irqs : Parts
 but_irqs = record all_parts { irqs = false }
 
+-- all but whether interrupts are on, whether dispatch is enabled, or both
+abbrev pub but_interrupts : Parts
+but_interrupts = record all_parts { interrupts = false }
+
+abbrev pub but_dispatching : Parts
+but_dispatching = record all_parts { dispatching = false }
+
+abbrev pub but_interrupts_and_dispatching : Parts
+but_interrupts_and_dispatching = record all_parts { interrupts = false; dispatching = false }
+
+-- all but both and the alarms and delays
+abbrev pub but_interrupts_dispatching_and_timers : Parts
+but_interrupts_dispatching_and_timers = record but_interrupts_and_dispatching { timers = false }
+
 -- each part that is to be spared is left as it was, and no handler begins or ends
 pub record PartsStay (spared : Parts) (k l : Kernel) : Type 0 where
   pub semaphores : spared.semaphores ≡ true → KeepsObjects k.semaphores l.semaphores
@@ -56,6 +72,8 @@ pub record PartsStay (spared : Parts) (k l : Kernel) : Type 0 where
   pub mailboxes : spared.mailboxes ≡ true → KeepsObjects k.mailboxes l.mailboxes
   pub timers : spared.timers ≡ true → l.timers ≡ k.timers
   pub irqs : spared.irqs ≡ true → l.irqs ≡ k.irqs
+  pub interrupts : spared.interrupts ≡ true → l.interrupts ≡ k.interrupts
+  pub dispatching : spared.dispatching ≡ true → l.dispatching ≡ k.dispatching
   pub handler : l.handler ≡ k.handler
 
 -- all parts are
@@ -70,6 +88,8 @@ with_parts spared k l = record l {
   mailboxes = if spared.mailboxes then k.mailboxes else l.mailboxes;
   timers = if spared.timers then k.timers else l.timers;
   irqs = if spared.irqs then k.irqs else l.irqs;
+  interrupts = if spared.interrupts then k.interrupts else l.interrupts;
+  dispatching = if spared.dispatching then k.dispatching else l.dispatching;
   handler = k.handler;
 }
 
@@ -96,6 +116,12 @@ parts_stay spared k l e = record {
       subst (KeepsObjects k.mailboxes) (sym same) (same_objects k.mailboxes);
   timers = first_of_two spared.timers k.timers l.timers (ap (λ (m : Kernel). m.timers) e);
   irqs = first_of_two spared.irqs k.irqs l.irqs (ap (λ (m : Kernel). m.irqs) e);
+  interrupts =
+      first_of_two spared.interrupts k.interrupts l.interrupts
+      (ap (λ (m : Kernel). m.interrupts) e);
+  dispatching =
+      first_of_two spared.dispatching k.dispatching l.dispatching
+      (ap (λ (m : Kernel). m.dispatching) e);
   handler = ap (λ (m : Kernel). m.handler) e;
 }
 
@@ -113,6 +139,8 @@ leaving_stays k thread (Some (Semaphore id)) = record {
   mailboxes = λ is. same_objects k.mailboxes;
   timers = λ is. refl;
   irqs = λ is. refl;
+  interrupts = λ is. refl;
+  dispatching = λ is. refl;
   handler = refl;
 }
 leaving_stays k thread (Some (EventFlag id)) = record {
@@ -121,6 +149,8 @@ leaving_stays k thread (Some (EventFlag id)) = record {
   mailboxes = λ is. same_objects k.mailboxes;
   timers = λ is. refl;
   irqs = λ is. refl;
+  interrupts = λ is. refl;
+  dispatching = λ is. refl;
   handler = refl;
 }
 leaving_stays k thread (Some (Mailbox id)) = record {
@@ -129,6 +159,8 @@ leaving_stays k thread (Some (Mailbox id)) = record {
   mailboxes = λ is. drops_keep k.mailboxes id thread;
   timers = λ is. refl;
   irqs = λ is. refl;
+  interrupts = λ is. refl;
+  dispatching = λ is. refl;
   handler = refl;
 }
 leaving_stays k thread other = parts_stay but_timers k k refl
@@ -144,6 +176,8 @@ requeueing_stays k thread priority (Some (Semaphore id)) = record {
   mailboxes = λ is. same_objects k.mailboxes;
   timers = λ is. refl;
   irqs = λ is. refl;
+  interrupts = λ is. refl;
+  dispatching = λ is. refl;
   handler = refl;
 }
 requeueing_stays k thread priority (Some (EventFlag id)) = record {
@@ -152,6 +186,8 @@ requeueing_stays k thread priority (Some (EventFlag id)) = record {
   mailboxes = λ is. same_objects k.mailboxes;
   timers = λ is. refl;
   irqs = λ is. refl;
+  interrupts = λ is. refl;
+  dispatching = λ is. refl;
   handler = refl;
 }
 requeueing_stays k thread priority (Some (Mailbox id)) = record {
@@ -162,80 +198,53 @@ requeueing_stays k thread priority (Some (Mailbox id)) = record {
       requeues_keep k.mailboxes id by_priority thread priority;
   timers = λ is. refl;
   irqs = λ is. refl;
+  interrupts = λ is. refl;
+  dispatching = λ is. refl;
   handler = refl;
 }
 requeueing_stays k thread priority other = all_stay k k refl
 
 -- so from a kernel with the same parts
-pub from_same : (spared : Parts) (k l m : Kernel) → k ≡ with_parts all_parts l k
-    → PartsStay spared l m → PartsStay spared k m
-from_same spared k l m e h = record {
-  semaphores = λ is. subst (λ (s : Semaphores). KeepsObjects s m.semaphores)
-      (sym (ap (λ (x : Kernel). x.semaphores) e)) (h.semaphores is);
-  event_flags = λ is. subst (λ (s : EventFlags). KeepsObjects s m.event_flags)
-      (sym (ap (λ (x : Kernel). x.event_flags) e)) (h.event_flags is);
-  mailboxes = λ is. subst (λ (s : Mailboxes). KeepsObjects s m.mailboxes)
-      (sym (ap (λ (x : Kernel). x.mailboxes) e)) (h.mailboxes is);
-  timers = λ is. h.timers is ∙ sym (ap (λ (x : Kernel). x.timers) e);
-  irqs = λ is. h.irqs is ∙ sym (ap (λ (x : Kernel). x.irqs) e);
+pub from_same : (spared : Parts) (k l m : Kernel) → PartsStay spared l m
+    → k ≡ with_parts spared l k → PartsStay spared k m
+from_same spared k l m h e = record {
+  semaphores = λ is.
+      let same = first_of_two spared.semaphores l.semaphores k.semaphores
+      (ap (λ (x : Kernel). x.semaphores) e) is in
+      subst (λ (s : Semaphores). KeepsObjects s m.semaphores) (sym same) (h.semaphores is);
+  event_flags = λ is.
+      let same = first_of_two spared.event_flags l.event_flags k.event_flags
+      (ap (λ (x : Kernel). x.event_flags) e) is in
+      subst (λ (s : EventFlags). KeepsObjects s m.event_flags) (sym same) (h.event_flags is);
+  mailboxes = λ is.
+      let same = first_of_two spared.mailboxes l.mailboxes k.mailboxes
+      (ap (λ (x : Kernel). x.mailboxes) e) is in
+      subst (λ (s : Mailboxes). KeepsObjects s m.mailboxes) (sym same) (h.mailboxes is);
+  timers = λ is. h.timers is
+      ∙ sym (first_of_two spared.timers l.timers k.timers (ap (λ (x : Kernel). x.timers) e) is);
+  irqs = λ is. h.irqs is
+      ∙ sym (first_of_two spared.irqs l.irqs k.irqs (ap (λ (x : Kernel). x.irqs) e) is);
+  interrupts = λ is. h.interrupts is
+      ∙ sym (first_of_two spared.interrupts l.interrupts k.interrupts
+      (ap (λ (x : Kernel). x.interrupts) e) is);
+  dispatching = λ is. h.dispatching is
+      ∙ sym (first_of_two spared.dispatching l.dispatching k.dispatching
+      (ap (λ (x : Kernel). x.dispatching) e) is);
   handler = h.handler ∙ sym (ap (λ (x : Kernel). x.handler) e);
 }
 
--- whether a service is to spare the semaphores
-unfoldable pub spares_semaphores : Service → Bool
-spares_semaphores service.CreateSema = false
-spares_semaphores service.DeleteSema = false
-spares_semaphores service.SignalSema = false
-spares_semaphores service.WaitSema = false
-spares_semaphores service.PollSema = false
-spares_semaphores other = true
-
--- the event flags
-unfoldable pub spares_event_flags : Service → Bool
-spares_event_flags service.CreateEventFlag = false
-spares_event_flags service.DeleteEventFlag = false
-spares_event_flags service.SetEventFlag = false
-spares_event_flags service.ClearEventFlag = false
-spares_event_flags service.WaitEventFlag = false
-spares_event_flags service.PollEventFlag = false
-spares_event_flags other = true
-
--- the mailboxes
-unfoldable pub spares_mailboxes : Service → Bool
-spares_mailboxes service.CreateMbx = false
-spares_mailboxes service.DeleteMbx = false
-spares_mailboxes service.SendMbx = false
-spares_mailboxes service.ReceiveMbx = false
-spares_mailboxes service.PollMbx = false
-spares_mailboxes other = true
-
--- the alarms and delays: a wait that ends may be a delay
-unfoldable pub spares_timers : Service → Bool
-spares_timers service.TerminateThread = false
-spares_timers service.ReleaseWaitThread = false
-spares_timers service.DelayThread = false
-spares_timers service.SetAlarm = false
-spares_timers service.CancelAlarm = false
-spares_timers other = true
-
--- the interrupt lines
-unfoldable pub spares_irqs : Service → Bool
-spares_irqs service.RegisterIntrHandler = false
-spares_irqs service.ReleaseIntrHandler = false
-spares_irqs service.EnableIntr = false
-spares_irqs service.DisableIntr = false
-spares_irqs other = true
-
--- what a service is to spare
-abbrev pub spared_by : Service → Parts
-spared_by x = record {
-  semaphores = spares_semaphores x;
-  event_flags = spares_event_flags x;
-  mailboxes = spares_mailboxes x;
-  timers = spares_timers x;
-  irqs = spares_irqs x;
-}
-
--- what a service of all of them leaves
-abbrev pub ServiceStays : Service → (k l : Kernel) → Type 0
-ServiceStays x k l = PartsStay (spared_by x) k l
+-- what a thread that ends leaves: it may be the one that runs
+pub ending_stays : (k : Kernel) (thread : ℕ) (wait : Option Wait)
+    → PartsStay but_interrupts_dispatching_and_timers k (leaves_object k thread wait)
+ending_stays k thread wait =
+    let left = leaving_stays k thread wait in
+    record {
+      semaphores = left.semaphores;
+      event_flags = left.event_flags;
+      mailboxes = left.mailboxes;
+      timers = left.timers;
+      irqs = left.irqs;
+      interrupts = λ is. left.interrupts refl;
+      dispatching = λ is. left.dispatching refl;
+      handler = left.handler;
+    }

@@ -21,7 +21,7 @@ use Rattle.iop_thread.specs.declared.wait.Wait.{Wait}
 use Rattle.iop_kernel.specs.Handlers.{gives_result, returns_handler}
 use Rattle.iop_kernel.specs.Interrupts.{leaves_irqs}
 use Rattle.iop_kernel.specs.Naming.{named, is_nobody_else}
-use Rattle.iop_kernel.specs.Ordering.{answers_change, changes_named, changes_if_priority, rotates_to, rotates_own, rotates_by}
+use Rattle.iop_kernel.specs.Ordering.{set_dispatch, answers_change, changes_named, changes_if_priority, rotates_to, rotates_own, rotates_by}
 use Rattle.iop_kernel.specs.Running.{exits_by, terminates_by}
 use Rattle.iop_kernel.specs.Semaphores.{LiveSemaphore, creates_sema_at, deletes_sema, signals_by, waits_for_sema, takes_or_waits}
 use Rattle.iop_kernel.specs.Serving.{serves_core}
@@ -35,7 +35,8 @@ use Rattle.iop_kernel.specs.declared.active_handler.Cause.TheVariants.{Line, Ala
 use Rattle.iop_kernel.proofs.EventFlagsStaying.{deletes_flag_touches, clears_flag_touches}
 use Rattle.iop_kernel.proofs.MailboxesStaying.{deletes_mbx_touches}
 use Rattle.iop_kernel.proofs.ObjectsKept.{same_objects}
-use Rattle.iop_kernel.proofs.ObjectsSpared.{Parts, PartsStay, AllStay, ServiceStays, all_parts, but_semaphores, but_timers, but_irqs, with_parts, parts_stay, all_stay, leaving_stays, requeueing_stays, from_same, spares_semaphores, spares_event_flags, spares_mailboxes, spares_timers, spares_irqs}
+use Rattle.iop_kernel.proofs.ObjectsSpared.{Parts, PartsStay, AllStay, all_parts, but_semaphores, but_timers, but_irqs, but_interrupts, but_dispatching, but_interrupts_and_dispatching, but_interrupts_dispatching_and_timers, with_parts, parts_stay, all_stay, leaving_stays, ending_stays, requeueing_stays, from_same}
+use Rattle.iop_kernel.proofs.ServicesSparing.{ServiceStays, spared_by}
 
 module _ (c : Core) where
   -- by what a call leaves
@@ -64,32 +65,45 @@ module _ (c : Core) where
   both : (b : Bool) (x y : Left Core) → Spares x → Spares y → Spares (if b then x else y)
   both b x y g h = cond_both b x y Spares (λ is. g) (λ is. h)
 
-  -- the thread that calls ends
-  pub exits_spare : (o : Option ℕ) → Spares (exits_by c o)
-  exits_spare None = still _ refl
-  exits_spare (Some id) = both (id == LOADER) _ _ (still _ refl) (still _ refl)
+  -- a thread ends; where it is the one that runs, interrupts are on and dispatch is enabled
+  abbrev Ends : Left Core → Type 0
+  Ends left = PartsStay but_interrupts_dispatching_and_timers c.kernel left.state.kernel
+
+  -- the thread that calls does
+  pub exits_spare : (o : Option ℕ) → PartsStay but_interrupts_and_dispatching c.kernel (exits_by c o).state.kernel
+  exits_spare None = parts_stay but_interrupts_and_dispatching _ _ refl
+  exits_spare (Some id) =
+      cond_both (id == LOADER) _ _
+      (λ (left : Left Core). PartsStay but_interrupts_and_dispatching c.kernel left.state.kernel)
+      (λ loader. parts_stay but_interrupts_and_dispatching _ _ refl) (λ other. parts_stay but_interrupts_and_dispatching _ _ refl)
 
   -- a thread is ended, by what that answers
   terminates_spare : (id : ℕ) (r : Result (Option Wait) Code × ThreadTable)
-      → Retimes (terminates_by c id r)
+      → Ends (terminates_by c id r)
   terminates_spare id (Ok wait, t) =
       cond_both (is_it c.kernel.threads.running id) (opened c) c
-      (λ left. PartsStay but_timers c.kernel (leaves_object (with_threads left t).kernel id wait))
-      (λ it. ended_spares (opened c) refl) (λ other. ended_spares c refl)
-    where
-      ended_spares : (d : Core) → c.kernel ≡ with_parts all_parts d.kernel c.kernel
-          → PartsStay but_timers c.kernel (leaves_object (with_threads d t).kernel id wait)
-      ended_spares d e =
-          let left = (with_threads d t).kernel in
-          from_same but_timers c.kernel left _ e (leaving_stays left id wait)
-  terminates_spare id (Err code, t) = retimed _ refl
+      (λ left. PartsStay but_interrupts_dispatching_and_timers c.kernel
+      (leaves_object (with_threads left t).kernel id wait))
+      (λ it. from_same but_interrupts_dispatching_and_timers c.kernel _ _
+      (ending_stays (with_threads (opened c) t).kernel id wait) refl)
+      (λ other. from_same but_interrupts_dispatching_and_timers c.kernel _ _
+      (ending_stays (with_threads c t).kernel id wait) refl)
+  terminates_spare id (Err code, t) = parts_stay but_interrupts_dispatching_and_timers _ _ refl
+
+  -- dispatch is enabled or not
+  sets_dispatch_stays : (enabled : Bool)
+      → PartsStay but_dispatching c.kernel (set_dispatch c enabled).state.kernel
+  sets_dispatch_stays enabled =
+      cond_both c.kernel.interrupts _ _
+      (λ (left : Left Core). PartsStay but_dispatching c.kernel left.state.kernel)
+      (λ on. parts_stay but_dispatching _ _ refl) (λ off. parts_stay but_dispatching _ _ refl)
 
   -- a priority changes, by what that answers
   answers_change_spare : (id priority : ℕ) (r : Result (Option Wait) Code × ThreadTable)
       → Spares (answers_change c id priority r)
   answers_change_spare id priority (Ok wait, t) =
       let left = (with_threads c t).kernel in
-      from_same all_parts c.kernel left _ refl (requeueing_stays left id priority wait)
+      from_same all_parts c.kernel left _ (requeueing_stays left id priority wait) refl
   answers_change_spare id priority (Err code, t) = still _ refl
 
   -- by the thread that is named
@@ -126,7 +140,7 @@ module _ (c : Core) where
   releases_from_spare id None = retimed _ refl
   releases_from_spare id (Some wait) =
       let left = (wakes_with c id WAIT_RELEASED).kernel in
-      from_same but_timers c.kernel left _ refl (leaving_stays left id (Some wait))
+      from_same but_timers c.kernel left _ (leaving_stays left id (Some wait)) refl
 
   -- by the thread that is found
   releases_it_spare : (o : Option Thread) → Retimes (releases_it c o)
@@ -188,13 +202,15 @@ module _ (c : Core) where
     mailboxes = λ is. same_objects c.kernel.mailboxes;
     timers = λ is. refl;
     irqs = λ is. refl;
+    interrupts = λ is. refl;
+    dispatching = λ is. refl;
     handler = refl;
   }
 
   -- each service that looks at the kernel alone
   pub serves_core_stays : (x : Service)
       → ServiceStays x c.kernel (serves_core c x).state.kernel
-  unfolding serves_core spares_semaphores spares_event_flags spares_mailboxes spares_timers spares_irqs
+  unfolding serves_core spared_by
   serves_core_stays service.RegisterIntrHandler =
       irqs_leave (registering c.kernel.irqs (argument c 0)
       (handler_of (argument c 2) (argument c 3) (reg c.cpu 28)))
@@ -203,20 +219,24 @@ module _ (c : Core) where
   serves_core_stays service.EnableIntr = irqs_leave (enabling c.kernel.irqs (argument c 0))
   serves_core_stays service.DisableIntr = nothing_stays _
   serves_core_stays service.CpuDisableIntr =
-      both c.kernel.interrupts _ _ (still _ refl) (still _ refl)
+      cond_both c.kernel.interrupts _ _
+      (λ (left : Left Core). PartsStay but_interrupts c.kernel left.state.kernel)
+      (λ on. parts_stay but_interrupts _ _ refl) (λ off. parts_stay but_interrupts _ _ refl)
+  serves_core_stays service.CpuEnableIntr = parts_stay but_interrupts _ _ refl
+  serves_core_stays service.CpuSuspendIntr = nothing_stays _
+  serves_core_stays service.CpuResumeIntr = parts_stay but_interrupts _ _ refl
   serves_core_stays service.StartThread =
       both (argument c 0 == 0 || argument c 0 == LOADER) _ _ (still _ refl)
       (still _ refl)
   serves_core_stays service.ExitThread = exits_spare (caller c)
+  serves_core_stays service.ExitDeleteThread = nothing_stays _
   serves_core_stays service.TerminateThread =
-      cond_both (is_nobody_else c (argument c 0) || argument c 0 == LOADER) _ _ Retimes
-      (λ refused. retimed _ refl)
+      cond_both (is_nobody_else c (argument c 0) || argument c 0 == LOADER) _ _ Ends
+      (λ refused. parts_stay but_interrupts_dispatching_and_timers _ _ refl)
       (λ other.
       terminates_spare (argument c 0) (threads.terminates c.kernel.threads (argument c 0)))
-  serves_core_stays service.DisableDispatchThread =
-      both c.kernel.interrupts _ _ (still _ refl) (still _ refl)
-  serves_core_stays service.EnableDispatchThread =
-      both c.kernel.interrupts _ _ (still _ refl) (still _ refl)
+  serves_core_stays service.DisableDispatchThread = sets_dispatch_stays false
+  serves_core_stays service.EnableDispatchThread = sets_dispatch_stays true
   serves_core_stays service.ChangeThreadPriority =
       changes_if_priority_spare (argument c 0) (priority_of_word (argument c 1))
   serves_core_stays service.RotateThreadReadyQueue =

@@ -1,10 +1,11 @@
 -- What a handler's result does to the line or the alarm that it is for.
-use Rattle.std.proofs.Common.{◌≡◌, ◌≢◌, ℕ, ◌≤◌, ◌==◌, Bool, true, false, Option, Some, None, List, length, refl, sym, ap, subst, ◌∙◌, arith}
+use Rattle.std.proofs.Common.{◌≡◌, ◌≢◌, ℕ, ◌≤◌, ◌==◌, Bool, true, false, Option, Some, None, List, length, All, refl, sym, ap, subst, ◌∙◌, arith}
 use Rattle.std.specs.Prelude.{IsSome}
 use Rattle.std.proofs.Math.ListN.{get_or-eq_default}
-use Rattle.std.proofs.lemmas.Bool.{cases_lt, cond_both}
+use Rattle.std.proofs.lemmas.Bool.{cases_lt, cond_both, ne_eqb}
 use Rattle.std.proofs.lemmas.Bool.Decides.{nat_tests}
 use Rattle.std.proofs.lemmas.List.{set_past}
+use Rattle.std.proofs.lemmas.List.Elements.{All-weaker}
 use mathlib.Core.Logic.{inl, inr}
 use Rattle.iop_exec.specs.Row.{reg}
 use Rattle.iop_intr.specs.InterruptLines.{IrqLine, idle, line_of, finishing}
@@ -13,7 +14,9 @@ use Rattle.iop_intr.specs.declared.handler.Handler.{Handler}
 use Rattle.iop_intr.proofs.Changing.{results_enable_or_disable}
 use Rattle.iop_time.specs.Laws.{EachCallLeaves}
 use Rattle.iop_time.proofs.Leaving.{each_call_leaves}
+use Rattle.iop_time.proofs.Results.{NoneHas, again_stays, removes_stays}
 use Rattle.iop_time.specs.Timers.{Timers, AreTimers, removes, sets_again}
+use Rattle.iop_time.specs.declared.alarm.Alarm.{Alarm as TimerAlarm}
 use Rattle.iop_kernel.specs.HandlerLaws.{LineIsGiven, AlarmIsGiven, ResultIsGiven, ResultsAreGiven}
 use Rattle.iop_kernel.specs.Handlers.{alarm_gives, gives_result, returns_handler}
 use Rattle.iop_kernel.specs.Placing.{IsPlaced}
@@ -31,10 +34,13 @@ module _ (lines : List IrqLine) (n value : ℕ) where
   given_by_change : (enabled : Bool) (left : List IrqLine)
       → ChangesOneLine lines left n (line_with was.raised enabled was.handler)
       → (value ≡ 0 → enabled ≡ false) → (value ≢ 0 → IsSome was.handler → enabled ≡ true)
+      → (value ≢ 0 → was.handler ≡ None → enabled ≡ was.enabled)
       → LineIsGiven n value lines left
-  given_by_change enabled left change zero another = record {
+  given_by_change enabled left change zero another no_handler = record {
     zero = λ e. ap (λ (l : IrqLine). l.enabled) change.here ∙ zero e;
     another = λ other some. ap (λ (l : IrqLine). l.enabled) change.here ∙ another other some;
+    no_handler = λ other none.
+        ap (λ (l : IrqLine). l.enabled) change.here ∙ no_handler other none;
     raised = ap (λ (l : IrqLine). l.raised) change.here;
     handler = ap (λ (l : IrqLine). l.handler) change.here;
     others = change.others;
@@ -46,10 +52,10 @@ module _ (lines : List IrqLine) (n value : ℕ) where
   given_another changes other (Some handler) has =
       let some : IsSome was.handler = rw has refl in
       given_by_change true _ (changes.another value other some) (λ zero. absurd (other zero))
-      (λ so is. refl)
+      (λ so is. refl) (λ so none. absurd (cc (has, none)))
   given_another changes other None has =
       given_by_change was.enabled _ (changes.no_handler value other has)
-      (λ zero. absurd (other zero)) (λ so is. absurd (cc (has, is)))
+      (λ zero. absurd (other zero)) (λ so is. absurd (cc (has, is))) (λ so none. refl)
 
   -- by whether it is 0
   given_line : ResultsChangeOneLine lines n was → (zero : Bool) → (value == 0) ≡ zero
@@ -59,7 +65,7 @@ module _ (lines : List IrqLine) (n value : ℕ) where
       given_by_change false _ (subst
       (λ (v : ℕ). ChangesOneLine lines (finishing lines n v) n
       (line_with was.raised false was.handler)) (sym none) changes.zero) (λ zero. refl)
-      (λ other some. absurd (other none))
+      (λ other some. absurd (other none)) (λ other no_handler. absurd (other none))
   given_line changes false is =
       given_another changes (λ zero. grind (arith, nat_tests, is, zero)) was.handler refl
 
@@ -72,6 +78,7 @@ module _ (lines : List IrqLine) (n value : ℕ) where
         zero = λ zero. ap (λ (l : IrqLine). l.enabled) is;
         another = λ other some.
             let none = ap (λ (l : IrqLine). l.handler) is in absurd (cc (none, some));
+        no_handler = λ other none. refl;
         raised = refl;
         handler = refl;
         others = λ k other. refl;
@@ -85,6 +92,14 @@ module _ (lines : List IrqLine) (n value : ℕ) where
         | inr past ↦ given_nowhere past
       ]
 
+-- an alarm that was cancelled is none of those that stand
+none_has : (number : ℕ) (alarms : List TimerAlarm) → All (λ alarm. alarm.number ≢ number) alarms
+    → NoneHas number alarms
+none_has number =
+    All-weaker (λ (alarm : TimerAlarm). alarm.number ≢ number)
+    (λ (alarm : TimerAlarm). (alarm.number == number) ≡ false)
+    (λ alarm other. ne_eqb alarm.number number other)
+
 -- or to an alarm
 alarm_given : EachCallLeaves → (timers : Timers) → AreTimers timers → (number value : ℕ)
     → AlarmIsGiven number value timers (alarm_gives timers number value)
@@ -94,10 +109,12 @@ alarm_given leaves timers sound number value =
     (λ zero. record {
       zero = λ none. (leaves timers sound).removes number;
       another = λ other. absurd (other (grind (arith, nat_tests, zero)));
+      cancelled = λ none. removes_stays timers number (none_has number timers.alarms none);
     })
     (λ some. record {
       zero = λ none. absurd (grind (arith, nat_tests, some, none));
       another = λ other. (leaves timers sound).sets_again number value;
+      cancelled = λ none. again_stays timers number value (none_has number timers.alarms none);
     })
 
 -- by what the handler was begun for

@@ -9,8 +9,8 @@ use Rattle.iop_services.specs.declared.service.Service.{Service}
 use Rattle.iop_services.specs.declared.service.Service.TheVariants as service
 use Rattle.iop_kernel.specs.Laws.{serves_kernel}
 use Rattle.iop_kernel.specs.declared.call.TheConstants.{INTRMAN, THBASE, THSEMAP, THEVENT, THMSGBX}
-use Rattle.iop_kernel.proofs.ObjectsSpared.{spares_semaphores, spares_event_flags, spares_mailboxes, spares_timers, spares_irqs}
 use Rattle.iop_kernel.proofs.RowsPassing.{Pass, by}
+use Rattle.iop_kernel.proofs.ServicesSparing.{spared_by, spares_semaphores, spares_event_flags, spares_mailboxes, spares_timers, spares_irqs, spares_interrupts, spares_dispatching}
 
 -- whether a service is one of interrupts
 unfoldable pub is_of_interrupts : Service → Bool
@@ -116,32 +116,47 @@ rows_are_of_interrupts library same =
 -- all services of another library than thsemap spare the semaphores
 pub rows_spare_semaphores : (library : ℕ) → library ≢ THSEMAP
     → Pass spares_semaphores (rows_of library)
-unfolding spares_semaphores
+unfolding spared_by
 rows_spare_semaphores library other =
     rows_pass spares_semaphores (λ n. n == THSEMAP) refl library (ne_eqb library THSEMAP other)
 
 -- all services of another library than thevent spare the event flags
 pub rows_spare_event_flags : (library : ℕ) → library ≢ THEVENT
     → Pass spares_event_flags (rows_of library)
-unfolding spares_event_flags
+unfolding spared_by
 rows_spare_event_flags library other =
     rows_pass spares_event_flags (λ n. n == THEVENT) refl library (ne_eqb library THEVENT other)
 
 -- all services of another library than thmsgbx spare the mailboxes
 pub rows_spare_mailboxes : (library : ℕ) → library ≢ THMSGBX
     → Pass spares_mailboxes (rows_of library)
-unfolding spares_mailboxes
+unfolding spared_by
 rows_spare_mailboxes library other =
     rows_pass spares_mailboxes (λ n. n == THMSGBX) refl library (ne_eqb library THMSGBX other)
 
 -- all services of another library than thbase spare the alarms and delays
 pub rows_spare_timers : (library : ℕ) → library ≢ THBASE → Pass spares_timers (rows_of library)
-unfolding spares_timers
+unfolding spared_by
 rows_spare_timers library other =
     rows_pass spares_timers (λ n. n == THBASE) refl library (ne_eqb library THBASE other)
 
 -- all services of another library than intrman spare the interrupt lines
 pub rows_spare_irqs : (library : ℕ) → library ≢ INTRMAN → Pass spares_irqs (rows_of library)
-unfolding spares_irqs
+unfolding spared_by
 rows_spare_irqs library other =
     rows_pass spares_irqs (λ n. n == INTRMAN) refl library (ne_eqb library INTRMAN other)
+
+-- all services of another library than intrman and thbase spare whether interrupts are on
+pub rows_spare_interrupts : (library : ℕ) → library ≢ INTRMAN → library ≢ THBASE
+    → Pass spares_interrupts (rows_of library)
+unfolding spared_by
+rows_spare_interrupts library other another =
+    rows_pass spares_interrupts (λ n. n == INTRMAN || n == THBASE) refl library
+    (rw (ne_eqb library INTRMAN other, ne_eqb library THBASE another) refl)
+
+-- all services of another library than thbase spare whether dispatch is enabled
+pub rows_spare_dispatching : (library : ℕ) → library ≢ THBASE
+    → Pass spares_dispatching (rows_of library)
+unfolding spared_by
+rows_spare_dispatching library other =
+    rows_pass spares_dispatching (λ n. n == THBASE) refl library (ne_eqb library THBASE other)

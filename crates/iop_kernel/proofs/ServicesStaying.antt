@@ -36,8 +36,9 @@ use Rattle.iop_kernel.specs.declared.timing.TheConstants.{TIME_WORDS}
 use Rattle.iop_time.specs.ClockTime.{ticks_of}
 use Rattle.iop_kernel.proofs.EventFlagsStaying.{creates_flag_touches, sets_flag_touches, waits_flag_touches, polls_flag_touches, refers_flag_spares}
 use Rattle.iop_kernel.proofs.MailboxesStaying.{creates_mbx_touches, sends_touch, waits_mbx_touch, polls_mbx_touch, refers_mbx_spares}
-use Rattle.iop_kernel.proofs.ObjectsSpared.{PartsStay, AllStay, ServiceStays, all_parts, but_timers, but_irqs, with_parts, parts_stay, all_stay, spares_semaphores, spares_event_flags, spares_mailboxes, spares_timers, spares_irqs}
+use Rattle.iop_kernel.proofs.ObjectsSpared.{PartsStay, AllStay, all_parts, but_timers, but_irqs, but_interrupts, but_interrupts_and_dispatching, with_parts, parts_stay, all_stay}
 use Rattle.iop_kernel.proofs.ObjectsStaying.{creates_sema_touches, serves_core_stays}
+use Rattle.iop_kernel.proofs.ServicesSparing.{ServiceStays, spared_by}
 
 module _ (o : Owner) where
   -- a call that looks at blocks too leaves each object as it was
@@ -58,14 +59,17 @@ module _ (o : Owner) where
       (λ other. deletes_spare (threads.deletes o.core.kernel.threads id))
 
   -- the thread that calls is, which has ended
-  exits_deleted_spare : (r : Result ℕ Code × ThreadTable) → OwnerSpares (exits_deleted o r)
-  exits_deleted_spare (Ok stack, t) = unchanged _ refl
-  exits_deleted_spare (Err code, t) = unchanged _ refl
+  abbrev OwnerEnds : Left Owner → Type 0
+  OwnerEnds left = PartsStay but_interrupts_and_dispatching o.core.kernel left.state.core.kernel
 
-  exits_by_spare : (who : Option ℕ) → OwnerSpares (exits_deleted_by o who)
-  exits_by_spare None = unchanged _ refl
+  exits_deleted_spare : (r : Result ℕ Code × ThreadTable) → OwnerEnds (exits_deleted o r)
+  exits_deleted_spare (Ok stack, t) = parts_stay but_interrupts_and_dispatching _ _ refl
+  exits_deleted_spare (Err code, t) = parts_stay but_interrupts_and_dispatching _ _ refl
+
+  exits_by_spare : (who : Option ℕ) → OwnerEnds (exits_deleted_by o who)
+  exits_by_spare None = parts_stay but_interrupts_and_dispatching _ _ refl
   exits_by_spare (Some id) =
-      cond_both (id == LOADER) _ _ OwnerSpares (λ loader. unchanged _ refl)
+      cond_both (id == LOADER) _ _ OwnerEnds (λ loader. parts_stay but_interrupts_and_dispatching _ _ refl)
       (λ other. exits_deleted_spare (threads.deletes (ended o.core).kernel.threads id))
 
 module _ (s : System) where
@@ -145,9 +149,11 @@ module _ (s : System) where
   sets_alarm_spares handler arg (Some place) = parts_stay but_timers _ _ refl
 
   -- interrupts are turned off, by the place for what they were
-  suspends_spare : (o : Option ℕ) → Spares (on_board s (suspends_at (board_of s) o))
-  suspends_spare None = still _ refl
-  suspends_spare (Some place) = still _ refl
+  suspends_spare : (o : Option ℕ)
+      → PartsStay but_interrupts s.core.kernel
+      (suspends_at (board_of s) o).left.state.core.kernel
+  suspends_spare None = parts_stay but_interrupts _ _ refl
+  suspends_spare (Some place) = parts_stay but_interrupts _ _ refl
 
   -- a line is disabled, by what that answers
   disables_by_spares : (line : ℕ) (place : Option ℕ) (r : Code × List IrqLine)
@@ -168,7 +174,7 @@ module _ (s : System) where
   -- a service that looks at the kernel and at memory
   board_stays : (x : Service) → ServiceStays x s.core.kernel
       (on_board s (serves_board (board_of s) x)).left.state.core.kernel
-  unfolding serves_board spares_semaphores spares_event_flags spares_mailboxes spares_timers spares_irqs
+  unfolding serves_board spared_by
   board_stays service.DisableIntr =
       disables_spare (argument s.core 0) (optional_place s.memory (argument s.core 1))
   board_stays service.CpuSuspendIntr = suspends_spare (words_place s.memory (argument s.core 0) 1)
@@ -227,7 +233,7 @@ module _ (s : System) where
   -- each service of the kernel
   pub serves_stays : (x : Service)
       → ServiceStays x s.core.kernel (serves s x).left.state.core.kernel
-  unfolding serves spares_semaphores spares_event_flags spares_mailboxes spares_timers spares_irqs
+  unfolding serves spared_by
   serves_stays service.CreateThread =
       creates_spare (words_place s.memory (argument s.core 0) PARAM_WORDS)
   serves_stays service.ReferThreadStatus =

@@ -2,16 +2,15 @@
 use Rattle.std.proofs.Common.{◌≡◌, ℕ, Some}
 use Rattle.iop_exec.specs.declared.cpu.Cpu.{Cpu}
 use Rattle.iop_thread.specs.Operations as threads
-use Rattle.iop_kernel.specs.Deliveries.{Delivered, raises, delivers}
+use Rattle.iop_kernel.specs.Deliveries.{Delivered, delivers}
 use Rattle.iop_kernel.specs.Dispatching.{Dispatched, dispatches}
 use Rattle.iop_kernel.specs.Serving.{services}
 use Rattle.iop_kernel.specs.System.{Kernel, Core, System, beginning}
 use Rattle.iop_kernel.proofs.KeepingCore.{WaitsHold}
 use Rattle.iop_kernel.proofs.OverdueDeliveries.{delivers_overdue}
 use Rattle.iop_kernel.proofs.OverdueDispatches.{dispatches_overdue, begins_overdue, ends_running_overdue, clock_overdue, opening_overdue}
-use Rattle.iop_kernel.proofs.OverdueKernels.{beside_in_time}
 use Rattle.iop_kernel.proofs.OverdueServices.{services_overdue}
-use Rattle.iop_kernel.proofs.PlacingBasics.{clock_place, beside_placed}
+use Rattle.iop_kernel.proofs.PlacingBasics.{clock_place}
 use Rattle.iop_kernel.proofs.PlacingDeliveries.{delivers_placed}
 use Rattle.iop_kernel.proofs.PlacingOpening.{opening_placed}
 use Rattle.iop_kernel.proofs.PlacingServices.{services_place, dispatches_place, begins_place, ends_running_place}
@@ -42,13 +41,6 @@ pub waits_delivered : (c : Core) (d : Delivered) → WaitsHold c.kernel → deli
 waits_delivered c d h made = record {
   placed = delivers_placed c d h.placed made;
   overdue = delivers_overdue c d h.overdue made;
-}
-
--- when a line is raised
-pub waits_raised : (k : Kernel) (line : ℕ) → WaitsHold k → WaitsHold (raises k line)
-waits_raised k line h = record {
-  placed = beside_placed _ _ _ _ _ h.placed;
-  overdue = beside_in_time k h.overdue _ _ _ _ _ _;
 }
 
 -- when the loader's thread begins

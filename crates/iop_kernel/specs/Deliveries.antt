@@ -12,7 +12,7 @@ use Rattle.iop_time.specs.Timers.{Timers}
 use Rattle.iop_time.specs.Turns.{next_moment}
 use Rattle.iop_time.specs.declared.due.Due.{Due}
 use Rattle.iop_time.specs.declared.due.Due.TheVariants as due
-use Rattle.iop_kernel.specs.Handlers.{begins_handler}
+use Rattle.iop_kernel.specs.Handlers.{alarm_handler, begins_handler}
 use Rattle.iop_kernel.specs.System.{Kernel, Core, in_handler, with_timers, with_irqs}
 use Rattle.iop_kernel.specs.Waits.{wakes_with}
 use Rattle.iop_kernel.specs.declared.active_handler.Cause.TheVariants as causes
@@ -41,7 +41,7 @@ module _ (c : Core) where
   delivers_line line (Some handler) =
       let lowered = with_irqs c (delivering c.kernel.irqs line) in
       Some (record {
-        core = begins_handler lowered (causes.Line line) handler.address handler.arg handler.gp;
+        core = begins_handler lowered (causes.Line line) handler;
         line = Traced (line_bytes c.kernel.clock (lines.Irq line));
       })
 
@@ -49,8 +49,8 @@ module _ (c : Core) where
   abbrev pub delivers_due : Option Due × Timers → Option Delivered
   delivers_due (None, left) = None
   delivers_due (Some (due.Alarm alarm), left) = Some (record {
-    core = begins_handler (with_timers c left) (causes.Alarm alarm.number) alarm.handler alarm.arg
-        alarm.gp;
+    core = begins_handler (with_timers c left) (causes.Alarm alarm.number)
+        (alarm_handler alarm);
     line = Traced (line_bytes c.kernel.clock (lines.Alarm alarm.number));
   })
   delivers_due (Some (due.Delay delay), left) = Some (record {

@@ -14,7 +14,7 @@ use Rattle.iop_time.specs.declared.alarm.Alarm.{Alarm}
 use Rattle.iop_time.specs.declared.delay.Delay.{Delay}
 use Rattle.iop_time.specs.declared.due.Due.TheVariants as due
 use Rattle.iop_kernel.specs.Deliveries.{Delivered, may_deliver, delivers, next_look}
-use Rattle.iop_kernel.specs.Handlers.{handler_registers, handler_for}
+use Rattle.iop_kernel.specs.Handlers.{alarm_handler, handler_registers, handler_for}
 use Rattle.iop_kernel.specs.Laws.{IsCore}
 use Rattle.iop_kernel.specs.Overdue.{NoMomentHasCome}
 use Rattle.iop_kernel.specs.System.{Kernel, Core}
@@ -27,9 +27,9 @@ abbrev pub NoLineComes : Kernel → Type 0
 NoLineComes k = (n : ℕ) → CanBeDelivered (line_of k.irqs n) → ⊥
 
 -- a handler begins for this, and what the processor had is kept; the threads stay as they were
-pub record Begins (c : Core) (d : Delivered) (cause : Cause) (address arg gp : ℕ) : Type 0 where
-  pub handler : d.core.kernel.handler ≡ Some (handler_for cause c.cpu)
-  pub registers : d.core.cpu ≡ handler_registers address arg gp
+pub record Begins (c : Core) (d : Delivered) (cause : Cause) (handler : Handler) : Type 0 where
+  pub active : d.core.kernel.handler ≡ Some (handler_for cause c.cpu)
+  pub registers : d.core.cpu ≡ handler_registers handler
   pub threads : d.core.kernel.threads ≡ c.kernel.threads
 
 -- the lowest line that can be delivered is delivered
@@ -39,7 +39,7 @@ pub record DeliversLine (c : Core) (d : Delivered) (line : ℕ) : Type 0 where
   pub timers : d.core.kernel.timers ≡ c.kernel.timers
   pub handler : Handler
   pub registered : (line_of c.kernel.irqs line).handler ≡ Some handler
-  pub begins : Begins c d (causes.Line line) handler.address handler.arg handler.gp
+  pub begins : Begins c d (causes.Line line) handler
   pub told : d.line ≡ Traced (line_bytes c.kernel.clock (lines.Irq line))
 
 -- an alarm is delivered, before which nothing comes; it stands on
@@ -48,7 +48,8 @@ pub record DeliversAlarm (c : Core) (d : Delivered) (alarm : Alarm) : Type 0 whe
   pub irqs : d.core.kernel.irqs ≡ c.kernel.irqs
   pub next : IsNext c.kernel.timers c.kernel.clock alarm.moment alarm.number
   pub taken : IsTaken c.kernel.timers d.core.kernel.timers (due.Alarm alarm)
-  pub begins : Begins c d (causes.Alarm alarm.number) alarm.handler alarm.arg alarm.gp
+  pub begins : Begins c d (causes.Alarm alarm.number)
+      (alarm_handler alarm)
   pub told : d.line ≡ Traced (line_bytes c.kernel.clock (lines.Alarm alarm.number))
 
 -- a delay is delivered, before which nothing comes: it is gone, and its thread is woken with 0

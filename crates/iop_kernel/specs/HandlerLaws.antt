@@ -1,5 +1,5 @@
 -- What the laws of handlers say: what a result does to the line or the alarm that it is for.
-use Rattle.std.specs.Prelude.{◌≡◌, ◌≢◌, ℕ, true, false, Some, IsSome, List}
+use Rattle.std.specs.Prelude.{◌≡◌, ◌≢◌, ℕ, true, false, Some, None, IsSome, List, All}
 use Rattle.iop_exec.specs.Row.{reg}
 use Rattle.iop_intr.specs.InterruptLines.{IrqLine, line_of}
 use Rattle.iop_time.specs.Laws.{AlarmsAreGone, IsSetAgain}
@@ -12,20 +12,25 @@ use Rattle.iop_kernel.specs.declared.active_handler.Cause.{Cause}
 use Rattle.iop_kernel.specs.declared.active_handler.Cause.TheVariants.{Line, Alarm}
 
 -- 0 disables a line, also where it was enabled meanwhile; another result enables it where it still
--- has a handler. It stays raised or not and keeps its handler, and all other lines are as they were
+-- has a handler, and changes nothing where it has none. It stays raised or not and keeps its
+-- handler, and all other lines are as they were
 pub record LineIsGiven (line value : ℕ) (old left : List IrqLine) : Type 0 where
   pub zero : value ≡ 0 → (line_of left line).enabled ≡ false
   pub another : value ≢ 0 → IsSome (line_of old line).handler
       → (line_of left line).enabled ≡ true
+  pub no_handler : value ≢ 0 → (line_of old line).handler ≡ None
+      → (line_of left line).enabled ≡ (line_of old line).enabled
   pub raised : (line_of left line).raised ≡ (line_of old line).raised
   pub handler : (line_of left line).handler ≡ (line_of old line).handler
   pub others : (n : ℕ) → n ≢ line → line_of left n ≡ line_of old n
 
 -- 0 removes an alarm; another result sets it again, so many ticks after its old moment, with its
--- number. No other alarm and no delay changes; where the alarm was cancelled nothing does
+-- number. No other alarm and no delay changes; where the alarm was cancelled, so that none has its
+-- number, nothing does
 pub record AlarmIsGiven (number value : ℕ) (old left : Timers) : Type 0 where
   pub zero : value ≡ 0 → AlarmsAreGone old left (λ alarm. alarm.number ≡ number)
   pub another : value ≢ 0 → IsSetAgain old left number value
+  pub cancelled : All (λ alarm. alarm.number ≢ number) old.alarms → left ≡ old
 
 -- a result was given to what the handler was begun for, and to nothing else
 abbrev pub ResultIsGiven : Cause → (value : ℕ) → (old left : Kernel) → Type 0

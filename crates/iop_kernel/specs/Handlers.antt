@@ -5,9 +5,11 @@ use Rattle.std.specs.Prelude.{ℕ, ◌==◌, true, if◌then◌else◌, Option, 
 use Rattle.iop_base.specs.declared.guest_fault.GuestFault.TheVariants.{Service}
 use Rattle.iop_exec.specs.Row.{reg, with_reg}
 use Rattle.iop_exec.specs.declared.cpu.Cpu.{Cpu}
-use Rattle.iop_intr.specs.InterruptLines.{finishing}
+use Rattle.iop_intr.specs.InterruptLines.{finishing, handler_of}
+use Rattle.iop_intr.specs.declared.handler.Handler.{Handler}
 use Rattle.iop_thread.specs.States.{zeroed_at}
 use Rattle.iop_time.specs.Timers.{Timers, removes, sets_again}
+use Rattle.iop_time.specs.declared.alarm.Alarm.{Alarm as TimedAlarm}
 use Rattle.iop_kernel.specs.System.{Kernel, Core, Left, switches, faults}
 use Rattle.iop_kernel.specs.declared.active_handler.ActiveHandler.{ActiveHandler}
 use Rattle.iop_kernel.specs.declared.active_handler.Cause.{Cause}
@@ -16,19 +18,23 @@ use Rattle.iop_kernel.specs.declared.active_handler.TheConstants.{HANDLER_RETURN
 
 -- the registers with which a handler begins: all zero but `$a0` its argument, `$gp` that of who
 -- registered it, `$sp` in the handlers' stack, `$ra` where a handler returns to
-abbrev pub handler_registers : (address arg gp : ℕ) → Cpu
-handler_registers address arg gp =
-    with_reg (with_reg (with_reg (with_reg (zeroed_at address) 4 arg) 28 gp) 29 HANDLER_STACK)
-    31 HANDLER_RETURN
+abbrev pub handler_registers : Handler → Cpu
+handler_registers handler =
+    let with_arg = with_reg (zeroed_at handler.address) 4 handler.arg in
+    with_reg (with_reg (with_reg with_arg 28 handler.gp) 29 HANDLER_STACK) 31 HANDLER_RETURN
+
+-- that of an alarm
+abbrev pub alarm_handler : TimedAlarm → Handler
+alarm_handler alarm = handler_of alarm.handler alarm.arg alarm.gp
 
 abbrev pub handler_for : Cause → (kept : Cpu) → ActiveHandler
 handler_for cause kept = record { cause = cause; kept = kept }
 
 -- a handler begins; the registers of the thread that ran are kept
-abbrev pub begins_handler : Core → Cause → (address arg gp : ℕ) → Core
-begins_handler c cause address arg gp = record {
+abbrev pub begins_handler : Core → Cause → Handler → Core
+begins_handler c cause handler = record {
   kernel = record c.kernel { handler = Some (handler_for cause c.cpu) };
-  cpu = handler_registers address arg gp;
+  cpu = handler_registers handler;
 }
 
 -- what its handler's result does to an alarm: 0 removes it, another number sets it again, so many

@@ -5,7 +5,7 @@ use Rattle.iop_base.specs.Piece.{Piece, Traced}
 use Rattle.iop_base.specs.Text.{line_bytes}
 use Rattle.iop_base.specs.declared.line.Line.TheVariants.{Run}
 use Rattle.iop_exec.specs.declared.cpu.Cpu.{Cpu}
-use Rattle.iop_exec.specs.Positions.{IsStraight}
+use Rattle.iop_exec.specs.Processors.{IsStraight}
 use Rattle.iop_objects.specs.Objects.{Objects, state_of, waiters_of}
 use Rattle.iop_objects.specs.declared.waiter.Waiter.{Waiter}
 use Rattle.iop_stubs.specs.Stubs.{Memory, after_store, store_lines}
@@ -150,13 +150,17 @@ serves_kernel library = nat_le INTRMAN library && nat_le library THMSGBX
 
 -- only the services of an object's own library change what is known of it; those of intrman alone
 -- change the interrupt lines, and nothing else but whether interrupts are on; those of thbase alone
--- change alarms and delays; and the services of the other libraries leave the kernel as it was
+-- change alarms and delays and whether dispatch is enabled, and beside intrman's alone whether
+-- interrupts are on; and the services of the other libraries leave the kernel as it was
 pub record ServicesStayApart (s : System) (library number : ℕ) (left : Kernel) : Type 0 where
   pub kernel : serves_kernel library ≡ false → left ≡ s.core.kernel
   pub intrman : library ≡ INTRMAN
       → left ≡ record s.core.kernel { interrupts = left.interrupts; irqs = left.irqs }
   pub irqs : library ≢ INTRMAN → left.irqs ≡ s.core.kernel.irqs
   pub timers : library ≢ THBASE → left.timers ≡ s.core.kernel.timers
+  pub interrupts : library ≢ INTRMAN → library ≢ THBASE
+      → left.interrupts ≡ s.core.kernel.interrupts
+  pub dispatching : library ≢ THBASE → left.dispatching ≡ s.core.kernel.dispatching
   pub handler : left.handler ≡ s.core.kernel.handler
   pub libraries : serves_kernel library ≡ true
       → (calls_library library number s).left.state.libraries ≡ s.libraries

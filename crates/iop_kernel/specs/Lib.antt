@@ -18,6 +18,7 @@ pub mod Laws
 pub mod DeliveryLaws
 pub mod HandlerLaws
 pub mod StatusLaws
+pub mod TimeLaws
 pub mod WakingLaws
 pub mod Boards
 pub mod EventFlags

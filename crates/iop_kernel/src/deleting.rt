@@ -1,6 +1,5 @@
 //! The deletion of threads.
 
-ghost use Rattle.std.specs.Prelude.{◌≡◌};
 ghost use Rattle.iop_exec.specs.declared.cpu.Cpu.{Cpu as Processor};
 ghost use Rattle.iop_thread.specs.Operations.{deletes};
 ghost use Rattle.iop_kernel.specs.System.{Kernel as State};

@@ -12,6 +12,7 @@ use crate::active_handler::Cause;
 use crate::kernel::Kernel;
 use iop_base::{Code, Line, Lines};
 use iop_exec::Cpu;
+use iop_intr::Handler;
 use iop_ready::Ready;
 use iop_time::Due;
 
@@ -76,8 +77,7 @@ impl<R: Ready> Kernel<R> {
     {
         let handler = self.irqs.deliver(line);
         lines.line(self.clock, Line::Irq(u32::from(line)));
-        let cause = Cause::Line(line);
-        self.begin_handler(cause, handler.address, handler.arg, handler.gp, cpu);
+        self.begin_handler(Cause::Line(line), handler, cpu);
         true
     }
 
@@ -93,8 +93,12 @@ impl<R: Ready> Kernel<R> {
         match self.timers.take_due(self.clock) {
             Some(Due::Alarm(alarm)) => {
                 lines.line(self.clock, Line::Alarm(alarm.number));
-                let cause = Cause::Alarm(alarm.number);
-                self.begin_handler(cause, alarm.handler, alarm.arg, alarm.gp, cpu);
+                let handler = Handler {
+                    address: alarm.handler,
+                    arg: alarm.arg,
+                    gp: alarm.gp,
+                };
+                self.begin_handler(Cause::Alarm(alarm.number), handler, cpu);
                 true
             }
             Some(Due::Delay(delay)) => {

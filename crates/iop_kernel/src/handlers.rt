@@ -10,41 +10,34 @@ use crate::after::After;
 use crate::kernel::Kernel;
 use iop_base::GuestFault;
 use iop_exec::Cpu;
+use iop_intr::Handler;
 use iop_ready::Ready;
 use iop_thread::registers_at;
 
 /// Makes the registers with which a handler begins: all zero but `$a0` its argument, `$gp` that of
 /// who registered it, `$sp` in the handlers' stack, `$ra` where a handler returns to.
-fn handler_registers(address: u32, arg: u32, gp: u32) -> Cpu
-    ensures { result ≡ handler_registers address arg gp }
+fn handler_registers(handler: Handler) -> Cpu
+    ensures { result ≡ handler_registers handler }
 {
-    let mut registers = registers_at(address);
-    registers.regs[4] = arg;
-    registers.regs[28] = gp;
+    let mut registers = registers_at(handler.address);
+    registers.regs[4] = handler.arg;
+    registers.regs[28] = handler.gp;
     registers.regs[29] = HANDLER_STACK;
     registers.regs[31] = HANDLER_RETURN;
     registers
 }
 
 impl<R: Ready> Kernel<R> {
-    /// Lets a handler begin at a guest address, with its argument and its `$gp`. The processor's
-    /// registers are kept.
-    pub(crate) fn begin_handler(
-        &mut self,
-        cause: Cause,
-        address: u32,
-        arg: u32,
-        gp: u32,
-        cpu: &mut Cpu,
-    )
+    /// Lets a handler begin. The processor's registers are kept.
+    pub(crate) fn begin_handler(&mut self, cause: Cause, handler: Handler, cpu: &mut Cpu)
         requires cause { IsCause cause }
         ensures kernel { (k : State) → Holds R.stands self.old k
             → let c = core k cpu.old in
-            Holds R.stands self.new (begins_handler c cause address arg gp).kernel }
-        ensures processor { cpu.new ≡ handler_registers address arg gp }
+            Holds R.stands self.new (begins_handler c cause handler).kernel }
+        ensures processor { cpu.new ≡ handler_registers handler }
     {
         self.handler = Some(ActiveHandler { cause, kept: *cpu });
-        *cpu = handler_registers(address, arg, gp);
+        *cpu = handler_registers(handler);
     }
 
     /// Does what a handler's result does to its line or its alarm.

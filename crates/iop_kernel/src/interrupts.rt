@@ -1,6 +1,5 @@
 //! The services of `intrman`.
 
-ghost use Rattle.std.specs.Prelude.{◌≡◌};
 ghost use Rattle.iop_kernel.specs.Interrupts.{register_handler, release_handler, enable_line, disable_line, disable_interrupts, enable_interrupts, suspend_interrupts, resume_interrupts, query_context};
 ghost use Rattle.iop_kernel.specs.Standing.{Holds, TakesCore, TakesBoard, core, board};
 ghost use Rattle.iop_kernel.specs.System.{Kernel as State};

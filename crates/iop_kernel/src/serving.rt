@@ -1,6 +1,6 @@
 //! What a `syscall` asks of the kernel.
 
-ghost use Rattle.std.specs.Prelude.{◌≡◌, List, length};
+ghost use Rattle.std.specs.Prelude.{◌≡◌, List};
 ghost use Rattle.iop_registry.specs.declared.registry.Entry.{Entry};
 ghost use Rattle.iop_kernel.specs.System.{Kernel as State};
 ghost use Rattle.iop_kernel.specs.Serving.{wanted, serves_core, serves_board, answers_by, serves, calls_library, services};

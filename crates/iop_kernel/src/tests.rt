@@ -1,4 +1,5 @@
-ghost use Rattle.std.specs.Prelude.{◌+◌, ◌≤◌, IfOk};
+ghost use Rattle.std.specs.Prelude.{◌+◌, ◌<◌, ◌≤◌, IfOk};
+ghost use Rattle.iop_intr.specs.declared.irqs.TheConstants.{IRQ_LINES};
 ghost use Rattle.iop_ready.specs.ReadyList.{StandsFor};
 ghost use Rattle.iop_kernel.specs.Standing.{IsSound};
 
@@ -14,6 +15,10 @@ use std::process::Abort;
 use std::test::Fail;
 
 /// The codes of the services.
+const REGISTER_HANDLER: u32 = 0x204;
+
+const ENABLE_LINE: u32 = 0x206;
+
 const CREATE: u32 = 0x304;
 
 const START: u32 = 0x306;
@@ -108,7 +113,7 @@ impl World {
         })
     }
 
-    /// Dispatches, and answers whether it was made, and the last line.
+    /// Dispatches, and answers whether it was made, and the last line of the trace.
     fn dispatch(&mut self) -> (bool, Option<Line>)
         requires sound { IsSound StandsFor self.old.kernel }
         requires few { self.old.kernel.timers.next ≤ self.old.calls + 1 }
@@ -117,6 +122,17 @@ impl World {
     {
         let taken = self.kernel.dispatch(&mut self.cpu, &mut self.lines);
         (taken, self.lines.line)
+    }
+
+    /// Raises an interrupt line and delivers, and answers whether something was delivered, and the
+    /// last line of the trace.
+    fn deliver(&mut self, line: u8) -> (bool, Option<Line>)
+        requires sound { IsSound StandsFor self.old.kernel }
+        requires line { line < IRQ_LINES }
+    {
+        self.kernel.raise(line);
+        let delivered = self.kernel.deliver(&mut self.cpu, &mut self.lines);
+        (delivered, self.lines.line)
     }
 
     /// Makes the `syscall` of a code, and answers what becomes of its caller, and `$v0` then.
@@ -240,5 +256,19 @@ fn semaphores_count_and_wake(rt: HostRuntime) -> Result<(), Fail> {
     assert_eq!(rt; world.dispatch(), (true, Some(Line::Run(2))));
     assert_eq!(rt; world.cpu.regs[2].cast_signed(), -425);
     assert_eq!(rt; world.call(&rt, POLL_SEMA, 1, 0), goes_on(-408));
+    Ok(())
+}
+
+#[test]
+fn lines_are_delivered(rt: HostRuntime) -> Result<(), Fail> {
+    let mut world = World::new(rt.alloc())?;
+    assert_eq!(rt; world.dispatch(), (true, Some(Line::Run(1))));
+    world.cpu.regs[6] = 0x1_0000;
+    world.cpu.regs[7] = 7;
+    assert_eq!(rt; world.call(&rt, REGISTER_HANDLER, 5, 0), goes_on(0));
+    assert_eq!(rt; world.call(&rt, ENABLE_LINE, 5, 0), goes_on(0));
+    assert_eq!(rt; world.deliver(5), (true, Some(Line::Irq(5))));
+    assert_eq!(rt; world.cpu.pc, 0x1_0000);
+    assert_eq!(rt; world.cpu.regs[4], 7);
     Ok(())
 }

@@ -1,6 +1,5 @@
 //! How threads wait, are woken, suspended and resumed.
 
-ghost use Rattle.std.specs.Prelude.{◌≡◌};
 ghost use Rattle.iop_kernel.specs.System.{Kernel as State};
 ghost use Rattle.iop_kernel.specs.Standing.{Holds, IsHeld, TakesCore, core};
 ghost use Rattle.iop_kernel.specs.Waiting.{releases_from, release_wait, waits, sleep_thread, wakeup_thread, cancel_wakeups, suspend_thread, resume_thread};

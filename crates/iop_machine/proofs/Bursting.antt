@@ -10,7 +10,8 @@ use Rattle.iop_stubs.specs.Stubs.{access_place, Memory, store_lines}
 use Rattle.iop_base.proofs.Giving.{gives_none}
 use Rattle.iop_base.proofs.Lists.{length-bytes_of}
 use Rattle.iop_exec.specs.declared.position.Position.{Position}
-use Rattle.iop_exec.specs.Positions.{position_of, standing_at}
+use Rattle.iop_exec.specs.declared.registers.Registers.{Registers}
+use Rattle.iop_exec.specs.Processors.{cpu_of, position_of, registers_of, standing_at}
 use Rattle.iop_kernel.specs.System.{is_active}
 use Rattle.iop_kernel.proofs.PlacingBasics.{clock_place}
 use Rattle.iop_kernel.specs.Standing.{HasNumber}
@@ -181,12 +182,15 @@ bursts_none m s budget a h runs well = record {
 }
 
 -- where its processor and its clock are the machine's own
-pub bursts_first : (m : Program) (clock budget : ℕ) (a : Output) → clock ≡ m.kernel.clock
-    → a.failed ≡ false → (s : Iop) → Stands m s → RunsFor s budget
-    → Bursts (booted s) budget budget (held m m.cpu m.guest clock) a a
-bursts_first m clock budget a e well s h runs =
-    subst (λ n. Bursts (booted s) budget budget (held m m.cpu m.guest n) a a) (sym e)
-    (bursts_none m s budget a h runs well)
+pub bursts_first : (m : Program) (registers : Registers) (position : Position) (clock budget : ℕ)
+    (a : Output) → registers ≡ registers_of m.cpu → position ≡ position_of m.cpu
+    → clock ≡ m.kernel.clock → a.failed ≡ false → (s : Iop) → Stands m s → RunsFor s budget
+    → Bursts (booted s) budget budget (held m (cpu_of registers position) m.guest clock) a a
+bursts_first m registers position clock budget a r p e well s h runs =
+    subst (λ x. Bursts (booted s) budget budget (held m (cpu_of x position) m.guest clock) a a) (sym r)
+    (subst (λ x. Bursts (booted s) budget budget (held m (cpu_of (registers_of m.cpu) x) m.guest clock) a a) (sym p)
+    (subst (λ x. Bursts (booted s) budget budget (held m m.cpu m.guest x) a a) (sym e)
+    (bursts_none m s budget a h runs well)))
 
 -- the machine itself, whose memory is now this, stands for a state in which something executes
 pub burst_runs : {first : Program} {budget left clock : ℕ} {cpu : Cpu} {a b : Output} (m : Program)

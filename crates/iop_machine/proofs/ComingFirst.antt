@@ -7,13 +7,11 @@ use Rattle.std.proofs.lemmas.List.Elements.{All-nil, Contains-append_right}
 use Rattle.iop_script.specs.declared.raise.Raise.{Raise}
 use Rattle.iop_time.proofs.Nexts.{next_moment_is_least}
 use Rattle.iop_time.specs.Laws.{Stands, IsNextMoment}
-use Rattle.iop_time.specs.Timers.{Timers}
 use Rattle.iop_time.specs.Turns.{next_moment}
 use Rattle.iop_time.specs.declared.ticks.TheConstants.{NEVER}
 use Rattle.iop_machine.specs.EventLaws.{IsNextComing, NothingComes, NextComingIsLeast}
 use Rattle.iop_machine.specs.Events.{earlier, earlier_with, next_tick}
 use Rattle.iop_machine.specs.Iop.{Iop}
-use Rattle.iop_machine.specs.Looking.{next_coming}
 use Rattle.iop_machine.proofs.EventLemmas.{IsNextTick, next_tick_is}
 
 -- an event has this tick

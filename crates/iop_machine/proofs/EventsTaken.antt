@@ -5,7 +5,7 @@ use Rattle.std.proofs.lemmas.List.Elements.{All-contains}
 use Rattle.iop_base.specs.declared.stop.Stop.{Stop}
 use Rattle.iop_kernel.specs.Laws.{IsCore}
 use Rattle.iop_script.specs.declared.raise.Raise.{Raise}
-use Rattle.iop_machine.specs.EventLaws.{TakesItsEvents, StepsTakeTheirEvents}
+use Rattle.iop_machine.specs.EventLaws.{StepsTakeTheirEvents}
 use Rattle.iop_machine.specs.Events.{left_events}
 use Rattle.iop_machine.specs.Iop.{Iop, Transition, core_of}
 use Rattle.iop_machine.specs.Laws.{RunsKeepEvents}

@@ -7,7 +7,7 @@ use Rattle.iop_kernel.specs.System.{is_active}
 use Rattle.iop_machine.specs.Iop.{Iop, core_of}
 use Rattle.iop_machine.specs.Looking.{takes_events}
 use Rattle.iop_machine.specs.Stepping.{executes, executes_by}
-use Rattle.iop_machine.specs.World.{booted}
+use Rattle.iop_machine.specs.World.{World}
 use Rattle.iop_machine.proofs.Stepping.{Looks, looks_now, executes_are}
 
 -- it is not stopped, and nothing is delivered or dispatched before
@@ -16,17 +16,18 @@ pub record Executes (s : Iop) : Type 0 where
   pub looks : Looks s None None true
 
 -- by what there is
-executes_only : (s : Iop) (o : Option Stop) (delivery : Option Delivered)
+executes_only : (s : Iop) (o : Option Stop) (is_new : Bool) (delivery : Option Delivered)
     (dispatch : Option Dispatched) (active : Bool) → s.over ≡ o → Looks s delivery dispatch active
-    → executes_by o false delivery dispatch active ≡ true → Executes s
-executes_only s (Some stop) delivery dispatch active over looks e = absurd (cc e)
-executes_only s None (Some d) dispatch active over looks e = absurd (cc e)
-executes_only s None None (Some d) active over looks e = absurd (cc e)
-executes_only s None None None false over looks e = absurd (cc e)
-executes_only s None None None true over looks e = record { over = over; looks = looks }
+    → executes_by o is_new delivery dispatch active ≡ true → Executes s
+executes_only s (Some stop) is_new delivery dispatch active over looks e = absurd (cc e)
+executes_only s None true delivery dispatch active over looks e = absurd (cc e)
+executes_only s None false (Some d) dispatch active over looks e = absurd (cc e)
+executes_only s None false None (Some d) active over looks e = absurd (cc e)
+executes_only s None false None None false over looks e = absurd (cc e)
+executes_only s None false None None true over looks e = record { over = over; looks = looks }
 
-pub executes_so : (s : Iop) → executes (booted s) ≡ true → Executes s
-executes_so s e =
-    let v = takes_events s in
-    executes_only s s.over (delivers (core_of v)) (dispatches (core_of v)) (is_active v.kernel)
-    refl (looks_now s) (sym (executes_are (booted s)) ∙ e)
+pub executes_so : (w : World) → executes w ≡ true → Executes w.iop
+executes_so w e =
+    let v = takes_events w.iop in
+    executes_only w.iop w.iop.over w.is_new (delivers (core_of v)) (dispatches (core_of v))
+    (is_active v.kernel) refl (looks_now w.iop) (sym (executes_are w) ∙ e)

@@ -244,6 +244,6 @@ module _ (w : World) (machine : IsMachine w) (over : w.iop.over ≡ None) where
       omega (arith, goes_on, executing, before, after)
 
   -- each step that executes no instruction leaves fewer of them, and one that executes an
-  -- instruction fewer than 600 more
+  -- instruction at most `most_between` more
   pub rest_step : rest (step w).state + 1 ≤ rest w + (most_between + 1) * one_if (executes w)
   rest_step = rest_after w.is_new refl

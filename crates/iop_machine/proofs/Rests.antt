@@ -1,5 +1,5 @@
 -- How many steps execute no instruction at most, if no more instruction is executed.
-use Rattle.std.proofs.Common.{◌≡◌, ℕ, ◌+◌, ◌*◌, ◌≤◌, Bool, true, false, not, Option, Some, None, length, refl, ap, sym, ◌∙◌, arith, subst}
+use Rattle.std.proofs.Common.{◌≡◌, ℕ, ◌+◌, ◌*◌, ◌<◌, ◌≤◌, Bool, true, false, not, Option, Some, None, length, refl, ap, sym, ◌∙◌, arith, subst}
 use Rattle.std.specs.Prelude.{is_some}
 use Rattle.iop_base.specs.declared.stop.Stop.{Stop}
 use Rattle.iop_exec.specs.Arithmetic.{one_if}
@@ -129,7 +129,7 @@ one_at_most true = omega arith
 one_at_most false = omega arith
 
 -- so the steps are few
-pub rest_bounded : (s : Iop) → HasFewDelays s → rest (booted s) ≤ length s.events + 515
+pub rest_bounded : (s : Iop) → HasFewDelays s → rest (booted s) < length s.events + most_between
 rest_bounded s few =
     let v = takes_events s in
     let left = left_few s.kernel.clock s.events in

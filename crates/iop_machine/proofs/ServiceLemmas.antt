@@ -3,7 +3,7 @@ use Rattle.std.proofs.Common.{◌≡◌, ℕ, true, false, Option, Some, None, L
 use Rattle.std.specs.Prelude.{is_some}
 use Rattle.iop_base.specs.Output.{Output, Gives}
 use Rattle.iop_base.specs.declared.guest_fault.GuestFault.{GuestFault}
-use Rattle.iop_exec.specs.Positions.{standing_at}
+use Rattle.iop_exec.specs.Processors.{standing_at}
 use Rattle.iop_exec.specs.declared.cpu.Cpu.{Cpu}
 use Rattle.iop_exec.specs.declared.position.Position.{Position}
 use Rattle.iop_kernel.specs.Laws.{ServiceKeeps}

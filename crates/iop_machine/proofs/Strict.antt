@@ -1,85 +1,107 @@
 -- What each step of a run shows of its threads, and that alarms, delays and threads are on time.
-use Rattle.std.proofs.Common.{◌≡◌, ℕ, suc, ◌^◌, Bool, true, false, ◌&&◌, not, Option, Some, None, refl, ap, sym, ◌∙◌, subst}
+use Rattle.std.proofs.Common.{◌≡◌, ℕ, zero, suc, Bool, true, false, ◌&&◌, not, Option, Some, None, [], ◌∷◌, refl, ap, sym, ◌∙◌, subst}
 use Rattle.std.specs.Prelude.{IfSome, is_some}
-use Rattle.iop_kernel.specs.Deliveries.{Delivered, delivers}
-use Rattle.iop_kernel.specs.Dispatching.{Dispatched, dispatches}
+use Rattle.iop_base.specs.Piece.{Piece}
+use Rattle.iop_base.specs.declared.stop.Stop.{Stop}
+use Rattle.iop_kernel.specs.Deliveries.{delivers}
+use Rattle.iop_kernel.specs.Dispatching.{dispatches}
 use Rattle.iop_kernel.specs.Laws.{IsCore}
 use Rattle.iop_kernel.specs.System.{Core, in_handler, is_active, may_dispatch}
 use Rattle.iop_kernel.specs.declared.active_handler.ActiveHandler.{ActiveHandler}
 use Rattle.iop_kernel.proofs.DeliveriesFirst.{deliveries_are_in_order}
 use Rattle.iop_kernel.proofs.Strict.{dispatches_are_strict}
-use Rattle.iop_machine.specs.Iop.{Iop, Transition, core_of}
-use Rattle.iop_machine.specs.Laws.{IsMachine, IsStrict, RunsAreStrict, IsOnTime, RunsAreOnTime, IsAwake, RunsAreAwake}
+use Rattle.iop_time.specs.declared.ticks.TheConstants.{NEVER}
+use Rattle.iop_machine.specs.Iop.{Iop, Transition, core_of, with_core, with_state}
+use Rattle.iop_machine.specs.Laws.{IsMachine, StepsTo, IsStrict, RunsAreStrict, RunsAreOnTime, IsAwake, RunsAreAwake}
 use Rattle.iop_machine.specs.Looking.{takes_events, next_coming}
-use Rattle.iop_machine.specs.Stepping.{steps, executes}
+use Rattle.iop_machine.specs.Stepping.{step, steps, waits_by}
 use Rattle.iop_machine.specs.World.{World, booted, beginning}
 use Rattle.iop_machine.proofs.Coming.{IsBetween, coming_later, idle_by}
 use Rattle.iop_machine.proofs.Executing.{executes_so}
 use Rattle.iop_machine.proofs.KeepingMachine.{begins_as_machine, steps_keep_machine}
 use Rattle.iop_machine.proofs.Landing.{runs_stay_sound}
-use Rattle.iop_machine.proofs.LookingLemmas.{taken_active, takes_again}
+use Rattle.iop_machine.proofs.LookingLemmas.{taken_active}
 use Rattle.iop_machine.proofs.Moving.{takes_move}
-use Rattle.iop_machine.proofs.Stepping.{next_delivers, next_dispatches}
+use Rattle.iop_machine.proofs.Reaching.{steps_zero, steps_suc}
+use Rattle.iop_machine.proofs.Stepping.{Looks, step_over, step_begins, next_delivers, next_dispatches, next_waits}
 
--- behind the events that are due, none is
-module _ (v : Iop) (again : takes_events v ≡ v) where
-  -- what is delivered and dispatched is so at once
-  delivers_again : (o : Option Delivered) → delivers (core_of v) ≡ o
-      → delivers (core_of (takes_events v)) ≡ o
-  delivers_again o is = ap (λ (x : Iop). delivers (core_of x)) again ∙ is
+-- where a step does no more
+steps_to : (w : World) (core : Core) (line : Piece)
+    → step w ≡ record {
+      state = booted (with_core (takes_events w.iop) core);
+      pieces = line ∷ [];
+      bound = [];
+    }
+    → StepsTo w core line
+steps_to w core line is = record {
+  state = ap (λ (t : Transition World). t.state) is;
+  pieces = ap (λ (t : Transition World). t.pieces) is;
+  bound = ap (λ (t : Transition World). t.bound) is;
+}
 
-  dispatches_again : (o : Option Dispatched) → dispatches (core_of v) ≡ o
-      → dispatches (core_of (takes_events v)) ≡ o
-  dispatches_again o is = ap (λ (x : Iop). dispatches (core_of x)) again ∙ is
+-- a machine that was booted dispatches strictly
+is_strict : (s : Iop) → IsCore (core_of (takes_events s)) → s.over ≡ None → IsStrict (booted s)
+is_strict s core over =
+    let v = takes_events s in
+    record {
+      delivery = λ d is. steps_to (booted s) d.core d.line (next_delivers s 0 over d is).step_is;
+      switch = λ d none is. (
+        (dispatches_are_strict.dispatched (core_of v) d core is).switch,
+        steps_to (booted s) d.core d.line (next_dispatches s 0 over d none is).step_is,
+      );
+      settled = λ e may. dispatches_are_strict.settled (core_of v) core
+          (executes_so (booted s) e).looks.dispatch_is may;
+    }
 
-  -- where an instruction is executed nothing is
-  none_delivered : executes (booted v) ≡ true → delivers (core_of v) ≡ None
-  none_delivered e =
-      sym (ap (λ (x : Iop). delivers (core_of x)) again) ∙ (executes_so v e).looks.delivery_is
+-- a step leaves booted what was booted
+step_booted : (w : World) (o : Option Stop) → w.iop.over ≡ o → w.is_new ≡ false
+    → (step w).state.is_new ≡ false
+step_booted w None over new =
+    ap (λ (t : Transition World). t.state.is_new) (step_begins w false over new)
+step_booted w (Some stop) over new =
+    ap (λ (t : Transition World). t.state.is_new) (step_over w stop over) ∙ new
 
-  none_dispatched : executes (booted v) ≡ true → dispatches (core_of v) ≡ None
-  none_dispatched e =
-      sym (ap (λ (x : Iop). dispatches (core_of x)) again) ∙ (executes_so v e).looks.dispatch_is
+-- behind the first step it is booted
+runs_booted : (w : World) (k : ℕ) → w.iop.over ≡ None → (steps (suc k) w).state.is_new ≡ false
+runs_booted w zero over =
+    ap (λ (t : Transition World). t.state.is_new) (steps_suc 0 w)
+    ∙ ap (λ (t : Transition World). (step t.state).state.is_new) (steps_zero w)
+    ∙ ap (λ (t : Transition World). t.state.is_new) (step_begins w w.is_new over refl)
+runs_booted w (suc k) over =
+    let v = (steps (suc k) w).state in
+    ap (λ (t : Transition World). t.state.is_new) (steps_suc (suc k) w)
+    ∙ step_booted v v.iop.over refl (runs_booted w k over)
 
-  -- its dispatches are strict
-  is_strict : IsCore (core_of v) → v.over ≡ None → IsStrict v
-  is_strict core over = record {
-    delivery = λ d is. ap (λ (t : Transition World). t.pieces)
-        (next_delivers v 0 over d (delivers_again (Some d) is)).step_is;
-    switch = λ d none is. (
-      (dispatches_are_strict.dispatched (core_of v) d core is).switch,
-      ap (λ (t : Transition World). t.pieces)
-          (next_dispatches v 0 over d (delivers_again None none)
-          (dispatches_again (Some d) is)).step_is,
-    );
-    settled = λ e may. dispatches_are_strict.settled (core_of v) core (none_dispatched e) may;
-  }
-
-  -- and what was to come has come
-  is_on_time : IsOnTime v
-  is_on_time = λ e handler interrupts slot.
-      deliveries_are_in_order.no_moment (core_of v) (none_delivered e)
-      (may_by v.kernel.interrupts (in_handler v.kernel) (is_some v.kernel.threads.running)
-      v.cpu.in_slot interrupts handler slot)
-    where
-      may_by : (interrupts handler running slot : Bool) → interrupts ≡ true → handler ≡ false
-          → slot ≡ false → (interrupts && not handler && not (running && slot)) ≡ true
-      may_by true false true false e f g = refl
-      may_by true false false false e f g = refl
-      may_by true false running true e f g = absurd (cc g)
-      may_by true true running slot e f g = absurd (cc f)
-      may_by false handler running slot e f g = absurd (cc e)
+run_is_booted : (w : World) (k : ℕ) → w.iop.over ≡ None
+    → booted (steps (suc k) w).state.iop ≡ (steps (suc k) w).state
+run_is_booted w k over =
+    ap (λ b. record { is_new = b; iop = (steps (suc k) w).state.iop }) (sym (runs_booted w k over))
 
 -- in each state that a run reaches and in which it goes on
 pub runs_are_strict : RunsAreStrict
 runs_are_strict = λ size modules events k sized over.
-    let s = (steps (suc k) (beginning size modules events)).state.iop in
-    is_strict (takes_events s) (takes_again s)
-    ((takes_move s).core (runs_stay_sound size modules events (suc k) sized).core) over
+    let first = beginning size modules events in
+    let w = (steps (suc k) first).state in
+    subst IsStrict (run_is_booted first k refl)
+    (is_strict w.iop
+    ((takes_move w.iop).core (runs_stay_sound size modules events (suc k) sized).core) over)
 
--- in each state, behind the script's events that are due
+-- where interrupts are on and no handler is active, outside a delay slot one may be delivered
+may_deliver_by : (interrupts handler running slot : Bool) → interrupts ≡ true → handler ≡ false
+    → slot ≡ false → (interrupts && not handler && not (running && slot)) ≡ true
+may_deliver_by true false true false e f g = refl
+may_deliver_by true false false false e f g = refl
+may_deliver_by true false running true e f g = absurd (cc g)
+may_deliver_by true true running slot e f g = absurd (cc f)
+may_deliver_by false handler running slot e f g = absurd (cc e)
+
+-- what was to come has come, in each state
 pub runs_are_on_time : RunsAreOnTime
-runs_are_on_time = λ s. is_on_time (takes_events s) (takes_again s)
+runs_are_on_time = λ w e handler interrupts slot.
+    let v = takes_events w.iop in
+    deliveries_are_in_order.no_moment (core_of v) (executes_so w e).looks.delivery_is
+    (may_deliver_by v.kernel.interrupts (in_handler v.kernel) (is_some v.kernel.threads.running)
+    v.cpu.in_slot interrupts handler slot)
 
 -- where nothing executes another thread may run
 idle_switches : (c : Core) → IsCore c → is_active c.kernel ≡ false → may_dispatch c.kernel ≡ true
@@ -103,28 +125,32 @@ comes_between : (low high moment : ℕ) (o : Option ℕ) → IfSome o (IsBetween
 comes_between low high moment o between is =
     subst (λ x. IfSome x (IsBetween low high)) is between
 
--- a machine is awake, behind the script's events that are due
-is_awake : (w : World) → IsMachine w → IsAwake (takes_events w.iop)
-is_awake w machine =
-    let s = w.iop in
+-- a machine that was booted is awake
+is_awake : (s : Iop) → IsMachine (booted s) → s.over ≡ None → IsAwake (booted s) (takes_events s)
+is_awake s machine over =
     let v = takes_events s in
-    let once : IsMachine (booted s) = record {
-      whole = machine.whole;
-      none_live = λ e. absurd (cc e);
-      core = machine.core;
-      numbers = machine.numbers;
-      events = machine.events;
-    } in
+    let waits = λ (idle : is_active v.kernel ≡ false) (none : delivers (core_of v) ≡ None)
+    (still : dispatches (core_of v) ≡ None).
+    let looks : Looks s None None false = record { delivery_is = none; dispatch_is = still; active_is = idle } in
+    (next_waits s 0 over looks).step_is in
     record {
       switches = idle_switches (core_of v) ((takes_move s).core machine.core);
       later = λ idle none moment is.
-          comes_between v.kernel.clock (2 ^ 63) moment (next_coming v)
-          (coming_later s once none (sym (taken_active s) ∙ idle)) is;
+          comes_between v.kernel.clock NEVER moment (next_coming v)
+          (coming_later s machine none (sym (taken_active s) ∙ idle)) is;
+      goes_on = λ idle none still moment is.
+          waits idle none still ∙ ap (λ x. with_state booted (waits_by v x)) is;
+      ends = λ idle none still is.
+          waits idle none still ∙ ap (λ x. with_state booted (waits_by v x)) is;
     }
 
 -- in each state that a run reaches and in which it goes on
 pub runs_are_awake : RunsAreAwake
 runs_are_awake = λ size modules events k sized come over.
     let first = beginning size modules events in
-    is_awake (steps (suc k) first).state
-    (steps_keep_machine first (suc k) (begins_as_machine size modules events sized come))
+    let w = (steps (suc k) first).state in
+    let is = run_is_booted first k refl in
+    subst (λ (x : World). IsAwake x (takes_events x.iop)) is
+    (is_awake w.iop
+    (subst IsMachine (sym is)
+    (steps_keep_machine first (suc k) (begins_as_machine size modules events sized come))) over)

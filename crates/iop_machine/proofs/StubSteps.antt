@@ -110,7 +110,7 @@ module _ (s : Iop) (stub : Stub) (h : Executes s) (sound : IsSound s.memory)
 
 pub stubs_are_followed : StubsAreFollowed
 stubs_are_followed = λ s stub e sound has place out.
-    let h = executes_so s e in
+    let h = executes_so (booted s) e in
     record {
       slot = first s stub h sound has place out;
       target = second s stub h sound has place out;

@@ -1,10 +1,11 @@
 -- What one call of `advance` did of a run.
-use Rattle.std.specs.Prelude.{◌≡◌, ℕ, suc, ◌+◌, ◌-◌, ◌*◌, ◌^◌, ◌<◌, not, Bool, true, false, ⊤, Option, Some, None, is_some, [], length}
+use Rattle.std.specs.Prelude.{◌≡◌, ℕ, suc, ◌+◌, ◌-◌, ◌*◌, ◌<◌, not, Bool, true, false, ⊤, Option, Some, None, is_some, [], length}
 use Rattle.iop_base.specs.Output.{Output, Gives}
 use Rattle.iop_base.specs.declared.stop.Stop.{Stop}
 use Rattle.iop_kernel.specs.Deliveries.{delivers}
 use Rattle.iop_kernel.specs.Dispatching.{dispatches}
 use Rattle.iop_exec.specs.Arithmetic.{one_if}
+use Rattle.iop_time.specs.declared.ticks.TheConstants.{NEVER}
 use Rattle.iop_kernel.specs.declared.kernel.Kernel.{Kernel}
 use Rattle.iop_machine.specs.Looking.{takes_events}
 use Rattle.iop_machine.specs.declared.progress.Progress.{Progress}
@@ -100,7 +101,7 @@ module _ {R : Type 0} where
   -- on, at most to 2^63 - 1, and at each moment so much is delivered
   abbrev pub calls_by : Option Stop → (is_new : Bool) → Kernel R → ℕ
   calls_by over is_new k =
-      turns_by over is_new + deliveries_left k + most_between * (2 ^ 63 - k.clock)
+      turns_by over is_new + deliveries_left k + most_between * (NEVER - k.clock)
 
   -- unless a write failed, a call that advanced left fewer instructions or fewer such calls
   abbrev pub IsLess : Progress → (failed : Bool) → Option Stop → (is_new : Bool) → Kernel R

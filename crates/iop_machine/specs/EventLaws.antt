@@ -1,5 +1,5 @@
 -- What the laws of the script's events say, and of what comes next where nothing executes.
-use Rattle.std.specs.Prelude.{◌≡◌, ◌≢◌, ℕ, ◌<◌, ◌≤◌, true, false, None, ◌⊎◌, MatchOption, List, [], length, All, Contains}
+use Rattle.std.specs.Prelude.{◌≡◌, ◌≢◌, ℕ, ◌<◌, ◌≤◌, true, false, None, ◌⊎◌, MatchOption, [], length, All, Contains}
 use Rattle.iop_intr.specs.InterruptLines.{line_of}
 use Rattle.iop_script.specs.declared.raise.Raise.{Raise}
 use Rattle.iop_time.specs.Laws.{Stands}

@@ -1,14 +1,16 @@
 -- The script's events that are still to come: interrupt lines, each of which is raised at its tick.
 -- That those that are due are all taken together is this project's own profile.
-use Rattle.std.specs.Prelude.{◌≡◌, ℕ, ◌^◌, ◌<◌, ◌≤◌, min, nat_le, not, Bool, Option, Some, None, List, ◌∷◌, [], map, filter, fold, length, drop, All, AllPairs}
+use Rattle.std.specs.Prelude.{◌≡◌, ℕ, ◌<◌, ◌≤◌, min, nat_le, not, Bool, Option, Some, None, List, ◌∷◌, [], map, filter, fold, length, drop, All, AllPairs}
+use Rattle.iop_intr.specs.declared.irqs.TheConstants.{IRQ_LINES}
 use Rattle.iop_script.specs.declared.raise.Raise.{Raise}
+use Rattle.iop_time.specs.declared.ticks.TheConstants.{NEVER}
 use Rattle.iop_machine.specs.declared.events.Events.TheInside.{Inside}
 
 -- events that can come in a run: in the order of their ticks, and of lines that there are
 pub record CanCome (events : List Raise) : Type 0 where
   pub order : AllPairs (λ x y. x.at ≤ y.at) events
-  pub ticks : All (λ e. e.at < 2 ^ 63) events
-  pub lines : All (λ e. e.line < 64) events
+  pub ticks : All (λ e. e.at < NEVER) events
+  pub lines : All (λ e. e.line < IRQ_LINES) events
 
 -- whether an event is due at a moment
 abbrev pub is_due : ℕ → Raise → Bool
@@ -44,7 +46,7 @@ events_of e = drop e.taken e.events.items
 abbrev pub TakesDue : Option ℕ → (moment : ℕ) → (old new : List Raise) → Type 0
 TakesDue None moment old new = (new ≡ old) × (due_lines moment old ≡ [])
 TakesDue (Some line) moment old new =
-    (line < 64)
+    (line < IRQ_LINES)
     × (due_lines moment old ≡ line ∷ due_lines moment new)
     × (left_events moment old ≡ left_events moment new)
     × (length new < length old)

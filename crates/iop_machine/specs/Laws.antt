@@ -1,9 +1,11 @@
 -- What the laws on runs and on live stubs say.
 use Rattle.std.specs.Prelude.{◌≡◌, ℕ, suc, ◌+◌, ◌/◌, ◌*◌, ◌^◌, ◌<◌, ◌≤◌, true, ◌⊎◌, false, if◌then◌else◌, Option, Some, None, List, [], ◌∷◌, ◌++◌, length, All, Contains}
 use Rattle.iop_base.specs.Numbers.{wrapped}
+use Rattle.iop_base.specs.Piece.{Piece}
 use Rattle.iop_base.specs.Places.{IsRamSize, phys}
 use Rattle.iop_base.specs.declared.guest_fault.GuestFault.TheVariants.{BranchInSlot}
 use Rattle.iop_base.specs.declared.stop.Stop.{Stop}
+use Rattle.iop_base.specs.declared.stop.Stop.TheVariants.{Quiet}
 use Rattle.iop_exec.specs.declared.cpu.Cpu.{Cpu}
 use Rattle.iop_exec.specs.Row.{Row, Goes, Faults, Storing, row}
 use Rattle.iop_script.specs.declared.raise.Raise.{Raise}
@@ -13,7 +15,7 @@ use Rattle.iop_stubs.specs.declared.live_stub.Stub.{Stub}
 use Rattle.iop_modload.specs.Laws.{HasBlocks}
 use Rattle.iop_machine.specs.Histories.{calls_in}
 use Rattle.iop_machine.specs.Events.{CanCome}
-use Rattle.iop_machine.specs.Looking.{takes_events, next_coming}
+use Rattle.iop_machine.specs.Looking.{takes_events, next_coming, at_moment}
 use Rattle.iop_machine.specs.Running.{Ends}
 use Rattle.iop_machine.specs.Stepping.{step, steps, executes, most_steps, run_of}
 use Rattle.iop_machine.specs.World.{World, booted, beginning}
@@ -22,9 +24,10 @@ use Rattle.iop_kernel.specs.Laws.{IsCore, IsSwitch}
 use Rattle.iop_kernel.specs.Deliveries.{Delivered, delivers}
 use Rattle.iop_kernel.specs.Dispatching.{Dispatched, dispatches}
 use Rattle.iop_kernel.specs.Overdue.{NoMomentHasCome}
-use Rattle.iop_kernel.specs.System.{in_handler, is_active, may_dispatch}
+use Rattle.iop_kernel.specs.System.{Core, in_handler, is_active, may_dispatch}
 use Rattle.iop_thread.specs.Laws.{IsSettled}
-use Rattle.iop_machine.specs.Iop.{Iop, silent, core_of}
+use Rattle.iop_time.specs.declared.ticks.TheConstants.{NEVER}
+use Rattle.iop_machine.specs.Iop.{Iop, silent, core_of, with_core}
 use Rattle.iop_machine.specs.Modules.{Module}
 
 -- the steps of a run are those of its first part and then those of the rest
@@ -161,49 +164,69 @@ StubsAreFollowed =
     → Contains s.memory.live stub → phys (length s.memory.ram) s.cpu.pc ≡ Some stub.at
     → s.cpu.in_slot ≡ false → IsFollowed s stub
 
--- what each step of a run shows of its threads, behind the script's events that are due
-pub record IsStrict (s : Iop) : Type 0 where
-  -- where something is delivered, the step tells its line
-  pub delivery : (d : Delivered) → delivers (core_of s) ≡ Some d
-      → (step (booted s)).pieces ≡ d.line ∷ []
+-- the step leaves the kernel and the processor so, and all else as the script's events that are due
+-- left it; it tells this line alone, and binds no stub
+pub record StepsTo (w : World) (core : Core) (line : Piece) : Type 0 where
+  pub state : (step w).state ≡ booted (with_core (takes_events w.iop) core)
+  pub pieces : (step w).pieces ≡ line ∷ []
+  pub bound : (step w).bound ≡ []
+
+-- what the next step of a run shows of its threads, behind the script's events that are due
+pub record IsStrict (w : World) : Type 0 where
+  -- where something is delivered, the step delivers it, and tells its line
+  pub delivery : (d : Delivered) → delivers (core_of (takes_events w.iop)) ≡ Some d
+      → StepsTo w d.core d.line
   -- where a thread is dispatched, nothing is to be delivered, it is the first of the best priority,
-  -- and the step tells its `run` line
-  pub switch : (d : Dispatched) → delivers (core_of s) ≡ None → dispatches (core_of s) ≡ Some d
-      → IsSwitch (core_of s) d × ((step (booted s)).pieces ≡ d.line ∷ [])
+  -- and the step dispatches it, and tells its `run` line
+  pub switch : (d : Dispatched) → delivers (core_of (takes_events w.iop)) ≡ None
+      → dispatches (core_of (takes_events w.iop)) ≡ Some d
+      → IsSwitch (core_of (takes_events w.iop)) d × StepsTo w d.core d.line
   -- where a thread executes an instruction while another may run, no ready one is better
-  pub settled : executes (booted s) ≡ true → may_dispatch s.kernel ≡ true
-      → IsSettled s.kernel.threads
+  pub settled : executes w ≡ true → may_dispatch (takes_events w.iop).kernel ≡ true
+      → IsSettled (takes_events w.iop).kernel.threads
 
 -- in each state that a run reaches and in which it goes on
 abbrev pub RunsAreStrict : Type 0
 RunsAreStrict =
     (size : ℕ) (modules : List Module) (events : List Raise) (k : ℕ) → IsRamSize size
     → let run = steps (suc k) (beginning size modules events) in
-    run.state.iop.over ≡ None → IsStrict (takes_events run.state.iop)
+    run.state.iop.over ≡ None → IsStrict run.state
 
--- where a thread executes an instruction, outside a delay slot and while interrupts are on, no alarm
--- and no delay has come
-abbrev pub IsOnTime : Iop → Type 0
-IsOnTime s =
-    executes (booted s) ≡ true → in_handler s.kernel ≡ false → s.kernel.interrupts ≡ true
+-- where the next step executes an instruction of a thread, outside a delay slot and while interrupts
+-- are on, no alarm and no delay has come
+abbrev pub IsOnTime : World → Type 0
+IsOnTime w =
+    let s = takes_events w.iop in
+    executes w ≡ true → in_handler s.kernel ≡ false → s.kernel.interrupts ≡ true
     → s.cpu.in_slot ≡ false → NoMomentHasCome s.kernel
 
--- in each state, behind the script's events that are due
+-- in each state
 abbrev pub RunsAreOnTime : Type 0
-RunsAreOnTime = (s : Iop) → IsOnTime (takes_events s)
+RunsAreOnTime = (w : World) → IsOnTime w
 
--- in each state that a run reaches and in which it goes on, nothing executes only while interrupts
--- are on and dispatch is enabled; and what comes next, if something does, is later than now
-pub record IsAwake (s : Iop) : Type 0 where
+-- what the next step of a run does where nothing executes, if the script's events that are due leave
+-- this state
+pub record IsAwake (w : World) (s : Iop) : Type 0 where
+  -- nothing executes only while interrupts are on and dispatch is enabled
   pub switches : is_active s.kernel ≡ false → may_dispatch s.kernel ≡ true
+  -- what comes next, if something does, is later than now
   pub later : is_active s.kernel ≡ false → delivers (core_of s) ≡ None → (moment : ℕ)
-      → next_coming s ≡ Some moment → (s.kernel.clock < moment) × (moment < 2 ^ 63)
+      → next_coming s ≡ Some moment → (s.kernel.clock < moment) × (moment < NEVER)
+  -- where nothing is delivered or dispatched, the step lets the clock go on to what comes next
+  pub goes_on : is_active s.kernel ≡ false → delivers (core_of s) ≡ None
+      → dispatches (core_of s) ≡ None → (moment : ℕ) → next_coming s ≡ Some moment
+      → step w ≡ silent (booted (at_moment s moment))
+  -- and where nothing comes, all is quiet
+  pub ends : is_active s.kernel ≡ false → delivers (core_of s) ≡ None
+      → dispatches (core_of s) ≡ None → next_coming s ≡ None
+      → step w ≡ silent (booted (record s { over = Some Quiet }))
 
+-- in each state that a run reaches and in which it goes on
 abbrev pub RunsAreAwake : Type 0
 RunsAreAwake =
     (size : ℕ) (modules : List Module) (events : List Raise) (k : ℕ) → IsRamSize size
     → CanCome events → let run = steps (suc k) (beginning size modules events) in
-    run.state.iop.over ≡ None → IsAwake (takes_events run.state.iop)
+    run.state.iop.over ≡ None → IsAwake run.state (takes_events run.state.iop)
 
 -- each event of the script is taken once, in the first step at its tick or behind it: those that
 -- are still to come are the ones of later ticks, but for those of ticks that no step has begun at

@@ -7,6 +7,7 @@ use Rattle.iop_exec.specs.declared.cpu.Cpu.{Cpu}
 use Rattle.iop_kernel.specs.Deliveries.{delivers}
 use Rattle.iop_kernel.specs.Dispatching.{dispatches}
 use Rattle.iop_kernel.specs.System.{is_active}
+use Rattle.iop_time.specs.declared.ticks.TheConstants.{NEVER}
 use Rattle.iop_machine.specs.Iop.{Iop, core_of}
 use Rattle.iop_machine.specs.Looking.{moved}
 use Rattle.iop_machine.specs.Stepping.{step, steps, executed, stop_at}
@@ -31,7 +32,7 @@ pub record RunsFor (s : Iop) (most : ℕ) : Type 0 where
 -- there is time for a run by so many instructions, also where the clock goes on to the last moment
 -- that comes: neither it nor the count of alarms and delays passes 2^64
 abbrev pub HasTime : (clock budget : ℕ) → Type 0
-HasTime clock budget = max clock (2 ^ 63 - 1) + budget < 2 ^ 64 - 1
+HasTime clock budget = max clock (NEVER - 1) + budget < 2 ^ 64 - 1
 
 -- after k steps the run goes on
 abbrev pub GoesOn : World → ℕ → ℕ → Type 0

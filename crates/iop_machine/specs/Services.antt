@@ -7,7 +7,7 @@ use Rattle.iop_exec.specs.declared.cpu.Cpu.{Cpu}
 use Rattle.iop_exec.specs.declared.cpu.Event.{Event}
 use Rattle.iop_exec.specs.declared.cpu.Event.TheVariants as events
 use Rattle.iop_exec.specs.declared.position.Position.{Position}
-use Rattle.iop_exec.specs.Positions.{standing_at}
+use Rattle.iop_exec.specs.Processors.{standing_at}
 use Rattle.iop_kernel.specs.Serving.{services}
 use Rattle.iop_kernel.specs.System.{Served}
 use Rattle.iop_kernel.specs.declared.after.After.{After}

@@ -8,6 +8,7 @@ use Rattle.iop_exec.specs.Row.{Row, Goes, Serves, Faults, Storing, at_next, row}
 use Rattle.iop_kernel.specs.Deliveries.{Delivered, delivers}
 use Rattle.iop_kernel.specs.Dispatching.{Dispatched, dispatches}
 use Rattle.iop_kernel.specs.System.{is_active}
+use Rattle.iop_time.specs.declared.clock.TheConstants.{MOST_DELAYS}
 use Rattle.iop_machine.specs.Loading.{boots}
 use Rattle.iop_machine.specs.Looking.{takes_events, next_coming, at_moment}
 use Rattle.iop_machine.specs.Services.{calls, faults_with}
@@ -47,7 +48,8 @@ abbrev pub delivers_by : Iop → Option Delivered → Transition Iop
 delivers_by s (Some d) = record { state = with_core s d.core; pieces = d.line ∷ []; bound = [] }
 delivers_by s None = dispatches_by s (dispatches (core_of s))
 
--- and first of all the script's events that are due are taken
+-- and first of all the script's events that are due are taken: the rest of a step looks at the state
+-- behind them
 abbrev pub goes : Iop → Transition Iop
 goes s = let v = takes_events s in delivers_by v (delivers (core_of v))
 
@@ -116,11 +118,13 @@ run_within zero budget w = record { world = w; pieces = []; stop = Budget }
 run_within (suc most) budget w =
     ran_by (stop_at w budget) w (run_within most (budget - one_if (executes w)) (step w).state)
 
--- how many steps at most stand between two instructions, but for those in which the clock goes on
--- to the tick of an event: at most 255 delays come due, each at its own moment, one handler begins,
--- and threads are dispatched
+-- how many steps at most stand before the first instruction, between two, and behind the last, but
+-- for those in which the clock goes on to the tick of an event: one that boots; two for each delay and
+-- for a handler that begins, one in which the clock goes on to its moment and one in which it is
+-- delivered; one in which a thread is dispatched, one more in which the clock goes on, and one in which
+-- all is quiet
 abbrev pub most_between : ℕ
-most_between = 599
+most_between = 2 * (MOST_DELAYS + 1) + 4
 
 -- how many steps a run takes at most: besides one for each event of the script, so many before the
 -- first instruction, with each, and behind the last

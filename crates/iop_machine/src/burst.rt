@@ -1,6 +1,7 @@
 //! The execution of instructions.
 
 ghost use Rattle.std.specs.Prelude.{◌≡◌, ℕ, ◌+◌, ◌*◌, ◌^◌, ◌<◌, ◌≤◌, false, None, length};
+ghost use Rattle.iop_exec.specs.Processors.{cpu_of};
 ghost use Rattle.iop_kernel.specs.Standing.{HasNumber};
 ghost use Rattle.iop_trace.specs.Outs.{has_failed, output_of};
 ghost use Rattle.iop_machine.specs.Advancing.{Advances, Progresses, IsLess, calls_by};
@@ -15,7 +16,7 @@ use crate::guest_bus::perform;
 use crate::iop::Iop;
 use crate::progress::Progress;
 use iop_base::Stop;
-use iop_exec::{Cpu, Event, Position};
+use iop_exec::{Event, Position, Registers};
 use iop_ports::Sink;
 use iop_trace::Out;
 
@@ -23,13 +24,15 @@ impl Iop {
     /// Takes over the processor and the moment of a burst.
     #[cold]
     #[inline(never)]
-    fn settle(&mut self, cpu: Cpu, clock: u64)
+    fn take_over(&mut self, registers: Registers, position: Position, clock: u64)
         requires sound { IsSound self.old }
         requires later { self.old.kernel.clock ≤ clock }
-        ensures { (s : State) → Stands self.old s → Stands self.new
-            (record s { cpu = cpu; kernel = record s.kernel { clock = clock } }) }
+        ensures { (s : State) → Stands self.old s → Stands self.new (record s {
+          cpu = cpu_of registers position;
+          kernel = record s.kernel { clock = clock };
+        }) }
     {
-        self.cpu = cpu;
+        self.cpu = registers.standing_at(position);
         self.kernel.advance(clock);
     }
 
@@ -41,7 +44,7 @@ impl Iop {
     /// ends at an instruction that calls a service or faults, at one in which a write failed, and
     /// where none is left. Whether anything else is due is not asked in between: a plain
     /// instruction changes processor, memory and clock alone. It is the one place that executes
-    /// instructions. The processor and the clock are local meanwhile.
+    /// instructions. The processor, as registers and a position, and the clock are local meanwhile.
     #[inline(never)]
     fn burst<C: Sink, T: Sink>(&mut self, budget: u64, out: &mut Out<'_, C, T>) -> u64
         requires runs { (s : State) × Stands self.old s × RunsFor s budget }
@@ -56,23 +59,24 @@ impl Iop {
             (output_of C.told T.told out.new) }
         ensures fewer { result < budget }
     {
-        let mut cpu = self.cpu;
+        let mut registers = Registers::of(&self.cpu);
+        let mut position = Position::of(&self.cpu);
         let mut clock = self.kernel.now();
         let mut left = budget;
         'instructions: loop {
             // Taken apart: whole, it would be put into memory for each instruction.
-            let Position { pc, next, in_slot } = Position::of(&cpu);
+            let Position { pc, next, in_slot } = position;
             left -= 1;
-            match perform(&mut cpu, &mut self.guest, clock, out) {
+            match perform(&mut registers, &mut position, &mut self.guest, clock, out) {
                 Event::Plain => {
                     clock += 1;
                     if left == 0 || out.failed() {
-                        self.settle(cpu, clock);
+                        self.take_over(registers, position, clock);
                         return left;
                     }
                 }
                 event => {
-                    self.settle(cpu, clock);
+                    self.take_over(registers, position, clock);
                     self.conclude(event, Position { pc, next, in_slot }, out);
                     return left;
                 }

@@ -1,4 +1,5 @@
-ghost use Rattle.std.specs.Prelude.{◌≡◌, ◌^◌, ◌<◌, IfSome};
+ghost use Rattle.std.specs.Prelude.{◌≡◌, ◌<◌, IfSome};
+ghost use Rattle.iop_time.specs.declared.ticks.TheConstants.{NEVER};
 ghost use Rattle.iop_machine.specs.Events.{CanCome, TakesDue, next_tick};
 
 use iop_script::Raise;
@@ -45,7 +46,7 @@ impl Events {
     /// Tells the tick of the next one. None exactly where none is left.
     pub(crate) fn next_tick(&self) -> Option<u64>
         ensures tick { result ≡ next_tick self.now }
-        ensures comes { IfSome result (λ tick. tick < 2 ^ 63) }
+        ensures comes { IfSome result (λ tick. tick < NEVER) }
     {
         let event = self.events.get(self.taken)?;
         Some(event.at)

@@ -1,10 +1,11 @@
 //! Memory as the processor reaches it, and the execution of one instruction.
 
+ghost use Rattle.iop_exec.specs.Processors.{cpu_of};
 ghost use Rattle.iop_exec.specs.Row.{row};
 ghost use Rattle.iop_machine.specs.Storing.{Performs};
 
 use iop_base::{Bad, Lines, Width};
-use iop_exec::{Bus, Cpu, Event, step};
+use iop_exec::{Bus, Event, Position, Registers, step_apart};
 use iop_stubs::Guest;
 
 /// Memory at one moment, with what takes the lines of the stores into live stubs.
@@ -42,18 +43,20 @@ impl<'a, L: Lines> Bus for GuestBus<'a, L> {
 
 /// Executes one instruction at a moment.
 pub(crate) fn perform<L: Lines>(
-    cpu: &mut Cpu,
+    registers: &mut Registers,
+    position: &mut Position,
     guest: &mut Guest,
     clock: u64,
     lines: &mut L,
 ) -> Event
-    ensures { Performs (row guest.old.ram cpu.old) result clock
-        cpu.old guest.old (L.output lines.old) cpu.new guest.new (L.output lines.new) }
+    ensures { Performs (row guest.old.ram (cpu_of registers.old position.old)) result clock
+        (cpu_of registers.old position.old) guest.old (L.output lines.old)
+        (cpu_of registers.new position.new) guest.new (L.output lines.new) }
 {
     let mut bus = GuestBus {
         guest,
         clock,
         lines,
     };
-    step(cpu, &mut bus)
+    step_apart(registers, position, &mut bus)
 }

@@ -1,4 +1,4 @@
-ghost use Rattle.std.specs.Prelude.{◌≡◌, IfOk};
+ghost use Rattle.std.specs.Prelude.{IfOk};
 ghost use Rattle.iop_base.specs.Places.{IsRamSize};
 ghost use Rattle.iop_machine.specs.Standing.{Stands};
 ghost use Rattle.iop_machine.specs.World.{reset};
@@ -35,8 +35,9 @@ pub(crate) struct Iop {
 }
 
 impl Iop {
-    /// Makes it as it is after a reset: memory, of `size` bytes, is all zero, the kernel's block alone
-    /// is used, and no thread runs. These modules are to be loaded, and these events are to come.
+    /// Makes it as it is after a reset: memory, of `size` bytes, is all zero, the kernel's block
+    /// alone is used, and no thread runs. These modules are to be loaded, and these events are to
+    /// come.
     pub(crate) fn new(
         alloc: Global,
         size: u32,

@@ -26,15 +26,15 @@ pub fn over_stays()
     ensures { OverStays }
 {}
 
-/// A machine of either size, with any modules and with events in the order of their ticks, begins as
-/// one.
+/// A machine of either size, with any modules and with events in the order of their ticks, begins
+/// as one.
 pub fn runs_begin_as_machines()
     ensures { RunsBeginAsMachines }
 {}
 
-/// Each run ends: besides one step for each event of the script at most it takes fewer than 600
-/// before the first instruction, between each two, and behind the last. They boot it, deliver what
-/// is due, dispatch threads, go on to the next moment, and find that nothing is left.
+/// Each run ends: besides one step for each event of the script it takes at most `most_between` and
+/// one before the first instruction, between each two, and behind the last. They boot it, deliver
+/// what is due, dispatch threads, go on to the next moment, and find that nothing is left.
 pub fn runs_end()
     ensures { RunsEnd }
 {}
@@ -94,21 +94,23 @@ pub fn stubs_are_followed()
     ensures { StubsAreFollowed }
 {}
 
-/// In each state that a run reaches, a dispatch takes the first ready thread of the best priority,
-/// and tells it, and nothing is to be delivered then; and no thread executes an instruction while a
-/// better one is ready and may run.
+/// In each state that a run reaches, a step that delivers or dispatches leaves the kernel and the
+/// processor as the delivery or the dispatch does, and tells its line alone. A dispatch takes the
+/// first ready thread of the best priority, and nothing is to be delivered then; and no thread
+/// executes an instruction while a better one is ready and may run.
 pub fn runs_are_strict()
     ensures { RunsAreStrict }
 {}
 
-/// Where a thread executes an instruction, outside a delay slot and while interrupts are on, no alarm
-/// and no delay has come that was not delivered.
+/// Where a thread executes an instruction, outside a delay slot and while interrupts are on, no
+/// alarm and no delay has come that was not delivered.
 pub fn runs_are_on_time()
     ensures { RunsAreOnTime }
 {}
 
 /// In each state that a run reaches, nothing executes only while interrupts are on and dispatch is
-/// enabled, and the moment to which the clock then goes on is later than now and below 2^63.
+/// enabled. Unless something is delivered or dispatched, the step then lets the clock go on to what
+/// comes next, which is later than now and below 2^63, and where nothing comes all is quiet.
 pub fn runs_are_awake()
     ensures { RunsAreAwake }
 {}
@@ -130,8 +132,8 @@ pub fn events_raise_their_lines()
     ensures { EventsRaiseTheirLines }
 {}
 
-/// What comes next, where nothing executes, is the least tick or moment of all that are still to come;
-/// nothing comes next only where none is.
+/// What comes next, where nothing executes, is the least tick or moment of all that are still to
+/// come; nothing comes next only where none is.
 pub fn next_coming_is_least()
     ensures { NextComingIsLeast }
 {}

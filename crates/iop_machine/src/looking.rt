@@ -80,7 +80,7 @@ impl Iop {
     }
 
     /// Delivers a line, an alarm or a delay, if one is to be delivered. Answers whether it did.
-    pub(crate) fn deliver<C: Sink, T: Sink>(&mut self, out: &mut Out<'_, C, T>) -> bool
+    fn deliver<C: Sink, T: Sink>(&mut self, out: &mut Out<'_, C, T>) -> bool
         requires sound { IsSound self.old }
         requires well { has_failed out.old ≡ false }
         ensures { (s : State) (budget : ℕ) → Stands self.old s → s.over ≡ None
@@ -99,7 +99,7 @@ impl Iop {
     /// whether it did. The lines of the events that are due, which are taken in the same step,
     /// change nothing of it.
     #[inline(never)]
-    pub(crate) fn dispatch<C: Sink, T: Sink>(&mut self, out: &mut Out<'_, C, T>) -> bool
+    fn dispatch<C: Sink, T: Sink>(&mut self, out: &mut Out<'_, C, T>) -> bool
         requires sound { IsSound self.old }
         requires well { has_failed out.old ≡ false }
         ensures { (s : State) (budget : ℕ) → Stands self.old s → s.over ≡ None
@@ -115,8 +115,8 @@ impl Iop {
         true
     }
 
-    /// Delivers what is to be delivered, or dispatches a thread, behind which something may be to be
-    /// delivered. Answers whether the run goes on from there: by a delivery, or by a dispatch in
+    /// Delivers what is to be delivered, or dispatches a thread, behind which something may be to
+    /// be delivered. Answers whether the run goes on from there: by a delivery, or by a dispatch in
     /// which a write failed. If not, nothing is to be delivered or dispatched.
     pub(crate) fn settle_first<C: Sink, T: Sink>(&mut self, out: &mut Out<'_, C, T>) -> bool
         requires sound { IsSound self.old }
@@ -155,9 +155,9 @@ impl Iop {
     }
 
     /// Counts the instructions that can be executed, as long as they are plain, before anything but
-    /// an instruction may be to be done: at most `budget`, one at least. They end at the tick of the
-    /// next event and at the next moment at which something may be delivered, in a delay slot behind
-    /// the instruction in it.
+    /// an instruction may be to be done: at most `budget`, one at least. They end at the tick of
+    /// the next event and at the next moment at which something may be delivered, in a delay slot
+    /// behind the instruction in it.
     pub(crate) fn instructions_ahead(&self, budget: u64) -> u64
         requires sound { IsSound self.now }
         requires some { 0 < budget }

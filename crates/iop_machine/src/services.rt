@@ -1,7 +1,7 @@
 //! What a `syscall` leaves of the machine, and how modules end.
 
 ghost use Rattle.std.specs.Prelude.{◌≡◌, ◌+◌, ◌^◌, ◌<◌, true, length};
-ghost use Rattle.iop_exec.specs.Positions.{standing_at};
+ghost use Rattle.iop_exec.specs.Processors.{standing_at};
 ghost use Rattle.iop_machine.specs.Iop.{Iop as State, Takes, later};
 ghost use Rattle.iop_kernel.specs.Standing.{HasNumber};
 ghost use Rattle.iop_kernel.specs.System.{is_active};
@@ -33,8 +33,8 @@ impl Iop {
         self.kernel.advance(now + 1);
     }
 
-    /// Ends a module, which returned a value, and lets the next one that loads begin. Where none does,
-    /// the loader's thread, which runs, ends.
+    /// Ends a module, which returned a value, and lets the next one that loads begin. Where none
+    /// does, the loader's thread, which runs, ends.
     fn end_module<L: Lines>(&mut self, begun: BegunModule, value: u32, lines: &mut L)
         requires sound { IsSound self.old }
         requires same_size { self.old.blocks.size ≡ length self.old.guest.ram }
@@ -73,8 +73,8 @@ impl Iop {
         }
     }
 
-    /// Does what a code asks for. Its `syscall` stood at `before`, and the processor has moved on from
-    /// it.
+    /// Does what a code asks for. Its `syscall` stood at `before`, and the processor has moved on
+    /// from it.
     fn call<L: Lines>(&mut self, code: u32, before: Position, lines: &mut L)
         requires runs { (s : State) × Stands self.old s × (is_active s.kernel ≡ true) }
         requires time { self.old.kernel.clock + 1 < 2 ^ 64 }
@@ -106,8 +106,8 @@ impl Iop {
         }
     }
 
-    /// Concludes an instruction that ended a burst by its event: it stops with a fault, or does what a
-    /// code asks for. The instruction stood at `before`.
+    /// Concludes an instruction that ended a burst by its event: it stops with a fault, or does what
+    /// a code asks for. The instruction stood at `before`.
     #[inline(never)]
     #[tactic(auto, using(iop_base::proofs::Giving::gives_none))]
     pub(crate) fn conclude<L: Lines>(&mut self, event: Event, before: Position, lines: &mut L)

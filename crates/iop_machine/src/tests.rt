@@ -2,8 +2,11 @@ ghost use Rattle.std.specs.Prelude.{◌≡◌, ◌≤◌, IfOk, [], ◌∷◌, l
 ghost use Rattle.iop_machine.specs.Standing.{IsSoundMachine};
 
 use crate::{Machine, Module, laws};
+use iop_base::Stop;
+use iop_ports::MemSink;
 use iop_script::{Args, Script, Word};
 use std::alloc::{AllocError, Global};
+use std::process::Abort;
 use std::test::Fail;
 
 /// The file of a module that returns 0 at once.
@@ -63,13 +66,54 @@ fn loads_it_twice(alloc: Global) -> Result<Machine, AllocError>
     Machine::new(alloc, 0x20_0000, modules, words_for_first(alloc)?)
 }
 
-#[test]
-fn begins_at_moment_0(rt: HostRuntime) -> Result<(), Fail> {
-    let alloc: Global = rt.alloc();
-    let machine = loads_it_twice(alloc)?;
-    assert_eq!(rt; machine.now(), 0);
+/// Runs it by so many instructions, and compares why it stops, and the moment behind them.
+fn run_by(
+    rt: &impl Abort,
+    machine: &mut Machine,
+    console: &mut MemSink,
+    trace: &mut MemSink,
+    budget: u8,
+    want: (Stop, u64),
+)
+    requires { IsSoundMachine machine.old }
+    ensures { IsSoundMachine machine.new }
+{
+    // So there is time for the budget.
+    assert!(rt; machine.now() <= 100);
+    assert_eq!(rt; machine.run(u64::from(budget), console, trace), Ok(want.0));
+    assert_eq!(rt; machine.now(), want.1);
+}
+
+/// Runs that machine by 0, 3, 100 and once more 100 instructions, and compares the words that each
+/// module is handed, and the trace.
+fn run_in_parts(rt: &impl Abort, alloc: Global, machine: &mut Machine) -> Result<(), Fail>
+    requires { IsSoundMachine machine.old }
+{
+    let mut console = MemSink::new(alloc, 100, Vec::new(alloc))?;
+    let mut trace = MemSink::new(alloc, 200, Vec::new(alloc))?;
+    run_by(rt, machine, &mut console, &mut trace, 0, (Stop::Budget, 0));
+    let arguments = b"\x10\x20\0\0\x16\x20\0\0\x18\x20\0\0\0\0\0\0m.irx\0a\0bc\0".as_slice();
+    assert_eq!(rt; machine.window(0x2000, 27), Some(arguments));
+    run_by(rt, machine, &mut console, &mut trace, 3, (Stop::Budget, 3));
+    run_by(rt, machine, &mut console, &mut trace, 100, (Stop::Quiet, 6));
+    run_by(rt, machine, &mut console, &mut trace, 100, (Stop::Quiet, 6));
+    let arguments = b"\x08\x20\0\0\0\0\0\0m.irx\0\0".as_slice();
+    assert_eq!(rt; machine.window(0x2000, 15), Some(arguments));
     assert_eq!(rt; machine.window(0x1F_FFF8, 9), None);
+    assert_eq!(rt;
+        trace.bytes(),
+        b"0 load 1 ok 00010000 00000008\n0 run 1\n2 result 1 0 resident\n\
+        2 load 2 ok 00010100 00000008\n5 result 2 0 resident\n"
+            .as_slice()
+    );
     Ok(())
+}
+
+#[test]
+fn runs_in_parts(rt: HostRuntime) -> Result<(), Fail> {
+    let alloc: Global = rt.alloc();
+    let mut machine = loads_it_twice(alloc)?;
+    run_in_parts(&rt, alloc, &mut machine)
 }
 
 #[test]
@@ -78,6 +122,7 @@ fn laws_hold() {
     laws::runs_compose();
     laws::runs_are_determined();
     laws::over_stays();
+    laws::runs_begin_as_machines();
     laws::runs_end();
     laws::runs_are_computed();
     laws::stubs_reach_their_functions();
@@ -92,4 +137,9 @@ fn laws_hold() {
     laws::runs_are_on_time();
     laws::runs_are_awake();
     laws::runs_keep_events();
+    laws::steps_take_their_events();
+    laws::events_raise_their_lines();
+    laws::next_coming_is_least();
+    laws::runs_are_counted();
+    laws::runs_are_delivered();
 }

@@ -1,6 +1,6 @@
 //! The modules that were not loaded yet.
 
-ghost use Rattle.std.specs.Prelude.{◌≡◌, ◌≤◌, ◌∷◌, suc, All, IfSome, option_map, drop, length, string_bytes};
+ghost use Rattle.std.specs.Prelude.{◌≡◌, ◌≤◌, All, IfSome, option_map, drop, length};
 ghost use Rattle.std.specs.List.{slice_get};
 ghost use Rattle.iop_script.specs.Scripts.{words_for};
 ghost use Rattle.iop_machine.specs.Modules.{modules_from, HasRoom};

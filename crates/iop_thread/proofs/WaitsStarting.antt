@@ -103,7 +103,8 @@ module _ (s : ThreadTable) (placed : IsPlaced s) where
   moves_starts_it argument (Some t) finds =
       either_way (λ r. WaitOn s r s.running) (is_dormant t.state) _ _
       (λ dormant. on_changed s t
-      (record (as_at_first t) { state = Ready (first_registers t argument) }) (finds t refl) _ refl s.running refl (sym (dormant_waits t.state dormant)))
+      (record (as_at_first t) { state = Ready (first_registers t argument) }) (finds t refl) _ refl
+      s.running refl (sym (dormant_waits t.state dormant)))
       (λ other. nothing)
 
   -- the loader's thread begins, if it is dormant

@@ -1,7 +1,7 @@
 -- What the laws of the operations say.
 use Rattle.std.specs.Prelude.{◌≡◌, ℕ, ◌<◌, ◌≤◌, Some, None, IfSome, option_map, List, [], ◌∷◌, ◌++◌, All, ⊤}
 use Rattle.iop_exec.specs.declared.cpu.Cpu.{Cpu}
-use Rattle.iop_exec.specs.Positions.{IsStraight}
+use Rattle.iop_exec.specs.Processors.{IsStraight}
 use Rattle.iop_thread.specs.declared.param.Param.{Param}
 use Rattle.iop_thread.specs.declared.wait.Wait.{Wait}
 use Rattle.iop_thread.specs.declared.wait.Wait.TheVariants.{Sleep}

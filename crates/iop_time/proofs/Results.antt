@@ -96,14 +96,14 @@ module _ (timers : Timers) (h : AreTimers timers) (t : ℕ) where
   taken_is_next = taken_by (due timers t) (due_is_next timers t)
 
 -- no alarm of a list has the number
-abbrev NoneHas : ℕ → List Alarm → Type 0
+abbrev pub NoneHas : ℕ → List Alarm → Type 0
 NoneHas number alarms = All (λ alarm. (alarm.number == number) ≡ false) alarms
 
 stays_by : (number ticks : ℕ) (alarm : Alarm) → (alarm.number == number) ≡ false
     → later number ticks alarm ≡ alarm
 stays_by number ticks alarm other = rw other refl
 
-again_stays : (timers : Timers) (number ticks : ℕ) → NoneHas number timers.alarms
+pub again_stays : (timers : Timers) (number ticks : ℕ) → NoneHas number timers.alarms
     → sets_again timers number ticks ≡ timers
 again_stays timers number ticks none =
     ap (λ alarms. record timers { alarms = alarms })
@@ -112,7 +112,7 @@ again_stays timers number ticks none =
     (λ alarm. later number ticks alarm ≡ alarm)
     (stays_by number ticks) timers.alarms none))
 
-removes_stays : (timers : Timers) (number : ℕ) → NoneHas number timers.alarms
+pub removes_stays : (timers : Timers) (number : ℕ) → NoneHas number timers.alarms
     → removes timers number ≡ timers
 removes_stays timers number none =
     ap (λ alarms. record timers { alarms = alarms })

@@ -10,6 +10,8 @@ returns-in-Some c = λ d cell h is.
     let r = c.in-Some.reference in
     let named = cell_in-named c.args.draft.now.labels c.args.cell r cell c.in-Some.is is in
     let address = c.label_address.ensures d named.name h named.is_name in
-    let field : c.field_by.result ≡ field_by r.kind c.args.site (unwrap_or (label_address d named.name) 0) = cc in
+    let field : c.field_by.result
+    ≡ field_by r.kind c.args.site (unwrap_or (label_address d named.name) 0) = cc in
     ap (λ w. wrapped (c.args.cell.word + w)) field
-    ∙ sym (ap (λ w. referred_word d c.args.site w cell.reference) named.word ∙ ap (referred_word d c.args.site c.args.cell.word) named.reference)
+    ∙ sym (ap (λ w. referred_word d c.args.site w cell.reference) named.word
+    ∙ ap (referred_word d c.args.site c.args.cell.word) named.reference)

@@ -1,7 +1,6 @@
-use Rattle.std.proofs.Common.{ℕ, List, Bor, refl, ap, ◌∙◌}
+use Rattle.std.proofs.Common.{ℕ, List, Bor, refl, ap}
 use Rattle.iop_trace.specs.Outs.{sinks}
-use Rattle.iop_front.specs.Commands.{command_held}
-use Rattle.iop_front.specs.Modules.{seen}
+use Rattle.iop_front.specs.Inputs.{command_held, seen}
 use Rattle.iop_front.specs.Outcome.{bad_script_line, cannot_read_line, too_long_line}
 use Rattle.iop_front.proofs.AnswerLemmas.{refuses, answers_unread, answers_too_long, answers_bad, answers_short, answers_inputs}
 use Rattle.iop_front.proofs.answering.answer_command.Goals as goal
@@ -48,13 +47,12 @@ returns-in-Err-BadScript g c =
     let seen_by = seen g.F.Files.told g.F.Files.faults in
     let output = sinks g.C.Sink.told g.T.Sink.told in
     let stopped = rw c.in-Err-BadScript.field-0-is at c.in-Err-BadScript.ensures.read in
-    let refusal = c.refuse.ensures in
-    let line = c.deref.ensures.0 ∙ c.bad_script.ensures
-    ∙ ap bad_script_line c.in-Err-BadScript.number-is in
-    answers_bad (command_held c.args.command) c.refuse.result
+    let refusal = c.refuse_bad_script.ensures in
+    let line = ap bad_script_line c.in-Err-BadScript.number-is in
+    answers_bad (command_held c.args.command) c.refuse_bad_script.result
     (seen_by c.args.files.now) (seen_by c.read_inputs.new.files)
     (output c.args.console.now c.args.trace.now)
-    (output c.args.console.now c.refuse.new.trace) c.in-Err-BadScript.number
+    (output c.args.console.now c.refuse_bad_script.new.trace) c.in-Err-BadScript.number
     stopped refusal.status (refuses refusal.sent.0 _ _ _ _ _ line refusal.sent.1)
 
 pub returns-in-Err-NoMemory : goal.returns-in-Err-NoMemory

@@ -1,7 +1,8 @@
-use Rattle.std.proofs.Common.{true, take, arith}
+use Rattle.std.proofs.Common.{take, arith}
 use Rattle.std.proofs.lemmas.List.{length-take}
 use Rattle.std.proofs.lemmas.Result.{err_from_is_err_and}
-use Rattle.iop_front.specs.Modules.{seen}
+use Rattle.iop_front.specs.Inputs.{seen}
+use Rattle.iop_front.specs.Words.{AsScript}
 use Rattle.iop_front.proofs.ScriptLemmas.{stops_by_fault, script_read}
 use Rattle.iop_front.proofs.inputs.read_script.Goals as goal
 
@@ -14,7 +15,7 @@ returns-in_err-parse-clause-read g c =
     let p = err_from_is_err_and made.result made.ensures.1 in
     rw (p.1, p.2) (stops_by_fault c.args.name.now (take c.in_ok-len.len buffer)
     (seen_by c.args.files.now) (seen_by c.read_whole.new.files)
-    (omega (arith, length-take c.in_ok-len.len buffer, read.short)) (read.read true)
+    (omega (arith, length-take c.in_ok-len.len buffer, read.short)) (read.read AsScript)
     c.in_err-parse.field-0.0 c.in_err-parse.ensures.script)
 
 pub returns-clause-read : goal.returns-clause-read
@@ -24,5 +25,5 @@ returns-clause-read g c =
     let read = c.in_ok-len.ensures in
     script_read c.args.name.now (take c.in_ok-len.len buffer)
     (seen_by c.args.files.now) (seen_by c.read_whole.new.files)
-    (omega (arith, length-take c.in_ok-len.len buffer, read.short)) (read.read true)
+    (omega (arith, length-take c.in_ok-len.len buffer, read.short)) (read.read AsScript)
     c.in_ok-parse.field-0 c.in_ok-parse.ensures.script

@@ -1,5 +1,5 @@
 use Rattle.std.proofs.Common.{option_map, sym, subst}
-use Rattle.iop_front.specs.Modules.{seen, HasScript}
+use Rattle.iop_front.specs.Inputs.{seen, HasScript}
 use Rattle.iop_front.proofs.ScriptLemmas.{no_script}
 use Rattle.iop_front.proofs.inputs.read_script_of.Goals as goal
 

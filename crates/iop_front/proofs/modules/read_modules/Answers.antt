@@ -1,4 +1,4 @@
-use Rattle.std.proofs.Common.{◌≡◌, ℕ, suc, false, cond, Result, is_ok, List, [], ◌∷◌, ◌++◌, All, take, drop, length, map}
+use Rattle.std.proofs.Common.{◌≡◌, ℕ, suc, cond, Result, is_ok, List, [], ◌∷◌, ◌++◌, All, take, drop, length, map}
 use Rattle.std.proofs.Common.{string_bytes, refl, ap, sym, ◌∙◌, subst, arith}
 use Rattle.std.specs.declared.alloc.AllocFailed.{AllocFailed}
 use Rattle.std.proofs.lemmas.Grind.{common_steps}
@@ -6,7 +6,8 @@ use Rattle.std.proofs.lemmas.List.{length-append}
 use Rattle.std.proofs.lemmas.List.Elements.{All-nil, All-push}
 use Rattle.std.proofs.lemmas.Result.{err_from_is_err_and}
 use Rattle.iop_machine.specs.Modules.{NamedFile}
-use Rattle.iop_front.specs.Modules.{seen, HasTaken, IsShort}
+use Rattle.iop_front.specs.Inputs.{seen, HasTaken, IsShort}
+use Rattle.iop_front.specs.Words.{AsModule}
 use Rattle.iop_front.proofs.OpeningLemmas.{modules_followed}
 use Rattle.iop_front.proofs.TakingLemmas.{files_short, stops_short, takes_none, stops_behind, split_text, take_text, takes-append}
 use Rattle.iop_front.proofs.modules.read_modules.Goals as goal
@@ -16,7 +17,7 @@ returns-in_err-modules-clause-read g c =
     let now = seen g.F.Files.told g.F.Files.faults c.args.files.now in
     let names = map string_bytes c.args.words.texts.now in
     let p = err_from_is_err_and c.from_residual.result c.from_residual.ensures.1 in
-    rw (p.1, p.2) (stops_short false names [] names [] now now refl (takes_none false now))
+    rw (p.1, p.2) (stops_short AsModule names [] names [] now now refl (takes_none AsModule now))
 
 pub loop-text-init : goal.loop-text-init
 loop-text-init g c =
@@ -27,8 +28,8 @@ loop-text-init g c =
       room = omega (arith, made.capacity);
       count = ap length made.items;
       short = subst (λ items. All IsShort items) (sym made.items) (All-nil IsShort);
-      taken = subst (λ items. HasTaken false [] items now now) (sym made.items)
-          (takes_none false now);
+      taken = subst (λ items. HasTaken AsModule [] items now now) (sym made.items)
+          (takes_none AsModule now);
     }
 
 pub returns-in_err-module-clause-read : goal.returns-in_err-module-clause-read
@@ -39,7 +40,7 @@ returns-in_err-module-clause-read g c =
     let was = c.loop-text.invariant in
     let made = c.from_residual-in_err-module in
     let p = err_from_is_err_and made.result made.ensures.1 in
-    rw (p.1, p.2) (stops_behind false (map string_bytes texts) (map string_bytes (take index texts))
+    rw (p.1, p.2) (stops_behind AsModule (map string_bytes texts) (map string_bytes (take index texts))
     (c.as_str.result.now ∷ []) (map string_bytes (drop (suc index) texts))
     c.loop-text.modules.items (seen_by c.args.files.now) (seen_by c.loop-text.files)
     (seen_by c.read_module.new.files)
@@ -66,7 +67,7 @@ loop-text-preserved g c =
     ◌∙◌ {A = List NamedFile} c.push.ensures.items
     (ap (λ (r : Result (Unit {0}) (AllocFailed NamedFile)). cond (is_ok r) (items ++ one ∷ [])
     items) c.unwrap.ensures) in
-    let both = takes-append false before (name ∷ []) items (one ∷ []) old
+    let both = takes-append AsModule before (name ∷ []) items (one ∷ []) old
     (seen_by c.loop-text.files) new (files_short _ was.short) (modules_followed _) was.taken
     c.in_ok-module.ensures.read in
     record {
@@ -75,8 +76,8 @@ loop-text-preserved g c =
       count = ap length pushed ∙ length-append items (one ∷ []) ∙ omega (arith, was.count);
       short = subst (λ (fs : List NamedFile). All IsShort fs) (sym pushed)
           (All-push IsShort items one was.short c.in_ok-module.ensures.short);
-      taken = subst (λ (ns : List (List ℕ)). HasTaken false ns c.push.new.self.items old new)
+      taken = subst (λ (ns : List (List ℕ)). HasTaken AsModule ns c.push.new.self.items old new)
           (sym names)
-          (subst (λ (fs : List NamedFile). HasTaken false (before ++ name ∷ []) fs old new)
+          (subst (λ (fs : List NamedFile). HasTaken AsModule (before ++ name ∷ []) fs old new)
           (sym pushed) both);
     }

@@ -1,6 +1,7 @@
-use Rattle.std.proofs.Common.{◌≡◌, ◌≤◌, false, All, length, map, take, string_bytes, vec_capacity}
-use Rattle.iop_front.specs.Modules.{seen, HasTaken, IsShort}
+use Rattle.std.proofs.Common.{◌≡◌, ◌≤◌, All, length, map, take, string_bytes, vec_capacity}
+use Rattle.iop_front.specs.Inputs.{seen, HasTaken, IsShort}
 use Rattle.iop_front.specs.Outcome.{read_limit}
+use Rattle.iop_front.specs.Words.{AsModule}
 use Rattle.iop_front.proofs.modules.read_modules.Given as goal
 
 abbrev pub invariant-loop-text : goal.invariant-loop-text
@@ -9,7 +10,7 @@ invariant-loop-text g l = record {
   room : length l.words.texts.now ≤ vec_capacity l.modules;
   count : length l.modules.items ≡ l.text-index;
   short : All IsShort l.modules.items;
-  taken : HasTaken false (map string_bytes (take l.text-index l.words.texts.now)) l.modules.items
+  taken : HasTaken AsModule (map string_bytes (take l.text-index l.words.texts.now)) l.modules.items
       (seen g.F.Files.told g.F.Files.faults l.fn.files)
       (seen g.F.Files.told g.F.Files.faults l.files);
 }

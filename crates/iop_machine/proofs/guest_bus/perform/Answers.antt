@@ -4,8 +4,8 @@ use Rattle.iop_machine.proofs.guest_bus.perform.Goals as goal
 
 pub returns : goal.returns
 returns g c =
-    let same = borrows g.L.Lines.output _ _ _ _ _ _ c.step.ensures in
+    let same = borrows g.L.Lines.output _ _ _ _ _ _ c.step_apart.ensures in
     let guest = same.guest in
     let lines = same.lines in
-    performed g.L.Lines.output _ _ _ _ _ _ _ _ c.step.ensures (search (rules, guest))
+    performed g.L.Lines.output _ _ _ _ _ _ _ _ c.step_apart.ensures (search (rules, guest))
     (search (rules, lines))

@@ -1,4 +1,5 @@
-use Rattle.std.proofs.Common.{◌+◌, sym, ◌∙◌, arith}
+use Rattle.std.proofs.Common.{◌+◌, refl, sym, ◌∙◌, arith}
+use Rattle.iop_exec.specs.Processors.{cpu_of}
 use Rattle.iop_exec.specs.Row.{row}
 use Rattle.iop_machine.proofs.Bursting.{stands_after, size_kept, number_kept, length-performed, bursts_first, burst_runs, turn_of, plain_advances, plain_goes_on, conclude_advances}
 use Rattle.iop_machine.proofs.iop.Iop.burst.Goals as goal
@@ -14,7 +15,9 @@ instructions-init g c =
       few = omega arith;
       number = c.requires.number;
       same_size = c.requires.same_size;
-      bursts = bursts_first c.args.self.now c.now-clock.result c.args.budget _ now c.requires.well;
+      bursts = bursts_first c.args.self.now c.of-registers.result c.of-position.result
+          c.now-clock.result c.args.budget _ c.of-registers.ensures c.of-position.ensures now
+          c.requires.well;
     }
 
 pub instructions-preserved : goal.instructions-preserved
@@ -29,11 +32,12 @@ instructions-preserved g c =
       same_size = i.same_size ∙ sym (length-performed _ _ _ _ _ _ _ _ _ c.perform.ensures);
       bursts = λ s h r. plain_goes_on (turn_of (i.bursts s h r) i.some c.perform.ensures)
           (omega arith) c.in-Plain.is (sym c.failed.ensures ∙ c.if-failed.false)
-          (λ t k. stands_after c.perform.new.cpu c.perform.new.guest (c.instructions.clock + 1) k);
+          (λ t k. stands_after (cpu_of c.perform.new.registers c.perform.new.position)
+          c.perform.new.guest (c.instructions.clock + 1) k);
     }
 
-pub settle-requires-clause-sound : goal.settle-requires-clause-sound
-settle-requires-clause-sound g c =
+pub take_over-requires-clause-sound : goal.take_over-requires-clause-sound
+take_over-requires-clause-sound g c =
     let r = burst_runs c.instructions.self c.perform.new.guest c.requires.runs
     c.instructions.invariant.bursts in (r.0, r.1)
 
@@ -42,12 +46,12 @@ returns-then-left-eq0-clause-advances g c = λ s h r.
     let i = c.instructions.invariant in
     let turn = turn_of (i.bursts s h r) i.some c.perform.ensures in (
       _,
-      plain_advances turn c.in-Plain.is (λ t k. c.settle.ensures _
+      plain_advances turn c.in-Plain.is (λ t k. c.take_over.ensures _
           (stands_after c.instructions.self.cpu c.perform.new.guest c.instructions.self.kernel.clock k)),
     )
 
-pub settle-requires-in_default-clause-sound : goal.settle-requires-in_default-clause-sound
-settle-requires-in_default-clause-sound g c =
+pub take_over-requires-in_default-clause-sound : goal.take_over-requires-in_default-clause-sound
+take_over-requires-in_default-clause-sound g c =
     let r = burst_runs c.instructions.self c.perform.new.guest c.requires.runs
     c.instructions.invariant.bursts in (r.0, r.1)
 
@@ -55,30 +59,32 @@ pub conclude-requires-clause-runs : goal.conclude-requires-clause-runs
 conclude-requires-clause-runs g c =
     let r = burst_runs c.instructions.self c.perform.new.guest c.requires.runs
     c.instructions.invariant.bursts in
-    (_, c.settle-in_default.ensures r.0 r.1, r.2)
+    (_, c.take_over-in_default.ensures r.0 r.1, r.2)
 
 pub conclude-requires-clause-time : goal.conclude-requires-clause-time
 conclude-requires-clause-time g c =
     let r = burst_runs c.instructions.self c.perform.new.guest c.requires.runs
     c.instructions.invariant.bursts in
-    let clock = (c.settle-in_default.ensures r.0 r.1).kernel.holds.clock in
+    let clock = (c.take_over-in_default.ensures r.0 r.1).kernel.holds.clock in
     let i = c.instructions.invariant in omega (arith, clock, i.time, i.some)
 
 pub conclude-requires-clause-number : goal.conclude-requires-clause-number
 conclude-requires-clause-number g c =
     let r = burst_runs c.instructions.self c.perform.new.guest c.requires.runs
     c.instructions.invariant.bursts in
-    number_kept c.perform.new.cpu c.instructions.clock r.1 (c.settle-in_default.ensures r.0 r.1)
+    number_kept (cpu_of c.perform.new.registers c.perform.new.position) c.instructions.clock r.1
+    (c.take_over-in_default.ensures r.0 r.1)
     c.instructions.invariant.number
 
 pub conclude-requires-clause-same_size : goal.conclude-requires-clause-same_size
 conclude-requires-clause-same_size g c =
     let r = burst_runs c.instructions.self c.perform.new.guest c.requires.runs
     c.instructions.invariant.bursts in
-    size_kept c.perform.new.cpu c.instructions.clock r.1
-    (c.settle-in_default.ensures r.0 r.1)
+    size_kept (cpu_of c.perform.new.registers c.perform.new.position) c.instructions.clock r.1
+    (c.take_over-in_default.ensures r.0 r.1)
     (c.instructions.invariant.same_size
-    ∙ sym (length-performed (row c.instructions.self.guest.ram c.instructions.cpu) _ _ _ _ _ _ _ _
+    ∙ sym (length-performed (row c.instructions.self.guest.ram
+    (cpu_of c.instructions.registers c.instructions.position)) _ _ _ _ _ _ _ _
     c.perform.ensures))
 
 pub returns-in_default-clause-advances : goal.returns-in_default-clause-advances
@@ -86,7 +92,7 @@ returns-in_default-clause-advances g c = λ s h r.
     let i = c.instructions.invariant in
     let turn = turn_of (i.bursts s h r) i.some c.perform.ensures in (
       _,
-      conclude_advances turn {now = c.settle-in_default.new.self} (λ t k. c.settle-in_default.ensures _
+      conclude_advances turn {now = c.take_over-in_default.new.self} (λ t k. c.take_over-in_default.ensures _
           (stands_after c.instructions.self.cpu c.perform.new.guest c.instructions.self.kernel.clock k))
-          c.of-pc.result c.in_default.not-Plain c.of-pc.ensures c.conclude.ensures,
+          c.instructions.position c.in_default.not-Plain refl c.conclude.ensures,
     )

@@ -1,18 +1,33 @@
 -- What reading the script and the modules of a command gives: all of them, or why they were not
 -- read.
-use Rattle.std.specs.Prelude.{◌≡◌, ℕ, ◌≤◌, Bool, true, Option, Some, None, is_some, option_to_list, Ok, Err, List, [], ◌∷◌, ◌++◌, length}
+use Rattle.std.specs.Prelude.{◌≡◌, ℕ, ◌≤◌, Option, Some, None, option_map, is_some, option_to_list, Ok, Err, List, [], ◌∷◌, ◌++◌, length, map, string_bytes}
 use Rattle.iop_base.specs.Counts.{HasCause}
 use Rattle.iop_machine.specs.Modules.{NamedFile}
 use Rattle.iop_modload.specs.declared.limits.TheConstants.{LONGEST_FILE}
 use Rattle.iop_ports.specs.Files.{FilesTold}
 use Rattle.iop_front.specs.Answers.{FilesRead, AreFilesOf}
 use Rattle.iop_front.specs.Outcome.{IsGoodFile, first_too_long}
+use Rattle.iop_front.specs.declared.command_words.CommandWords.{CommandWords}
 use Rattle.iop_front.specs.declared.limits.TheConstants.{LONGEST_WORD}
 use Rattle.iop_front.specs.declared.unread.Unread.{Unread}
 use Rattle.iop_front.specs.declared.unread.Unread.TheVariants.{Unreadable, TooLong, BadScript, NoMemory}
-use Rattle.iop_front.specs.Words.{Command, has_script, files_of}
+use Rattle.iop_front.specs.Words.{Command, FileKind, AsScript, kind_by, first_kind, files_of}
 use Rattle.iop_script.specs.Reading.{empty_script, script_of}
 use Rattle.iop_script.specs.Scripts.{Script}
+use Rattle.iop_script.specs.declared.fault.ScriptFault.{ScriptFault}
+use Rattle.iop_script.specs.declared.fault.ScriptFault.TheVariants.{Line, Memory}
+
+-- the words of a command, as the program holds them
+abbrev pub command_held : CommandWords → Command
+command_held words = record {
+  script = option_map (λ name. name.now) words.script;
+  modules = map string_bytes words.modules.texts.now;
+}
+
+-- why a script's text with this fault is not read
+abbrev pub unread_of : ScriptFault → Unread
+unread_of (Line number) = BadScript number
+unread_of Memory = NoMemory
 
 -- what can be seen of the files: what they tell, and how often they have failed
 pub record Seen : Type 0 where
@@ -28,69 +43,70 @@ pub record IsShort (named : NamedFile) : Type 0 where
   pub name : length named.name ≤ LONGEST_WORD
   pub file : length named.file ≤ LONGEST_FILE
 
--- behind the first file, which is a script's or not, others were read only where it is good
-abbrev pub GoesOn : (is_script : Bool) → List NamedFile → Type 0
-GoesOn is_script [] = Unit {0}
-GoesOn is_script (first ∷ []) = Unit {0}
-GoesOn is_script (first ∷ next ∷ files) = IsGoodFile is_script first.file
+-- behind the first file, which is of this kind, others were read only where it is good
+abbrev pub GoesOn : (kind : FileKind) → List NamedFile → Type 0
+GoesOn kind [] = Unit {0}
+GoesOn kind (first ∷ []) = Unit {0}
+GoesOn kind (first ∷ next ∷ files) = IsGoodFile kind first.file
 
--- these files were opened and read, one after the other, and no call failed
-pub record HasTaken (is_script : Bool) (names : List (List ℕ)) (files : List NamedFile)
+-- these files were opened and read, one after the other, the first as one of this kind and the others
+-- as modules, and no call failed
+pub record HasTaken (kind : FileKind) (names : List (List ℕ)) (files : List NamedFile)
     (old new : Seen) : Type 0 where
   pub are_files : AreFilesOf names files old.told
-  pub goes_on : GoesOn is_script files
-  pub read : FilesRead is_script names old.faults old.told new.told
+  pub goes_on : GoesOn kind files
+  pub read : FilesRead kind names old.faults old.told new.told
   pub no_fault : new.faults ≡ old.faults
 
 -- the file of this name could not be read, and none behind it was opened
-pub record HasStoppedUnread (is_script : Bool) (names : List (List ℕ)) (name : List ℕ)
+pub record HasStoppedUnread (kind : FileKind) (names : List (List ℕ)) (name : List ℕ)
     (old new : Seen) : Type 0 where
   pub before : List (List ℕ)
   pub left : List (List ℕ)
   pub are_names : names ≡ before ++ name ∷ left
-  pub read : FilesRead is_script (before ++ name ∷ []) old.faults old.told new.told
+  pub read : FilesRead kind (before ++ name ∷ []) old.faults old.told new.told
   pub cause : HasCause old.faults new.faults
 
 -- the file of this name is the first that is too long, and none behind it was opened
-pub record HasStoppedTooLong (is_script : Bool) (names : List (List ℕ)) (name : List ℕ)
+pub record HasStoppedTooLong (kind : FileKind) (names : List (List ℕ)) (name : List ℕ)
     (old new : Seen) : Type 0 where
   pub opened : List (List ℕ)
   pub left : List (List ℕ)
   pub are_names : names ≡ opened ++ left
   pub files : List NamedFile
   pub file : List ℕ
-  pub taken : HasTaken is_script opened files old new
+  pub taken : HasTaken kind opened files old new
   pub decides : first_too_long files ≡ Some (record { name = name; file = file })
 
 -- the file of this name, the first, is a script with a bad line, and none behind it was opened
-pub record HasStoppedBad (is_script : Bool) (names : List (List ℕ)) (number : ℕ)
+pub record HasStoppedBad (kind : FileKind) (names : List (List ℕ)) (number : ℕ)
     (old new : Seen) : Type 0 where
-  pub is_one : is_script ≡ true
+  pub as_script : kind ≡ AsScript
   pub file : NamedFile
   pub left : List (List ℕ)
   pub are_names : names ≡ file.name ∷ left
-  pub taken : HasTaken is_script (file.name ∷ []) (file ∷ []) old new
+  pub taken : HasTaken kind (file.name ∷ []) (file ∷ []) old new
   pub short : length file.file ≤ LONGEST_FILE
   pub bad : script_of file.file ≡ Err number
 
 -- there was no memory, and no further file was opened
-pub record HasStoppedShort (is_script : Bool) (names : List (List ℕ)) (old new : Seen)
+pub record HasStoppedShort (kind : FileKind) (names : List (List ℕ)) (old new : Seen)
     : Type 0 where
   pub opened : List (List ℕ)
   pub left : List (List ℕ)
   pub are_names : names ≡ opened ++ left
-  pub read : FilesRead is_script opened old.faults old.told new.told
+  pub read : FilesRead kind opened old.faults old.told new.told
   pub no_fault : new.faults ≡ old.faults
 
--- why the files of these names, of which the first is a script's or not, were not all read
-abbrev pub HasStopped : (is_script : Bool) → List (List ℕ) → Unread → Seen → Seen → Type 0
-HasStopped is_script names (Unreadable name) old new =
-    HasStoppedUnread is_script names name.now old new
-HasStopped is_script names (TooLong name) old new =
-    HasStoppedTooLong is_script names name.now old new
-HasStopped is_script names (BadScript number) old new =
-    HasStoppedBad is_script names number old new
-HasStopped is_script names NoMemory old new = HasStoppedShort is_script names old new
+-- why the files of these names, of which the first is of this kind, were not all read
+abbrev pub HasStopped : (kind : FileKind) → List (List ℕ) → Unread → Seen → Seen → Type 0
+HasStopped kind names (Unreadable name) old new =
+    HasStoppedUnread kind names name.now old new
+HasStopped kind names (TooLong name) old new =
+    HasStoppedTooLong kind names name.now old new
+HasStopped kind names (BadScript number) old new =
+    HasStoppedBad kind names number old new
+HasStopped kind names NoMemory old new = HasStoppedShort kind names old new
 
 -- a script is that of a file, which is not too long, or the empty one where there is no file
 abbrev pub IsScriptOf : Option NamedFile → Script → Type 0
@@ -101,15 +117,15 @@ IsScriptOf (Some file) script =
 -- the file of a script was read, if one is named
 pub record HasScript (name : Option (List ℕ)) (script : Script) (old new : Seen) : Type 0 where
   pub file : Option NamedFile
-  pub is_script : is_some file ≡ is_some name
-  pub taken : HasTaken (is_some name) (option_to_list name) (option_to_list file) old new
+  pub has_file : is_some file ≡ is_some name
+  pub taken : HasTaken (kind_by name) (option_to_list name) (option_to_list file) old new
   pub says : IsScriptOf file script
 
 -- the files of a command were read, all of them: its script's, if it has one, and its modules'
 pub record HasInputs (command : Command) (script : Script) (modules : List NamedFile)
     (old new : Seen) : Type 0 where
   pub file : Option NamedFile
-  pub is_script : is_some file ≡ is_some command.script
-  pub taken : HasTaken (has_script command) (files_of command) (option_to_list file ++ modules)
+  pub has_file : is_some file ≡ is_some command.script
+  pub taken : HasTaken (first_kind command) (files_of command) (option_to_list file ++ modules)
       old new
   pub says : IsScriptOf file script

@@ -1,0 +1,5 @@
+use Rattle.iop_kernel.proofs.TimeReading.{seconds_are_read}
+use Rattle.iop_kernel.proofs.laws.seconds_are_read.Goals as goal
+
+pub returns : goal.returns
+returns c = seconds_are_read

@@ -1,0 +1,50 @@
+-- What the laws of times say: the words of a time are read where a service wrote them.
+use Rattle.std.specs.Prelude.{◌≡◌, ◌≢◌, ℕ, ◌+◌, ◌*◌, ◌/◌, ◌%◌, ◌^◌, ◌<◌, Some, List}
+use Rattle.iop_base.specs.Numbers.{IsWord, number_at, wrapped}
+use Rattle.iop_stubs.specs.Stubs.{Memory}
+use Rattle.iop_time.specs.ClockTime.{ticks_of, micros_of}
+use Rattle.iop_kernel.specs.Boards.{Board}
+use Rattle.iop_kernel.specs.System.{words_place}
+use Rattle.iop_kernel.specs.Timing.{ticks_in, get_system_time, usec_to_clock, clock_to_usec}
+use Rattle.iop_kernel.specs.declared.timing.TheConstants.{TIME_WORDS, MICROS_OF_SECOND}
+
+-- the words of a time stand at a place, the lower one first, as in the iop_sys_clock_t of ps2sdk's
+-- thbase.h
+pub record HasTimeWords (memory : Memory) (place ticks : ℕ) : Type 0 where
+  pub low : number_at memory.ram place 4 ≡ ticks % 2 ^ 32
+  pub high : number_at memory.ram (place + 4) 4 ≡ ticks / 2 ^ 32
+  -- a service that reads a time there reads these ticks
+  pub both : ticks_in memory place ≡ ticks
+
+-- the moment is read where it was written
+abbrev pub SystemTimeIsRead : Type 0
+SystemTimeIsRead =
+    (b : Board) (at place : ℕ)
+    → words_place b.memory at TIME_WORDS ≡ Some place → b.core.kernel.clock < 2 ^ 64
+    → HasTimeWords (get_system_time b at).left.state.memory place b.core.kernel.clock
+
+-- so are the ticks of so many microseconds
+abbrev pub TicksAreRead : Type 0
+TicksAreRead =
+    (b : Board) (us at place : ℕ)
+    → IsWord us → words_place b.memory at TIME_WORDS ≡ Some place
+    → HasTimeWords (usec_to_clock b us at).left.state.memory place (ticks_of us)
+
+-- so many microseconds stand at two places: the whole seconds at the first, unless it is the second
+-- too, and at the second, which is written last, those that are left
+pub record HasSeconds (ram : List ℕ) (first second micros : ℕ) : Type 0 where
+  pub seconds : first ≢ second → number_at ram first 4 ≡ wrapped (micros / MICROS_OF_SECOND)
+  pub rest : number_at ram second 4 ≡ micros % MICROS_OF_SECOND
+  -- a second has 1,000,000 of them, and both together are all, where the seconds are one word
+  pub below : number_at ram second 4 < 1000000
+  pub both : first ≢ second → micros < 1000000 * 2 ^ 32
+      → number_at ram first 4 * 1000000 + number_at ram second 4 ≡ micros
+
+-- the microseconds of the time at a place are read where they were written
+abbrev pub SecondsAreRead : Type 0
+SecondsAreRead =
+    (b : Board) (time_at seconds_at rest_at time seconds rest : ℕ)
+    → words_place b.memory time_at TIME_WORDS ≡ Some time
+    → words_place b.memory seconds_at 1 ≡ Some seconds → words_place b.memory rest_at 1 ≡ Some rest
+    → HasSeconds (clock_to_usec b time_at seconds_at rest_at).left.state.memory.ram seconds rest
+    (micros_of (ticks_in b.memory time))

@@ -1,0 +1,93 @@
+"""The machine: its state, and its run to the end."""
+
+import struct
+
+from deliveries import Deliveries, Line
+from loading import Loading
+from memory import Blocks, Fault, Memory
+from objects import EventFlag, Mailbox, Objects, Semaphore
+from processor import Processor, Registers
+from services import LIBRARIES, Services
+from threads import Thread, Threads
+
+BUDGET = 10_000_000
+
+
+class Machine(Loading, Threads, Objects, Deliveries, Services, Processor):
+    """What the parts share, and the order in which they have their turn."""
+
+    def __init__(self, files, events, words):
+        self.clock = 0
+        self.events, self.words = events, words  # (tick, line) in order; the words of a module by its number
+        self.lines, self.console = [], b""
+        self.memory, self.blocks = Memory(self), Blocks()
+        self.registry = []
+        self.files = files
+        self.module = None
+        self.cpu = Registers(0)
+        self.threads = {1: Thread(1, 0x02000000, 0, 0, 0x4000, 8, 0xC000, 0)}
+        self.next_id = 2
+        self.objects = {kind: {} for kind in (Semaphore, EventFlag, Mailbox)}
+        self.next_object = {kind: 1 for kind in self.objects}
+        self.ready, self.running = [], None
+        self.dispatching, self.interrupts = True, True
+        self.irqs = [Line() for _ in range(64)]
+        self.alarms, self.next_number = [], 1
+        self.handler = None  # what ends it, and the registers that are kept
+        self.kernel_area()
+
+    def trace(self, text):
+        self.lines.append(f"{self.clock} {text}")
+
+    def kernel_area(self):
+        put = lambda at, word: self.memory.ram.__setitem__(slice(at, at + 4), struct.pack("<I", word))
+        for n, name in enumerate(LIBRARIES):
+            table = 0x1000 + n * 0x200
+            put(table, 0x41C00000)
+            put(table + 8, 0x0101)
+            self.memory.ram[table + 12:table + 20] = name.encode().ljust(8, b"\0")
+            for k in range(64):
+                at = 0x4000 + n * 0x400 + k * 16
+                put(table + 20 + 4 * k, at)
+                put(at, (n * 256 + k) << 6 | 0xC)
+                put(at + 4, 0x03E00008)
+            self.registry.append((name.encode().ljust(8, b"\0"), 1, table))
+        for at, code in ((0x3000, 0xF00), (0x3010, 0xF01), (0x3020, 0xF02)):
+            put(at, code << 6 | 0xC)
+
+    def run(self):
+        begins = self.load_next()
+        if begins:
+            self.threads[1].cpu = begins
+            self.make_ready(self.threads[1])
+        executed = 0
+        while True:
+            due = [number for tick, number in self.events if tick <= self.clock]
+            fresh = [number for number in due if not self.irqs[number].raised]
+            for number in fresh:
+                self.irqs[number].raised = True
+            left = self.events[len(due):]
+            if self.deliver() or self.dispatch():
+                self.events = left
+            elif self.handler or self.running is not None:
+                if executed == BUDGET:
+                    for number in fresh:
+                        self.irqs[number].raised = False
+                    return self.end("budget", 10)
+                self.events = left
+                try:
+                    self.step()
+                except Fault as fault:
+                    return self.end(f"fault {fault} {self.cpu.pc:08x}", 11)
+                self.clock += 1
+                executed += 1
+            else:
+                self.events = left
+                moment = self.next_moment()
+                if moment is None:
+                    return self.end("quiet", 0)
+                self.clock = moment
+
+    def end(self, text, status):
+        self.trace(f"end {text}")
+        return status

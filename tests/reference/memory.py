@@ -1,0 +1,74 @@
+"""Memory: RAM with its live stubs, and the blocks that are taken from it."""
+
+SIZE = 0x200000
+
+
+class Fault(Exception):
+    """A guest fault, by its word in the trace."""
+
+
+class Memory:
+    """RAM, with the live stubs."""
+
+    def __init__(self, machine):
+        self.machine = machine
+        self.ram = bytearray(SIZE)
+        self.live = {}  # place -> (name, major)
+
+    def place(self, at, length, width=1):
+        if at % width or at >> 29 not in (0, 4, 5) or at % 0x20000000 >= SIZE:
+            return None
+        place = at % 0x20000000
+        return place if place + length <= SIZE else None
+
+    def load(self, at, width):
+        place = self.place(at, width, width)
+        if place is None:
+            raise Fault("address")
+        return int.from_bytes(self.ram[place:place + width], "little")
+
+    def write(self, place, data):
+        for stub in sorted(self.live):
+            if data and stub < place + len(data) and place < stub + 8:
+                self.machine.trace(f"stub {stub:08x}")
+                del self.live[stub]
+        self.ram[place:place + len(data)] = data
+
+    def store(self, at, width, value):
+        place = self.place(at, width, width)
+        if place is None:
+            raise Fault("address")
+        self.write(place, (value % 256**width).to_bytes(width, "little"))
+
+    def word(self, place):
+        return int.from_bytes(self.ram[place:place + 4], "little")
+
+
+class Blocks:
+    def __init__(self):
+        self.used = {0: 0x10000}
+
+    def alloc(self, mode, size, at):
+        size = (size + 255) // 256 * 256
+        if mode > 2 or not 0 < size <= SIZE:
+            return 0
+        starts = range(0, SIZE - size + 1, 256)
+        if mode == 2:
+            ok = at >> 29 in (0, 4, 5) and at % 0x20000000 < SIZE and at % 256 == 0
+            starts = [at % 0x20000000] if ok and at % 0x20000000 + size <= SIZE else []
+        for start in reversed(starts) if mode == 1 else starts:
+            if all(start + size <= s or s + n <= start for s, n in self.used.items()):
+                self.used[start] = size
+                return start
+        return 0
+
+    def most_free(self):
+        edges = sorted(self.used.items()) + [(SIZE, 0)]
+        return max(b[0] - (a[0] + a[1]) for a, b in zip(edges, edges[1:]))
+
+    def free(self, at):
+        place = at % 0x20000000
+        if at >> 29 not in (0, 4, 5) or place == 0 or place not in self.used:
+            return -1
+        del self.used[place]
+        return 0
