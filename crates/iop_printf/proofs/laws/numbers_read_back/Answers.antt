@@ -1,0 +1,5 @@
+use Rattle.iop_printf.proofs.FormatLaws.{digits_of-value}
+use Rattle.iop_printf.proofs.laws.numbers_read_back.Goals as goal
+
+pub returns : goal.returns
+returns c = digits_of-value
