@@ -25,14 +25,19 @@ fn words(rt: &(impl Env + AllocGlobal)) -> Result<Vec<String>, AllocError> {
     }
 }
 
-fn main(rt: HostRuntime) -> ExitCode {
-    let Ok(words) = words(&rt) else {
-        return ExitCode::from(Status::NoMemory.code());
-    };
+/// Runs the command of these words over the host's files and streams.
+fn run(rt: HostRuntime, words: &[String]) -> u8 {
     let alloc = rt.alloc();
     let mut console = StreamSink::new(rt.stdout());
     let mut trace = StreamSink::new(rt.stderr());
     let mut files = DiskFiles::new(rt);
-    let status = iop_main(alloc, &words, &mut files, &mut console, &mut trace);
+    iop_main(alloc, words, &mut files, &mut console, &mut trace)
+}
+
+fn main(rt: HostRuntime) -> ExitCode {
+    let status = match words(&rt) {
+        Ok(words) => run(rt, &words),
+        Err(_) => Status::NoMemory.code(),
+    };
     ExitCode::from(status)
 }
