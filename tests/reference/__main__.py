@@ -1,10 +1,17 @@
 """An independent model of the machine: what `iop` writes for some modules, computed in Python.
 
-    python3 -B tests/reference [--script FILE] MODULE...    runs the modules as `iop` does; console on stdout, trace on stderr
+    python3 -B tests/reference WORD...    does what `iop` does for these words; console on stdout, trace on stderr
 
-It is written from docs/PROFILE.md and docs/FORMATS.md, shares no line with the program, and does no more than the
-tests need: it takes well-formed files, and knows most services that are built and the more common instructions.
-It ends with 70 where it does not know what would happen. `tests/models` compares it with what the cases want.
+It is written from docs/PROFILE.md and docs/FORMATS.md, and shares no line with the program but for the source of the test
+module. It does no more than the tests need: it takes well-formed modules, and knows the more common instructions. It ends
+with 70 where it does not know what would happen. `tests/models` compares it with what the cases want.
+
+What the command is told stands in these files:
+
+    words.py         its words
+    inputs.py        the files that it reads, and why it may not run
+    script.py        the events and the words of a script
+    generated.py     the module that it can make
 
 The machine is one class, whose parts stand each in a file of its own:
 
@@ -13,37 +20,54 @@ The machine is one class, whose parts stand each in a file of its own:
     threads.py       threads, the list of the ready ones and dispatch; thbase
     objects.py       semaphores, event flags and mailboxes; thsemap, thevent, thmsgbx
     deliveries.py    alarms, delays, interrupt lines and their handlers; thbase on the clock, intrman
-    services.py      which services there are, and from where they may be called; loadcore, sysmem, stdio
+    services.py      which services there are, and from where they may be called; loadcore, sysmem
+    formatting.py    printf and Kprintf
     processor.py     registers and instructions
     memory.py        RAM with its live stubs, and the blocks
-    script.py        the events and the words of a script
 """
 
+import os
 import struct
 import sys
 
+from generated import generated
+from inputs import Refused, read_file
 from machine import Machine
 from script import read_script
+from words import read_words
 
 UNKNOWN = 70
 
 
+def module_files(options):
+    """The number, the word and the bytes of each module."""
+    if options.generate:
+        return [(1, "generated", generated(options.generate))]
+    return [(number, name, read_file(name)) for number, name in enumerate(options.modules, 1)]
+
+
+def outcome(words):
+    """The console's bytes, the lines of the trace and the status."""
+    try:
+        options = read_words(words)
+        events, handed = ([], {}) if options.script is None else read_script(read_file(options.script))
+        files = module_files(options)
+    except Refused as refused:
+        return b"", [f"iop: {refused.text}"], refused.status
+    machine = Machine(files, events, handed)
+    status = machine.run(options.budget)
+    dump = machine.dump(*options.dump) if options.dump else []
+    return machine.console, machine.lines + dump, status
+
+
 def main():
     try:
-        names, events, words = sys.argv[1:], [], {}
-        if names[:1] == ["--script"]:
-            events, words = read_script(names[1])
-            names = names[2:]
-        if not names:
-            raise NotImplementedError("no words")
-        files = [(n, name, open(name, "rb").read()) for n, name in enumerate(names, 1)]
-        machine = Machine(files, events, words)
-        status = machine.run()
-    except (IndexError, NotImplementedError, OSError, StopIteration, struct.error) as unknown:
+        console, trace, status = outcome([os.fsencode(word) for word in sys.argv[1:]])
+    except (IndexError, NotImplementedError, StopIteration, struct.error) as unknown:
         print(f"model: {type(unknown).__name__} {unknown}", file=sys.stderr)
         return UNKNOWN
-    sys.stdout.buffer.write(machine.console)
-    sys.stderr.write("".join(line + "\n" for line in machine.lines))
+    sys.stdout.buffer.write(console)
+    sys.stderr.buffer.write("".join(line + "\n" for line in trace).encode())
     return status
 
 

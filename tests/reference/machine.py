@@ -3,6 +3,7 @@
 import struct
 
 from deliveries import Deliveries, Line
+from formatting import Formatting
 from loading import Loading
 from memory import Blocks, Fault, Memory
 from objects import EventFlag, Mailbox, Objects, Semaphore
@@ -10,10 +11,8 @@ from processor import Processor, Registers
 from services import LIBRARIES, Services
 from threads import Thread, Threads
 
-BUDGET = 10_000_000
 
-
-class Machine(Loading, Threads, Objects, Deliveries, Services, Processor):
+class Machine(Loading, Threads, Objects, Deliveries, Services, Formatting, Processor):
     """What the parts share, and the order in which they have their turn."""
 
     def __init__(self, files, events, words):
@@ -55,7 +54,8 @@ class Machine(Loading, Threads, Objects, Deliveries, Services, Processor):
         for at, code in ((0x3000, 0xF00), (0x3010, 0xF01), (0x3020, 0xF02)):
             put(at, code << 6 | 0xC)
 
-    def run(self):
+    def run(self, budget):
+        """Runs for so many instructions at most, and answers the status."""
         begins = self.load_next()
         if begins:
             self.threads[1].cpu = begins
@@ -70,7 +70,7 @@ class Machine(Loading, Threads, Objects, Deliveries, Services, Processor):
             if self.deliver() or self.dispatch():
                 self.events = left
             elif self.handler or self.running is not None:
-                if executed == BUDGET:
+                if executed == budget:
                     for number in fresh:
                         self.irqs[number].raised = False
                     return self.end("budget", 10)
@@ -91,3 +91,8 @@ class Machine(Loading, Threads, Objects, Deliveries, Services, Processor):
     def end(self, text, status):
         self.trace(f"end {text}")
         return status
+
+    def dump(self, at, length):
+        """The lines that tell the bytes of a range, 16 bytes a line."""
+        part = self.memory.ram[self.memory.place(at, length):][:length]
+        return [f"{at + n:08x}: {part[n:n + 16].hex()}" for n in range(0, length, 16)]

@@ -7,19 +7,23 @@ class Fault(Exception):
     """A guest fault, by its word in the trace."""
 
 
+def place_of(at, length, width=1):
+    """The place in RAM of a range, or None where it is not wholly there or `at` is not a multiple of the width."""
+    if at % width or at >> 29 not in (0, 4, 5) or at % 0x20000000 >= SIZE:
+        return None
+    place = at % 0x20000000
+    return place if place + length <= SIZE else None
+
+
 class Memory:
     """RAM, with the live stubs."""
+
+    place = staticmethod(place_of)
 
     def __init__(self, machine):
         self.machine = machine
         self.ram = bytearray(SIZE)
         self.live = {}  # place -> (name, major)
-
-    def place(self, at, length, width=1):
-        if at % width or at >> 29 not in (0, 4, 5) or at % 0x20000000 >= SIZE:
-            return None
-        place = at % 0x20000000
-        return place if place + length <= SIZE else None
 
     def load(self, at, width):
         place = self.place(at, width, width)
@@ -61,6 +65,15 @@ class Blocks:
                 self.used[start] = size
                 return start
         return 0
+
+    def holder(self, at):
+        """The start and the size of the block that holds an address; both are 2^32 - 1 where none does."""
+        place = place_of(at, 1)
+        held = ((s, n) for s, n in self.used.items() if place is not None and s <= place < s + n)
+        return next(held, (2**32 - 1, 2**32 - 1))
+
+    def all_free(self):
+        return SIZE - sum(self.used.values())
 
     def most_free(self):
         edges = sorted(self.used.items()) + [(SIZE, 0)]

@@ -57,8 +57,10 @@ class Processor:
         elif op in (4, 5):
             taken = (r[rs] == r[rt]) == (op == 4)
             target = cpu.pc + 4 + 4 * simm if taken else cpu.next + 4
-        elif op == 9:
+        elif op in (8, 9):
             write = rt, r[rs] + simm
+            if op == 8 and not -2**31 <= (r[rs] ^ 2**31) - 2**31 + simm < 2**31:
+                raise Fault("overflow")
         elif op == 13:
             write = rt, r[rs] | imm
         elif op == 15:

@@ -2,11 +2,11 @@
 
 import struct
 
-from memory import Fault
+from memory import SIZE, Fault
 
 LIBRARIES = ["loadcore", "sysmem", "intrman", "thbase", "thsemap", "thevent", "thmsgbx", "stdio"]
 
-# From where the services may be called: by a thread alone, by a handler alone, or by both. What is not here is not known.
+# The services that there are, and from where they may be called: by a thread alone, by a handler alone, or by both.
 THREAD = {
     "loadcore": {6, 7},
     "intrman": {4, 5},
@@ -24,7 +24,7 @@ HANDLER = {
 }
 BOTH = {
     "loadcore": {4, 5},
-    "sysmem": {4, 5, 7, 14},
+    "sysmem": {4, 5, 6, 7, 8, 9, 10, 14},
     "intrman": {6, 7, 8, 9, 17, 18, 23},
     "thbase": {34, 39, 40},
     "stdio": {4},
@@ -32,7 +32,7 @@ BOTH = {
 
 
 class Services:
-    """Of the machine: what a `syscall` calls, and the services of loadcore, sysmem and stdio."""
+    """Of the machine: what a `syscall` calls, and the services of loadcore and sysmem."""
 
     def syscall(self, code):
         """What a `syscall` answers, or None where there is no answer."""
@@ -53,27 +53,31 @@ class Services:
         if number in forms:
             number = forms[number]
         elif number not in plain | BOTH.get(name, set()):
-            raise NotImplementedError(code)
-        return self.serve(name, number)
+            self.trace(f"service {name} {number}")
+            return -1
+        services = {"loadcore": self.library_service, "sysmem": self.memory_service, "intrman": self.interrupt_service,
+                    "thbase": self.service, "thsemap": self.semaphore_service, "thevent": self.event_flag_service,
+                    "thmsgbx": self.mailbox_service, "stdio": lambda number: self.print_formatted()}
+        return services[name](number)
 
-    def serve(self, name, number):
+    def memory_service(self, number):
+        """A service of sysmem."""
         a, b, c = self.cpu.r[4:7]
-        if (name, number) in (("sysmem", 14), ("stdio", 4)):
-            place = self.memory.place(a, 0)
-            text = b"" if place is None else bytes(self.memory.ram[place:place + 4096]).split(b"\0")[0]
-            self.console += text
-            return len(text)
-        if name == "sysmem":
-            return self.blocks.most_free() if number == 7 else self.blocks.free(a) if number == 5 else self.blocks.alloc(a, b, c)
-        services = {"intrman": self.interrupt_service, "thbase": self.service, "thsemap": self.semaphore_service,
-                    "thevent": self.event_flag_service, "thmsgbx": self.mailbox_service}
-        if name in services:
-            return services[name](number)
+        if number == 4:
+            return self.blocks.alloc(a, b, c)
+        if number == 5:
+            return self.blocks.free(a)
+        if number in (9, 10):
+            return self.blocks.holder(a)[number - 9]
+        if number == 14:
+            return self.print_formatted()
+        return {6: SIZE, 7: self.blocks.most_free(), 8: self.blocks.all_free()}[number]
+
+    def library_service(self, number):
+        """A service of loadcore."""
         if number in (4, 5):
             return 0
-        if number == 6:
-            return self.register_library(a)
-        raise NotImplementedError(name)
+        return (self.register_library if number == 6 else self.release_library)(self.cpu.r[4])
 
     def register_library(self, at):
         place = self.words_at(at, 5)
@@ -85,6 +89,16 @@ class Services:
         if len(self.registry) >= 263:
             return -400
         self.registry.append((*library, place))
+        return 0
+
+    def release_library(self, at):
+        place = self.memory.place(at, 0)
+        entry = next((entry for entry in self.registry if entry[2] == place), None)
+        if entry is None:
+            return -213
+        if entry[:2] in self.memory.live.values():
+            return -215
+        self.registry.remove(entry)
         return 0
 
     def words_at(self, at, count):

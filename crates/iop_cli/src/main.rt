@@ -25,19 +25,13 @@ fn words(rt: &(impl Env + AllocGlobal)) -> Result<Vec<String>, AllocError> {
     }
 }
 
-/// Runs the command of these words over the host's files and streams.
-fn run(rt: HostRuntime, words: &[String]) -> u8 {
+fn main(rt: HostRuntime) -> ExitCode {
+    let Ok(words) = words(&rt) else {
+        return ExitCode::from(Status::NoMemory.code());
+    };
     let alloc = rt.alloc();
     let mut console = StreamSink::new(rt.stdout());
     let mut trace = StreamSink::new(rt.stderr());
     let mut files = DiskFiles::new(rt);
-    iop_main(alloc, words, &mut files, &mut console, &mut trace)
-}
-
-fn main(rt: HostRuntime) -> ExitCode {
-    let status = match words(&rt) {
-        Ok(words) => run(rt, &words),
-        Err(_) => Status::NoMemory.code(),
-    };
-    ExitCode::from(status)
+    ExitCode::from(iop_main(alloc, &words, &mut files, &mut console, &mut trace))
 }

@@ -10,12 +10,13 @@ use Rattle.iop_ports.specs.Sinks.{SinkTold, Sends}
 use Rattle.iop_script.specs.Reading.{empty_script, script_of}
 use Rattle.iop_script.specs.Scripts.{Script}
 use Rattle.iop_trace.specs.Outs.{Leaves, output_with}
-use Rattle.iop_front.specs.Answers.{Answers, AreFilesOf, Outside, HasNoCommand, bad_words, cannot_read, no_memory, from_files}
+use Rattle.iop_front.specs.Answers.{Answers, AreFilesOf, Outside, HasNoCommand, bad_words, no_memory_for_words, cannot_read, no_memory, from_files}
 use Rattle.iop_front.specs.Inputs.{Seen, GoesOn, HasInputs, HasStoppedUnread, HasStoppedTooLong, HasStoppedBad, HasStoppedShort}
 use Rattle.iop_front.specs.Inputs.{IsScriptOf, IsShort}
 use Rattle.iop_front.specs.Outcome.{Outcome, Meets, Comes, Refuses, refusal, bad_script_line, cannot_read_line, too_long_line}
 use Rattle.iop_front.specs.Outcome.{first_too_long, script_by, outcome_behind, outcome_by, outcome_of_inputs, outcome_of_modules}
-use Rattle.iop_front.specs.Words.{Command, AsScript, kind_by, first_kind, files_of}
+use Rattle.iop_options.specs.Commands.{Command}
+use Rattle.iop_front.specs.Named.{AsScript, kind_by, first_kind, files_of}
 use Rattle.iop_front.specs.declared.status.Status.{Status}
 use Rattle.iop_front.specs.declared.status.Status.TheVariants.{BadWords, BadScript, CannotRead, TooLong, NoMemory}
 use Rattle.iop_front.proofs.OpeningLemmas.{found}
@@ -41,57 +42,64 @@ bad_words_by named status old new none e h =
     subst (λ (n : Option Command). Answers n status old new) (sym none)
     (subst (λ (s : Status). Answers None s old new) (sym e) (bad_words h))
 
+-- there was no memory to read the words
+pub no_memory_by : (named : Option Command) (status : Status) (old new : Outside)
+    → status ≡ NoMemory → new ≡ old → Answers named status old new
+no_memory_by named status old new e same =
+    subst (λ (s : Status). Answers named s old new) (sym e) (no_memory_for_words same)
+
 -- files that were read, of which the first that is too long is this one: what they say
-record IsLongInput (name : Option (List ℕ)) (files : List NamedFile) (long : NamedFile)
-    : Type 0 where
+record IsLongInput (command : Command) (name : Option (List ℕ)) (files : List NamedFile)
+    (long : NamedFile) : Type 0 where
   script : Option NamedFile
   modules : List NamedFile
   has_script : is_some script ≡ is_some name
   are : option_to_list script ++ modules ≡ files
-  is : outcome_of_inputs script modules ≡ refusal TooLong (too_long_line long.name)
+  is : outcome_of_inputs command script modules ≡ refusal TooLong (too_long_line long.name)
   ends : (is_err (script_by script) ≡ true) ⊎ IsSome (first_too_long modules)
 
 -- behind a script that is not too long, by what it reads as
-long_behind : (name : List ℕ) (script : NamedFile) (modules : List NamedFile) (long : NamedFile)
-    (read : Result Script ℕ) → nat_lt LONGEST_FILE (length script.file) ≡ false
+long_behind : (command : Command) (name : List ℕ) (script : NamedFile) (modules : List NamedFile)
+    (long : NamedFile) (read : Result Script ℕ) → nat_lt LONGEST_FILE (length script.file) ≡ false
     → first_too_long modules ≡ Some long → GoesOn AsScript (script ∷ modules)
-    → script_of script.file ≡ read → IsLongInput (Some name) (script ∷ modules) long
-long_behind name script [] long read short e on is = absurd (cc)
-long_behind name script (first ∷ rest) long (Err number) short e on is =
+    → script_of script.file ≡ read → IsLongInput command (Some name) (script ∷ modules) long
+long_behind command name script [] long read short e on is = absurd (cc)
+long_behind command name script (first ∷ rest) long (Err number) short e on is =
     let bad : false ≡ true = sym (ap is_ok is) ∙ on in absurd (cc)
-long_behind name script (first ∷ rest) long (Ok says) short e on is = record {
+long_behind command name script (first ∷ rest) long (Ok says) short e on is = record {
   script = Some script;
   modules = first ∷ rest;
   has_script = refl;
   are = refl;
-  is = ap (λ r. outcome_behind r (first ∷ rest)) (from_short script (Ok says) short is)
-      ∙ long_outcome says (first ∷ rest) long e;
+  is = ap (λ r. outcome_behind command r (first ∷ rest)) (from_short script (Ok says) short is)
+      ∙ long_outcome command says (first ∷ rest) long e;
   ends = inr (ap is_some e);
 }
 
 -- by the first file, if a script is named
-long_input : (name : Option (List ℕ)) (files : List NamedFile) (long : NamedFile)
-    → first_too_long files ≡ Some long → GoesOn (kind_by name) files → IsLongInput name files long
-long_input None files long e on = record {
+long_input : (command : Command) (name : Option (List ℕ)) (files : List NamedFile)
+    (long : NamedFile) → first_too_long files ≡ Some long → GoesOn (kind_by name) files
+    → IsLongInput command name files long
+long_input command None files long e on = record {
   script = None;
   modules = files;
   has_script = refl;
   are = refl;
-  is = long_outcome empty_script files long e;
+  is = long_outcome command empty_script files long e;
   ends = inr (ap is_some e);
 }
-long_input (Some name) [] long e on = absurd (cc)
-long_input (Some name) (script ∷ modules) long e on = elim (found script modules long e) [
+long_input command (Some name) [] long e on = absurd (cc)
+long_input command (Some name) (script ∷ modules) long e on = elim (found script modules long e) [
   | inl h ↦ record {
     script = Some script;
     modules = modules;
     has_script = refl;
     are = refl;
-    is = ap (λ r. outcome_behind r modules) (from_long script h.0)
+    is = ap (λ r. outcome_behind command r modules) (from_long script h.0)
         ∙ ap (λ (named : NamedFile). refusal TooLong (too_long_line named.name)) h.1;
     ends = inl (ap is_err (from_long script h.0));
   }
-  | inr h ↦ long_behind name script modules long (script_of script.file) h.0 h.1 on refl
+  | inr h ↦ long_behind command name script modules long (script_of script.file) h.0 h.1 on refl
 ]
 
 -- where the first file is read as a script, one is named
@@ -150,7 +158,7 @@ module _ (command : Command) (status : Status) (old new : Seen) (sinks after : O
       → status ≡ TooLong → Refuses (too_long_line name) sinks after → IsAnswer
   answers_too_long name h e line =
       let long : NamedFile = record { name = name; file = h.file } in
-      let is = long_input command.script h.files long h.decides h.taken.goes_on in
+      let is = long_input command command.script h.files long h.decides h.taken.goes_on in
       from_files h.opened h.left is.script is.modules (record {
         are_names = h.are_names;
         has_script = is.has_script;
@@ -162,7 +170,7 @@ module _ (command : Command) (status : Status) (old new : Seen) (sinks after : O
         };
       }) (inr is.ends)
       (refusal_meets status TooLong (too_long_line name)
-      (outcome_of_inputs is.script is.modules) sinks after is.is e line)
+      (outcome_of_inputs command is.script is.modules) sinks after is.is e line)
 
   pub answers_bad : (number : ℕ)
       → HasStoppedBad (first_kind command) (files_of command) number old new
@@ -180,11 +188,12 @@ module _ (command : Command) (status : Status) (old new : Seen) (sinks after : O
         };
       }) (inr (inl (ap is_err says)))
       (refusal_meets status BadScript (bad_script_line number)
-      (outcome_of_inputs (Some h.file) []) sinks after (ap (λ r. outcome_behind r []) says) e line)
+      (outcome_of_inputs command (Some h.file) []) sinks after
+      (ap (λ r. outcome_behind command r []) says) e line)
 
   pub answers_inputs : (script : Script) (modules : List NamedFile)
       → HasInputs command script modules old new → All IsShort modules
-      → Meets (outcome_of_modules script modules) status sinks after → IsAnswer
+      → Meets (outcome_of_modules command script modules) status sinks after → IsAnswer
   answers_inputs script modules h short meets =
       from_files (files_of command) [] h.file modules (record {
         are_names = sym (append-nil (files_of command));
@@ -196,6 +205,6 @@ module _ (command : Command) (status : Status) (old new : Seen) (sinks after : O
         };
       }) (inl refl)
       (subst (λ (o : Outcome). Meets o status sinks after)
-      (sym (ap (λ r. outcome_behind r modules) (script_says h.file script h.says)
-      ∙ ap (λ (o : Option NamedFile). outcome_by o script modules)
+      (sym (ap (λ r. outcome_behind command r modules) (script_says h.file script h.says)
+      ∙ ap (λ (o : Option NamedFile). outcome_by command o script modules)
       (none_too_long modules (files_short modules short)))) meets)

@@ -9,7 +9,8 @@ use Rattle.iop_script.specs.Reading.{script_of}
 use Rattle.iop_front.specs.Answers.{FilesRead, AreFilesOf, IsNameAsked}
 use Rattle.iop_front.specs.Outcome.{OpensInOrder, none, more, read_limit}
 use Rattle.iop_front.specs.Reading.{file_named}
-use Rattle.iop_front.specs.Words.{Command, AsScript, kind_by, first_kind, files_of}
+use Rattle.iop_options.specs.Commands.{Command}
+use Rattle.iop_front.specs.Named.{AsScript, kind_by, first_kind, files_of}
 use Rattle.iop_front.proofs.Endings.{IsBadScript}
 use Rattle.iop_front.proofs.OpeningLemmas.{name_asked, names_of, whole_front}
 

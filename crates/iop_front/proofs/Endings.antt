@@ -13,12 +13,13 @@ use Rattle.iop_modload.specs.declared.limits.TheConstants.{LONGEST_FILE}
 use Rattle.iop_script.specs.Reading.{empty_script, script_of}
 use Rattle.iop_script.specs.Scripts.{Script}
 use Rattle.iop_trace.specs.Outs.{Leaves}
-use Rattle.iop_front.specs.declared.limits.TheConstants.{BUDGET, MEMORY_SIZE}
+use Rattle.iop_options.specs.Commands.{Command}
+use Rattle.iop_options.specs.declared.limits.TheConstants.{MEMORY_SIZE}
 use Rattle.iop_front.specs.declared.status.Status.{Status}
 use Rattle.iop_front.specs.declared.status.Status.TheVariants.{BadScript, TooLong, SinkFault, NoMemory}
 use Rattle.iop_front.specs.Outcome.{Outcome, Meets, Refuses, refusal, bad_script_line, too_long_line, first_too_long, script_read, script_by}
-use Rattle.iop_front.specs.Outcome.{outcome_behind, outcome_by, outcome_of_inputs, outcome_of_modules}
-use Rattle.iop_front.specs.Statuses.{status_code, status_of, IsRunCode, IsRefusalCode, IsExitCode, IsCutCode}
+use Rattle.iop_front.specs.Outcome.{outcome_behind, outcome_by, outcome_of_inputs, outcome_of_modules, modules_to_load}
+use Rattle.iop_front.specs.Statuses.{status_code, status_of, IsRunCode, IsRanCode, IsRefusalCode, IsExitCode, IsCutCode}
 use Rattle.iop_front.proofs.ConsoleLemmas.{ConsoleSame, refusal_console}
 use Rattle.iop_front.proofs.OutcomeLemmas.{from_short}
 
@@ -41,7 +42,8 @@ pub data Ended (script : Option NamedFile) (files : List NamedFile) (status : St
       → Ended script files status old new
   by_run : first_too_long files ≡ None → is_err (script_by script) ≡ false → (stop : Stop)
       → status ≡ status_of stop → HasNoFault old new → Ended script files status old new
-  by_cut : (pieces : List Piece) → status ≡ SinkFault → StopsShort old new pieces
+  by_cut : first_too_long files ≡ None → is_err (script_by script) ≡ false
+      → (pieces : List Piece) → status ≡ SinkFault → StopsShort old new pieces
       → Ended script files status old new
 
 -- the outcome came
@@ -57,67 +59,68 @@ refused_status refused status line true old new h = h.0
 refused_status refused status line false old new h = h.0
 
 -- of the modules, if the script is good: of all files the first that is too long is one of them
-ended_modules : (script : Option NamedFile) (says : Script) (found : Option NamedFile)
+ended_modules : (command : Command) (script : Option NamedFile) (says : Script) (found : Option NamedFile)
     (failed : Bool) (files : List NamedFile) (status : Status) (old new : Output)
     → first_too_long files ≡ found
     → first_too_long (option_to_list script ++ files) ≡ first_too_long files
     → is_err (script_by script) ≡ false
-    → ComesBy failed (outcome_by found says files) status old new
+    → ComesBy failed (outcome_by command found says files) status old new
     → Ended script files status old new
-ended_modules script says (Some long) failed files status old new is same good h =
+ended_modules command script says (Some long) failed files status old new is same good h =
     as_too_long long (same ∙ is)
     (refused_status TooLong status (too_long_line long.name) failed old new h) (failed, h.1)
-ended_modules script says None true files status old new is same good h =
-    by_cut (outcome_of_modules says files).pieces h.0 h.1
-ended_modules script says None false files status old new is same good h =
-    let run = run_of BUDGET (beginning MEMORY_SIZE (modules_from says.args 1 files) says.events) in
+ended_modules command script says None true files status old new is same good h =
+    by_cut is good (outcome_of_modules command says files).pieces h.0 h.1
+ended_modules command script says None false files status old new is same good h =
+    let run = run_of command.budget (beginning MEMORY_SIZE
+    (modules_from says.args 1 (modules_to_load command.generate files)) says.events) in
     by_run is good run.stop h.0 h.1.1
 
 -- by what a script's file that is not too long reads as
-ended_script : (named : NamedFile) (read : Result Script ℕ) (failed : Bool) (files : List NamedFile)
+ended_script : (command : Command) (named : NamedFile) (read : Result Script ℕ) (failed : Bool) (files : List NamedFile)
     (status : Status) (old new : Output) → nat_lt LONGEST_FILE (length named.file) ≡ false
     → script_of named.file ≡ read
-    → ComesBy failed (outcome_behind (script_read read) files) status old new
+    → ComesBy failed (outcome_behind command (script_read read) files) status old new
     → Ended (Some named) files status old new
-ended_script named (Ok says) failed files status old new short is h =
-    ended_modules (Some named) says (first_too_long files) failed files status old new refl
+ended_script command named (Ok says) failed files status old new short is h =
+    ended_modules command (Some named) says (first_too_long files) failed files status old new refl
     (ap (λ b. cond b (Some named) (first_too_long files)) short)
     (ap is_err (from_short named (Ok says) short is)) h
-ended_script named (Err number) failed files status old new short is h =
+ended_script command named (Err number) failed files status old new short is h =
     as_bad_script named number
     (record { is_named = refl; short = short; bad = is })
     (refused_status BadScript status (bad_script_line number) failed old new h) (failed, h.1)
 
 -- by whether it is too long
-ended_file : (named : NamedFile) (is_long : Bool) (failed : Bool) (files : List NamedFile)
+ended_file : (command : Command) (named : NamedFile) (is_long : Bool) (failed : Bool) (files : List NamedFile)
     (status : Status) (old new : Output) → nat_lt LONGEST_FILE (length named.file) ≡ is_long
-    → ComesBy failed (outcome_behind (cond is_long
+    → ComesBy failed (outcome_behind command (cond is_long
     (Err (refusal TooLong (too_long_line named.name))) (script_read (script_of named.file))) files)
     status old new
     → Ended (Some named) files status old new
-ended_file named true failed files status old new long h =
+ended_file command named true failed files status old new long h =
     as_too_long named (ap (λ b. cond b (Some named) (first_too_long files)) long)
     (refused_status TooLong status (too_long_line named.name) failed old new h) (failed, h.1)
-ended_file named false failed files status old new short h =
-    ended_script named (script_of named.file) failed files status old new short refl h
+ended_file command named false failed files status old new short h =
+    ended_script command named (script_of named.file) failed files status old new short refl h
 
 -- by whether there is a script
-ended_by : (script : Option NamedFile) (failed : Bool) (files : List NamedFile) (status : Status)
-    (old new : Output) → ComesBy failed (outcome_of_inputs script files) status old new
+ended_by : (command : Command) (script : Option NamedFile) (failed : Bool) (files : List NamedFile) (status : Status)
+    (old new : Output) → ComesBy failed (outcome_of_inputs command script files) status old new
     → Ended script files status old new
-ended_by None failed files status old new h =
-    ended_modules None empty_script (first_too_long files) failed files status old new refl refl
+ended_by command None failed files status old new h =
+    ended_modules command None empty_script (first_too_long files) failed files status old new refl refl
     refl h
-ended_by (Some named) failed files status old new h =
-    ended_file named (nat_lt LONGEST_FILE (length named.file)) failed files status old new refl h
+ended_by command (Some named) failed files status old new h =
+    ended_file command named (nat_lt LONGEST_FILE (length named.file)) failed files status old new refl h
 
 -- and without memory
-pub ended : (script : Option NamedFile) (files : List NamedFile) (status : Status)
-    (old new : Output) → Meets (outcome_of_inputs script files) status old new
+pub ended : (command : Command) (script : Option NamedFile) (files : List NamedFile) (status : Status)
+    (old new : Output) → Meets (outcome_of_inputs command script files) status old new
     → Ended script files status old new
-ended script files status old new h = elim h [
+ended command script files status old new h = elim h [
   | inl none ↦ without_memory none.0 none.1
-  | inr came ↦ ended_by script came.0 files status old new (came.1, came.2)
+  | inr came ↦ ended_by command script came.0 files status old new (came.1, came.2)
 ]
 
 -- the status of a run
@@ -189,7 +192,7 @@ module _ {script : Option NamedFile} {files : List NamedFile} {status : Status} 
         refusal_console (bad_script_line number) old new h
     ended_console (by_run fit good stop e h) r =
         let range = refusal_range r in absurd (omega (arith, range.0, run_low stop e))
-    ended_console (by_cut pieces e h) r =
+    ended_console (by_cut fit good pieces e h) r =
         let range = refusal_range r in absurd (omega (arith, range.1, ap status_code e))
 
     -- neither 20 nor 22
@@ -201,7 +204,7 @@ module _ {script : Option NamedFile} {files : List NamedFile} {status : Status} 
     other_code n (as_bad_script named number is e h) low high other s =
         other (sym s ∙ ap status_code e)
     other_code n (by_run fit good stop e h) low high other s = omega (arith, low, s, run_low stop e)
-    other_code n (by_cut pieces e h) low high other s = omega (arith, high, s, ap status_code e)
+    other_code n (by_cut fit good pieces e h) low high other s = omega (arith, high, s, ap status_code e)
 
     pub not_twenty : Ended script files status old new → status_code status ≡ 20 → ⊥
     not_twenty e s = other_code 20 e (omega arith) (omega arith) (λ f. omega (arith, f)) s
@@ -210,14 +213,28 @@ module _ {script : Option NamedFile} {files : List NamedFile} {status : Status} 
     not_twenty_two e s = other_code 22 e (omega arith) (omega arith) (λ f. omega (arith, f)) s
 
     -- a run's status comes only there
-    pub ended_run : Ended script files status old new → IsRunCode (status_code status)
+    ended_run : Ended script files status old new → IsRunCode (status_code status)
         → IsRun script files
     ended_run (without_memory e h) r = absurd (omega (arith, low_code r, ap status_code e))
     ended_run (as_too_long long is e h) r = absurd (omega (arith, low_code r, ap status_code e))
     ended_run (as_bad_script named number is e h) r =
         absurd (omega (arith, low_code r, ap status_code e))
     ended_run (by_run fit good stop e h) r = record { fit = fit; good = good }
-    ended_run (by_cut pieces e h) r = absurd (omega (arith, low_code r, ap status_code e))
+    ended_run (by_cut fit good pieces e h) r = absurd (omega (arith, low_code r, ap status_code e))
+
+    -- and so does that of a run that was cut
+    ended_cut_run : Ended script files status old new → status_code status ≡ 24
+        → IsRun script files
+    ended_cut_run (without_memory e h) s = absurd (omega (arith, ap status_code e, s))
+    ended_cut_run (as_too_long long is e h) s = absurd (omega (arith, ap status_code e, s))
+    ended_cut_run (as_bad_script named number is e h) s =
+        absurd (omega (arith, ap status_code e, s))
+    ended_cut_run (by_run fit good stop e h) s = record { fit = fit; good = good }
+    ended_cut_run (by_cut fit good pieces e h) s = record { fit = fit; good = good }
+
+    pub ended_ran : Ended script files status old new → IsRanCode (status_code status)
+        → IsRun script files
+    ended_ran e r = elim r [ inl run ↦ ended_run e run | inr cut ↦ ended_cut_run e cut ]
 
     -- 23, and its line
     pub ended_too_long : Ended script files status old new → status_code status ≡ 23
@@ -227,7 +244,7 @@ module _ {script : Option NamedFile} {files : List NamedFile} {status : Status} 
     ended_too_long (as_bad_script named number is e h) s =
         absurd (omega (arith, ap status_code e, s))
     ended_too_long (by_run fit good stop e h) s = absurd (omega (arith, run_low stop e, s))
-    ended_too_long (by_cut pieces e h) s = absurd (omega (arith, ap status_code e, s))
+    ended_too_long (by_cut fit good pieces e h) s = absurd (omega (arith, ap status_code e, s))
 
     -- 21, and its line
     pub ended_bad : Ended script files status old new → status_code status ≡ 21
@@ -237,7 +254,7 @@ module _ {script : Option NamedFile} {files : List NamedFile} {status : Status} 
     ended_bad (as_bad_script named number is e h) s =
         record { named = named; number = number; is_bad = is; line = h }
     ended_bad (by_run fit good stop e h) s = absurd (omega (arith, run_low stop e, s))
-    ended_bad (by_cut pieces e h) s = absurd (omega (arith, ap status_code e, s))
+    ended_bad (by_cut fit good pieces e h) s = absurd (omega (arith, ap status_code e, s))
 
     -- 24, and the counts of the sinks
     pub ended_cut : Ended script files status old new → status_code status ≡ 24
@@ -247,7 +264,7 @@ module _ {script : Option NamedFile} {files : List NamedFile} {status : Status} 
     ended_cut (as_too_long long is e h) s = absurd (omega (arith, ap status_code e, s))
     ended_cut (as_bad_script named number is e h) s = absurd (omega (arith, ap status_code e, s))
     ended_cut (by_run fit good stop e h) s = absurd (omega (arith, run_low stop e, s))
-    ended_cut (by_cut pieces e h) s = failed_sink h.piece old new h.fails
+    ended_cut (by_cut fit good pieces e h) s = failed_sink h.piece old new h.fails
 
     pub ended_cut_shows : Ended script files status old new → new.trace_faults ≢ old.trace_faults
         → IsCutCode (status_code status)
@@ -255,7 +272,7 @@ module _ {script : Option NamedFile} {files : List NamedFile} {status : Status} 
     ended_cut_shows (as_too_long long is e h) ne = inr (inr (inr (inr (ap status_code e))))
     ended_cut_shows (as_bad_script named number is e h) ne = inr (inr (inl (ap status_code e)))
     ended_cut_shows (by_run fit good stop e h) ne = absurd (ne h.trace)
-    ended_cut_shows (by_cut pieces e h) ne = inl (ap status_code e)
+    ended_cut_shows (by_cut fit good pieces e h) ne = inl (ap status_code e)
 
     pub ended_console_shows : Ended script files status old new
         → new.console_faults ≢ old.console_faults
@@ -267,7 +284,7 @@ module _ {script : Option NamedFile} {files : List NamedFile} {status : Status} 
     ended_console_shows (as_bad_script named number is e h) ne =
         absurd (ne (refusal_console (bad_script_line number) old new h).faults)
     ended_console_shows (by_run fit good stop e h) ne = absurd (ne h.console)
-    ended_console_shows (by_cut pieces e h) ne = ap status_code e
+    ended_console_shows (by_cut fit good pieces e h) ne = ap status_code e
 
     -- there is no other status
     pub ended_code : Ended script files status old new → IsExitCode (status_code status)
@@ -276,7 +293,7 @@ module _ {script : Option NamedFile} {files : List NamedFile} {status : Status} 
     ended_code (as_bad_script named number is e h) = inr (inl (inr (inl (ap status_code e))))
     ended_code (by_run fit good stop e h) =
         inl (subst (λ (s : Status). IsRunCode (status_code s)) (sym e) (run_code stop))
-    ended_code (by_cut pieces e h) = inr (inr (inl (ap status_code e)))
+    ended_code (by_cut fit good pieces e h) = inr (inr (inl (ap status_code e)))
 
     -- 30: no memory, and nothing written
     pub ended_memory : Ended script files status old new → status_code status ≡ 30 → new ≡ old
@@ -284,4 +301,4 @@ module _ {script : Option NamedFile} {files : List NamedFile} {status : Status} 
     ended_memory (as_too_long long is e h) s = absurd (omega (arith, ap status_code e, s))
     ended_memory (as_bad_script named number is e h) s = absurd (omega (arith, ap status_code e, s))
     ended_memory (by_run fit good stop e h) s = absurd (omega (arith, run_low stop e, s))
-    ended_memory (by_cut pieces e h) s = absurd (omega (arith, ap status_code e, s))
+    ended_memory (by_cut fit good pieces e h) s = absurd (omega (arith, ap status_code e, s))

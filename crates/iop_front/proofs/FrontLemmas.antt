@@ -18,7 +18,8 @@ use Rattle.iop_front.specs.Outcome.{Outcome, Meets, first_too_long, script_by, o
 use Rattle.iop_front.specs.Outcome.{outcome_of_inputs, outcome_named, read_limit}
 use Rattle.iop_front.specs.Reading.{file_named}
 use Rattle.iop_front.specs.declared.status.Status.{Status}
-use Rattle.iop_front.specs.Words.{Command, files_of}
+use Rattle.iop_options.specs.Commands.{Command}
+use Rattle.iop_front.specs.Named.{files_of}
 use Rattle.iop_front.proofs.OutcomeLemmas.{from_long, from_short, long_outcome}
 
 -- the first that is too long is so also before others
@@ -28,7 +29,7 @@ long_before files others long e =
     find-append (λ (named : NamedFile). nat_lt LONGEST_FILE (length named.file)) files others
     ∙ ap (λ (o : Option NamedFile). option_or o (first_too_long others)) e
 
-module _ (told : FilesTold) where
+module _ (command : Command) (told : FilesTold) where
   -- a file that is named, and its first bytes, one more than it may have
   abbrev whole : List ℕ → NamedFile
   whole name = record { name = name; file = file_named told name }
@@ -93,32 +94,32 @@ module _ (told : FilesTold) where
   module _ (script : Script) where
     ended_by : (found : Option NamedFile) (names left : List (List ℕ)) → IsSome found
         → first_too_long (map whole names) ≡ found
-        → outcome_of_files script (map whole names)
-        ≡ outcome_of_files script (map whole (names ++ left))
+        → outcome_of_files command script (map whole names)
+        ≡ outcome_of_files command script (map whole (names ++ left))
     ended_by None names left some e = absurd (cc)
     ended_by (Some long) names left some e =
-        long_outcome script (map whole names) long e
-        ∙ sym (ap (outcome_of_files script) (map-append whole names left)
-        ∙ long_outcome script (map whole names ++ map whole left) long
+        long_outcome command script (map whole names) long e
+        ∙ sym (ap (outcome_of_files command script) (map-append whole names left)
+        ∙ long_outcome command script (map whole names ++ map whole left) long
         (long_before (map whole names) (map whole left) long e))
 
     modules_same : (names left : List (List ℕ))
         → (left ≡ []) ⊎ IsSome (first_too_long (map front names))
-        → outcome_of_files script (map front names)
-        ≡ outcome_of_files script (map whole (names ++ left))
+        → outcome_of_files command script (map front names)
+        ≡ outcome_of_files command script (map whole (names ++ left))
     modules_same names left ends = elim (alike names) [
-      | inl all ↦ ap (outcome_of_files script) all ∙ elim ends [
+      | inl all ↦ ap (outcome_of_files command script) all ∙ elim ends [
         | inl none ↦
-            ap (λ t. outcome_of_files script (map whole t)) (sym (append-nil names))
-            ∙ ap (λ t. outcome_of_files script (map whole (names ++ t))) (sym none)
+            ap (λ t. outcome_of_files command script (map whole t)) (sym (append-nil names))
+            ∙ ap (λ t. outcome_of_files command script (map whole (names ++ t))) (sym none)
         | inr some ↦
             ended_by (first_too_long (map whole names)) names left
             (subst (λ (fs : List NamedFile). IsSome (first_too_long fs)) all some) refl
       ]
       | inr long ↦
-          long_outcome script (map front names) (front long.name) long.fronts
-          ∙ sym (ap (outcome_of_files script) (map-append whole names left)
-          ∙ long_outcome script (map whole names ++ map whole left) (whole long.name)
+          long_outcome command script (map front names) (front long.name) long.fronts
+          ∙ sym (ap (outcome_of_files command script) (map-append whole names left)
+          ∙ long_outcome command script (map whole names ++ map whole left) (whole long.name)
           (long_before (map whole names) (map whole left) (whole long.name) long.wholes))
     ]
 
@@ -135,8 +136,8 @@ module _ (told : FilesTold) where
       (ends : EndsReading (Some (front name)) (map front names) left) where
     abbrev IsSame : Type 0
     IsSame =
-        outcome_of_inputs (Some (front name)) (map front names)
-        ≡ outcome_of_inputs (Some (whole name)) (map whole (names ++ left))
+        outcome_of_inputs command (Some (front name)) (map front names)
+        ≡ outcome_of_inputs command (Some (whole name)) (map whole (names ++ left))
 
     -- by what the script's file reads as, if it is not too long
     script_same : (read : Result Script ℕ)
@@ -145,22 +146,22 @@ module _ (told : FilesTold) where
     script_same (Err number) short is =
         let says = from_short (whole name) (Err number) short is in
         let same = ap (λ (f : NamedFile). script_by (Some f)) (short_front name short) in
-        ap (λ r. outcome_behind r (map front names)) (same ∙ says)
-        ∙ sym (ap (λ r. outcome_behind r (map whole (names ++ left))) says)
+        ap (λ r. outcome_behind command r (map front names)) (same ∙ says)
+        ∙ sym (ap (λ r. outcome_behind command r (map whole (names ++ left))) says)
     script_same (Ok script) short is =
         let says = from_short (whole name) (Ok script) short is in
         let same = ap (λ (f : NamedFile). script_by (Some f)) (short_front name short) in
-        ap (λ r. outcome_behind r (map front names)) (same ∙ says)
+        ap (λ r. outcome_behind command r (map front names)) (same ∙ says)
         ∙ modules_same script names left
         (ends_modules (Some (front name)) (map front names)
         (ap is_err (same ∙ says)) ends)
-        ∙ sym (ap (λ r. outcome_behind r (map whole (names ++ left))) says)
+        ∙ sym (ap (λ r. outcome_behind command r (map whole (names ++ left))) says)
 
     -- by whether it is too long
     file_same : (b : Bool) → nat_lt LONGEST_FILE (length (file_named told name)) ≡ b → IsSame
     file_same true e =
-        ap (λ r. outcome_behind r (map front names)) (from_long (front name) (long_front name e))
-        ∙ sym (ap (λ r. outcome_behind r (map whole (names ++ left))) (from_long (whole name) e))
+        ap (λ r. outcome_behind command r (map front names)) (from_long (front name) (long_front name e))
+        ∙ sym (ap (λ r. outcome_behind command r (map whole (names ++ left))) (from_long (whole name) e))
     file_same false e = script_same (script_of (file_named told name)) e refl
 
   -- what was read has the outcome of all that is named
@@ -168,14 +169,14 @@ module _ (told : FilesTold) where
       (script : Option NamedFile) (files : List NamedFile)
       → option_to_list named ++ modules ≡ names ++ left → is_some script ≡ is_some named
       → option_to_list script ++ files ≡ map front names → EndsReading script files left
-      → outcome_of_inputs script files
-      ≡ outcome_of_inputs (option_map whole named) (map whole modules)
+      → outcome_of_inputs command script files
+      ≡ outcome_of_inputs command (option_map whole named) (map whole modules)
   inputs_same None modules names left None files e is are ends =
-      ap (outcome_of_files empty_script) are
+      ap (outcome_of_files command empty_script) are
       ∙ modules_same empty_script names left
       (subst (λ (fs : List NamedFile). (left ≡ []) ⊎ IsSome (first_too_long fs)) are
       (ends_modules None files refl ends))
-      ∙ ap (λ t. outcome_of_files empty_script (map whole t)) (sym e)
+      ∙ ap (λ t. outcome_of_files command empty_script (map whole t)) (sym e)
   inputs_same None modules names left (Some script) files e is are ends = absurd (cc)
   inputs_same (Some name) modules names left None files e is are ends = absurd (cc)
   inputs_same (Some name) modules [] left (Some script) files e is are ends = absurd (cc)
@@ -187,19 +188,19 @@ module _ (told : FilesTold) where
       let ended : EndsReading (Some (front first)) (map front names) left =
       subst (λ (s : NamedFile). EndsReading (Some s) (map front names) left) file
       (subst (λ (fs : List NamedFile). EndsReading (Some script) fs left) others ends) in
-      ap (λ (s : NamedFile). outcome_of_inputs (Some s) files) file
-      ∙ ap (λ (fs : List NamedFile). outcome_of_inputs (Some (front first)) fs) others
+      ap (λ (s : NamedFile). outcome_of_inputs command (Some s) files) file
+      ∙ ap (λ (fs : List NamedFile). outcome_of_inputs command (Some (front first)) fs) others
       ∙ file_same first names left ended
       (nat_lt LONGEST_FILE (length (file_named told first))) refl
-      ∙ ap (λ n. outcome_of_inputs (Some (whole n)) (map whole (names ++ left))) same
-      ∙ ap (λ t. outcome_of_inputs (Some (whole name)) (map whole t)) behind
+      ∙ ap (λ n. outcome_of_inputs command (Some (whole n)) (map whole (names ++ left))) same
+      ∙ ap (λ t. outcome_of_inputs command (Some (whole name)) (map whole t)) behind
 
-  pub read_outcome : (command : Command) (names left : List (List ℕ)) (script : Option NamedFile)
+  pub read_outcome : (names left : List (List ℕ)) (script : Option NamedFile)
       (files : List NamedFile) (status : Status) (old new : Output)
       → files_of command ≡ names ++ left → is_some script ≡ is_some command.script
       → option_to_list script ++ files ≡ map front names → EndsReading script files left
-      → Meets (outcome_of_inputs script files) status old new
+      → Meets (outcome_of_inputs command script files) status old new
       → Meets (outcome_named told (Some command)) status old new
-  read_outcome command names left script files status old new e is are ends h =
+  read_outcome names left script files status old new e is are ends h =
       subst (λ (o : Outcome). Meets o status old new)
       (inputs_same command.script command.modules names left script files e is are ends) h

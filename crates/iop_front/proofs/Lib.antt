@@ -1,4 +1,3 @@
-pub mod WordLemmas
 pub mod ReadingLemmas
 pub mod OpeningLemmas
 pub mod TakingLemmas
@@ -6,6 +5,9 @@ pub mod ScriptLemmas
 pub mod RoomLemmas
 pub mod SendingLemmas
 pub mod RunLemmas
+pub mod WordLemmas
+pub mod DumpLemmas
+pub mod RangeLemmas
 pub mod OutcomeLemmas
 pub mod AnswerLemmas
 pub mod FrontLemmas
@@ -13,3 +15,5 @@ pub mod ConsoleLemmas
 pub mod Endings
 pub mod BadLemmas
 pub mod CauseLemmas
+pub mod RanLemmas
+pub mod CompleteLemmas

@@ -12,7 +12,7 @@ use Rattle.iop_ports.specs.Files.{FilesTold, IsAskedName, Asked, Untold, NoName,
 use Rattle.iop_front.specs.Answers.{FilesRead, AreFilesOf, IsNameAsked}
 use Rattle.iop_front.specs.Outcome.{OpensAndReads, OpensInOrder, IsGoodFile, MayGoOn, none, more, read_limit, first_too_long}
 use Rattle.iop_front.specs.Reading.{file_named}
-use Rattle.iop_front.specs.Words.{FileKind, AsModule}
+use Rattle.iop_front.specs.Named.{FileKind, AsModule}
 
 -- the fronts of the files of these names
 abbrev files_in : (List ℕ → Option (List ℕ)) → List (List ℕ) → List NamedFile

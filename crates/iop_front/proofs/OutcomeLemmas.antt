@@ -2,16 +2,18 @@
 use Rattle.std.proofs.Common.{◌≡◌, ℕ, nat_lt, true, false, cond, Option, Some, Result, Err, List, length, ap, ◌∙◌}
 use Rattle.iop_machine.specs.Modules.{NamedFile}
 use Rattle.iop_modload.specs.declared.limits.TheConstants.{LONGEST_FILE}
+use Rattle.iop_options.specs.Commands.{Command}
 use Rattle.iop_script.specs.Reading.{script_of}
 use Rattle.iop_script.specs.Scripts.{Script}
 use Rattle.iop_front.specs.Outcome.{refusal, first_too_long, outcome_by, outcome_of_files, script_by, script_read, too_long_line}
 use Rattle.iop_front.specs.declared.status.Status.TheVariants.{TooLong}
 
 -- the first that is too long decides, also before others
-pub long_outcome : (script : Script) (files : List NamedFile) (long : NamedFile)
+pub long_outcome : (command : Command) (script : Script) (files : List NamedFile) (long : NamedFile)
     → first_too_long files ≡ Some long
-    → outcome_of_files script files ≡ refusal TooLong (too_long_line long.name)
-long_outcome script files long e = ap (λ (o : Option NamedFile). outcome_by o script files) e
+    → outcome_of_files command script files ≡ refusal TooLong (too_long_line long.name)
+long_outcome command script files long e =
+    ap (λ (o : Option NamedFile). outcome_by command o script files) e
 
 -- the script of a file that is too long
 pub from_long : (named : NamedFile) → nat_lt LONGEST_FILE (length named.file) ≡ true

@@ -11,7 +11,8 @@ use Rattle.iop_script.specs.declared.fault.ScriptFault.{ScriptFault}
 use Rattle.iop_script.specs.declared.fault.ScriptFault.TheVariants.{Line, Memory}
 use Rattle.iop_front.specs.Inputs.{Seen, HasTaken, HasStopped, HasScript, HasInputs, IsScriptOf, unread_of}
 use Rattle.iop_front.specs.Outcome.{IsGoodFile}
-use Rattle.iop_front.specs.Words.{Command, FileKind, AsScript, AsModule, kind_by, first_kind, files_of}
+use Rattle.iop_options.specs.Commands.{Command}
+use Rattle.iop_front.specs.Named.{FileKind, AsScript, AsModule, kind_by, first_kind, files_of}
 use Rattle.iop_front.specs.declared.unread.Unread.{Unread}
 use Rattle.iop_front.proofs.OpeningLemmas.{IsNotLong, AreFollowed}
 use Rattle.iop_front.proofs.TakingLemmas.{takes_none, takes-append, stops_short, stops_bad, stops_behind}

@@ -19,7 +19,7 @@ use Rattle.iop_front.specs.Answers.{FilesRead, AreFilesOf}
 use Rattle.iop_front.specs.Inputs.{Seen, GoesOn, HasTaken, HasStopped, HasStoppedUnread, HasStoppedTooLong, HasStoppedBad, IsShort}
 use Rattle.iop_front.specs.Outcome.{IsGoodFile, OpensAndReads, none, more, read_limit, first_too_long}
 use Rattle.iop_front.specs.Reading.{HasRead, file_named, opened_with, left_after}
-use Rattle.iop_front.specs.Words.{FileKind, AsScript, AsModule}
+use Rattle.iop_front.specs.Named.{FileKind, AsScript, AsModule}
 use Rattle.iop_front.specs.declared.unread.Unread.{Unread}
 use Rattle.iop_front.specs.declared.unread.Unread.TheVariants.{Unreadable, TooLong, BadScript, NoMemory}
 use Rattle.iop_front.proofs.OpeningLemmas.{IsNotLong, AreFollowed, read_none, read-append, are_files-append}

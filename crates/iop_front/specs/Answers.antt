@@ -1,5 +1,5 @@
 -- How the command comes to each of its answers.
-use Rattle.std.specs.Prelude.{◌≡◌, ◌⊎◌, ℕ, ◌<◌, true, Option, Some, None, is_some, option_to_list, IsSome, IfSome, Err, is_err, List, [], ◌∷◌, ◌++◌, All, Contains, length, map, take}
+use Rattle.std.specs.Prelude.{◌≡◌, ◌⊎◌, ℕ, ◌<◌, ◌≤◌, true, Option, Some, None, is_some, option_to_list, IsSome, IfSome, Err, is_ok, is_err, List, [], ◌∷◌, ◌++◌, All, Contains, length, map, take}
 use Rattle.iop_base.specs.Counts.{HasCause}
 use Rattle.iop_base.specs.Output.{Output}
 use Rattle.iop_machine.specs.Modules.{NamedFile}
@@ -10,10 +10,11 @@ use Rattle.iop_script.specs.Reading.{script_of}
 use Rattle.iop_trace.specs.Outs.{sinks}
 use Rattle.iop_front.specs.declared.status.Status.{Status}
 use Rattle.iop_front.specs.declared.status.Status.TheVariants.{BadWords, CannotRead, NoMemory}
-use Rattle.iop_front.specs.Outcome.{Meets, OpensInOrder, Refuses, outcome_of_inputs, script_by, first_too_long, bad_words_line}
+use Rattle.iop_front.specs.Outcome.{Meets, MeetsCode, OpensInOrder, Refuses, outcome_of_inputs, script_by, first_too_long, bad_words_line}
 use Rattle.iop_front.specs.Outcome.{bad_script_line, cannot_read_line, too_long_line, read_limit}
 use Rattle.iop_front.specs.Reading.{file_named}
-use Rattle.iop_front.specs.Words.{Command, FileKind, AsScript, first_kind, files_of}
+use Rattle.iop_options.specs.Commands.{Command}
+use Rattle.iop_front.specs.Named.{FileKind, AsScript, first_kind, files_of}
 
 -- what can be seen outside: what the files tell, how often they have failed, and the two sinks
 pub record Outside : Type 0 where
@@ -91,6 +92,8 @@ EndsReading script files left =
 
 -- by the command that the words are
 pub data Answers : Option Command → Status → Outside → Outside → Type 0 where
+  no_memory_for_words : {old new : Outside} {named : Option Command} → new ≡ old
+      → Answers named NoMemory old new
   bad_words : {old new : Outside} → HasNoCommand old new → Answers None BadWords old new
   cannot_read : {old new : Outside} {command : Command} (before : List (List ℕ)) (name : List ℕ)
       (left : List (List ℕ)) → files_of command ≡ before ++ name ∷ left
@@ -103,8 +106,18 @@ pub data Answers : Option Command → Status → Outside → Outside → Type 0 
   from_files : {status : Status} {old new : Outside} {command : Command}
       (names left : List (List ℕ)) (script : Option NamedFile) (files : List NamedFile)
       → HasReadInputs command names left script files old new → EndsReading script files left
-      → Meets (outcome_of_inputs script files) status old.sinks new.sinks
+      → Meets (outcome_of_inputs command script files) status old.sinks new.sinks
       → Answers (Some command) status old new
+
+-- the command ran on files of all its names: what was written and answered is their outcome. Where the
+-- files tell, these are the first bytes of what they have
+pub record HasRun (command : Command) (code : ℕ) (told : Option FilesTold) (old new : Output)
+    : Type 0 where
+  pub script : Option NamedFile
+  pub modules : List NamedFile
+  pub has_script : is_some script ≡ is_some command.script
+  pub are_files : AreFilesOf (files_of command) (option_to_list script ++ modules) told
+  pub outcome : MeetsCode (outcome_of_inputs command script modules) code old new
 
 -- 21: the script has a bad line, whose line was written, and no file but the script's was opened.
 -- Where the files tell, it is the first bad line of that file
@@ -136,6 +149,11 @@ pub record IsTooLong (names : List (List ℕ)) (faults : ℕ) (before after : Op
   pub line : Refuses (too_long_line name) old new
   pub asked : IfSome after (IsNameAsked name faults)
   pub long : IfSome before (λ files. LONGEST_FILE < length (file_named files name))
+
+-- no file of a command is too long, and its script has no bad line
+pub record AreGoodFiles (command : Command) (files : FilesTold) : Type 0 where
+  pub short : All (λ name. length (file_named files name) ≤ LONGEST_FILE) (files_of command)
+  pub script : IfSome command.script (λ name. is_ok (script_of (file_named files name)) ≡ true)
 
 -- the first of a command's files were opened in order, and no other file
 pub record OpensFirst (command : Command) (faults : ℕ) (old new : Option FilesTold) : Type 0 where

@@ -1,28 +1,21 @@
 -- What reading the script and the modules of a command gives: all of them, or why they were not
 -- read.
-use Rattle.std.specs.Prelude.{◌≡◌, ℕ, ◌≤◌, Option, Some, None, option_map, is_some, option_to_list, Ok, Err, List, [], ◌∷◌, ◌++◌, length, map, string_bytes}
+use Rattle.std.specs.Prelude.{◌≡◌, ℕ, ◌≤◌, Option, Some, None, is_some, option_to_list, Ok, Err, List, [], ◌∷◌, ◌++◌, length}
 use Rattle.iop_base.specs.Counts.{HasCause}
 use Rattle.iop_machine.specs.Modules.{NamedFile}
 use Rattle.iop_modload.specs.declared.limits.TheConstants.{LONGEST_FILE}
 use Rattle.iop_ports.specs.Files.{FilesTold}
 use Rattle.iop_front.specs.Answers.{FilesRead, AreFilesOf}
 use Rattle.iop_front.specs.Outcome.{IsGoodFile, first_too_long}
-use Rattle.iop_front.specs.declared.command_words.CommandWords.{CommandWords}
-use Rattle.iop_front.specs.declared.limits.TheConstants.{LONGEST_WORD}
+use Rattle.iop_options.specs.declared.limits.TheConstants.{LONGEST_WORD}
 use Rattle.iop_front.specs.declared.unread.Unread.{Unread}
 use Rattle.iop_front.specs.declared.unread.Unread.TheVariants.{Unreadable, TooLong, BadScript, NoMemory}
-use Rattle.iop_front.specs.Words.{Command, FileKind, AsScript, kind_by, first_kind, files_of}
+use Rattle.iop_options.specs.Commands.{Command}
+use Rattle.iop_front.specs.Named.{FileKind, AsScript, kind_by, first_kind, files_of}
 use Rattle.iop_script.specs.Reading.{empty_script, script_of}
 use Rattle.iop_script.specs.Scripts.{Script}
 use Rattle.iop_script.specs.declared.fault.ScriptFault.{ScriptFault}
 use Rattle.iop_script.specs.declared.fault.ScriptFault.TheVariants.{Line, Memory}
-
--- the words of a command, as the program holds them
-abbrev pub command_held : CommandWords → Command
-command_held words = record {
-  script = option_map (λ name. name.now) words.script;
-  modules = map string_bytes words.modules.texts.now;
-}
 
 -- why a script's text with this fault is not read
 abbrev pub unread_of : ScriptFault → Unread

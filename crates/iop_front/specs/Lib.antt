@@ -1,6 +1,6 @@
 pub mod Answers
 pub mod Inputs
+pub mod Named
 pub mod Outcome
 pub mod Reading
 pub mod Statuses
-pub mod Words

@@ -1,23 +1,30 @@
 -- What a command is to write and to answer, by its words and the contents of the files: this
 -- project's profile.
-use Rattle.std.specs.Prelude.{◌≡◌, ◌⊎◌, ℕ, ◌+◌, ◌≤◌, nat_lt, Bool, true, if◌then◌else◌, Option, Some, None, option_map, Result, Ok, Err, is_ok, List, [], ◌∷◌}
+use Rattle.std.specs.Prelude.{◌≡◌, ◌⊎◌, ℕ, ◌+◌, ◌≤◌, nat_lt, Bool, true, false, not, if◌then◌else◌, Option, Some, None, option_map, unwrap_or, Result, Ok, Err, is_ok, List, [], ◌∷◌}
 use Rattle.std.specs.Prelude.{◌++◌, codes, decimal, find, length, map}
 use Rattle.iop_base.specs.Piece.{Piece, Traced}
 use Rattle.iop_base.specs.Output.{Output}
 use Rattle.iop_base.specs.Text.{line_bytes}
 use Rattle.iop_base.specs.declared.line.Line.TheVariants.{End}
+use Rattle.iop_base.specs.declared.stop.Stop.{Stop}
 use Rattle.iop_machine.specs.Modules.{NamedFile, modules_from}
 use Rattle.iop_machine.specs.Stepping.{Ran, run_of}
-use Rattle.iop_machine.specs.World.{beginning}
+use Rattle.iop_machine.specs.World.{World, beginning}
 use Rattle.iop_modload.specs.declared.limits.TheConstants.{LONGEST_FILE}
 use Rattle.iop_ports.specs.Files.{FilesTold}
+use Rattle.iop_ports.specs.Sinks.{SinkTold}
 use Rattle.iop_script.specs.Reading.{empty_script, script_of}
 use Rattle.iop_script.specs.Scripts.{Script}
-use Rattle.iop_trace.specs.Outs.{Leaves}
-use Rattle.iop_front.specs.declared.limits.TheConstants.{BUDGET, MEMORY_SIZE}
+use Rattle.iop_trace.specs.Dumps.{dump_lines}
+use Rattle.iop_trace.specs.Outs.{Leaves, output_with}
+use Rattle.iop_ram.specs.Windows.{window_of}
+use Rattle.iop_generator.specs.Sources.{source, file_of_source}
+use Rattle.iop_options.specs.declared.limits.TheConstants.{MEMORY_SIZE}
+use Rattle.iop_options.specs.Values.{DumpRange}
 use Rattle.iop_front.specs.declared.status.Status.{Status}
 use Rattle.iop_front.specs.declared.status.Status.TheVariants.{BadWords, BadScript, TooLong, SinkFault, NoMemory}
-use Rattle.iop_front.specs.Words.{Command, FileKind, AsScript, AsModule, command_of}
+use Rattle.iop_options.specs.Commands.{Command, command_of}
+use Rattle.iop_front.specs.Named.{FileKind, AsScript, AsModule}
 use Rattle.iop_front.specs.Reading.{file_named, opened_with, left_after}
 use Rattle.iop_front.specs.Statuses.{status_code, status_of}
 
@@ -42,37 +49,58 @@ abbrev pub cannot_read_line : List ℕ → List ℕ
 cannot_read_line name = codes "iop: cannot read " ++ name ++ codes "\n"
 
 abbrev pub too_long_line : List ℕ → List ℕ
-too_long_line name = codes "iop: " ++ name ++ codes " is over 4194304 bytes\n"
+too_long_line name =
+    codes "iop: " ++ name ++ (codes " is over " ++ decimal LONGEST_FILE ++ codes " bytes\n")
 
--- the last line tells how a run ended
-abbrev pub end_line : Ran → Piece
-end_line ran = Traced (line_bytes ran.world.iop.kernel.clock (End ran.stop))
+-- the lines of a dump, if one is asked for
+abbrev pub dump_pieces : (ram : List ℕ) → Option DumpRange → List Piece
+dump_pieces ram None = []
+dump_pieces ram (Some range) =
+    map Traced (dump_lines range.from (unwrap_or (window_of ram range.from range.len) []))
+
+-- what stands behind a run: the line of its end, and the dump of the memory that it leaves
+abbrev pub ending_of : Option DumpRange → World → Stop → List Piece
+ending_of dump world stop = Traced (line_bytes world.iop.kernel.clock (End stop))
+    ∷ dump_pieces world.iop.memory.ram dump
 
 -- of a run
-abbrev pub outcome_of_run : Ran → Outcome
-outcome_of_run ran = record {
-  pieces = ran.pieces ++ end_line ran ∷ [];
+abbrev pub outcome_of_run : Option DumpRange → Ran → Outcome
+outcome_of_run dump ran = record {
+  pieces = ran.pieces ++ ending_of dump ran.world ran.stop;
   status = status_of ran.stop;
   status_if_cut = SinkFault;
 }
 
--- the run of the machine that loads these modules, one after the other, as the script says
-abbrev pub outcome_of_modules : Script → List NamedFile → Outcome
-outcome_of_modules script files = outcome_of_run (run_of BUDGET
-    (beginning MEMORY_SIZE (modules_from script.args 1 files) script.events))
+-- the generated module, by the number of its workers
+abbrev pub generated_module : ℕ → NamedFile
+generated_module workers = record {
+  name = codes "generated";
+  file = unwrap_or (file_of_source (source workers)) [];
+}
+
+-- the modules to be loaded: those that were read, or the generated one
+abbrev pub modules_to_load : (generate : Option ℕ) → List NamedFile → List NamedFile
+modules_to_load None files = files
+modules_to_load (Some workers) files = generated_module workers ∷ []
+
+-- the run of the machine that loads the modules, one after the other, as the command and the script say
+abbrev pub outcome_of_modules : Command → Script → List NamedFile → Outcome
+outcome_of_modules command script files = outcome_of_run command.dump (run_of command.budget
+    (beginning MEMORY_SIZE (modules_from script.args 1 (modules_to_load command.generate files))
+    script.events))
 
 -- the first file that is too long
 abbrev pub first_too_long : List NamedFile → Option NamedFile
 first_too_long files = find (λ named. nat_lt LONGEST_FILE (length named.file)) files
 
 -- it decides, and else the modules are run
-abbrev pub outcome_by : Option NamedFile → Script → List NamedFile → Outcome
-outcome_by (Some long) script files = refusal TooLong (too_long_line long.name)
-outcome_by None script files = outcome_of_modules script files
+abbrev pub outcome_by : Command → Option NamedFile → Script → List NamedFile → Outcome
+outcome_by command (Some long) script files = refusal TooLong (too_long_line long.name)
+outcome_by command None script files = outcome_of_modules command script files
 
 -- of the files of modules, in order
-abbrev pub outcome_of_files : Script → List NamedFile → Outcome
-outcome_of_files script files = outcome_by (first_too_long files) script files
+abbrev pub outcome_of_files : Command → Script → List NamedFile → Outcome
+outcome_of_files command script files = outcome_by command (first_too_long files) script files
 
 -- a script, or the refusal of its first bad line
 abbrev pub script_read : Result Script ℕ → Result Script Outcome
@@ -91,13 +119,13 @@ script_by None = Ok empty_script
 script_by (Some named) = script_from named
 
 -- a refusal of the script decides before the modules
-abbrev pub outcome_behind : Result Script Outcome → List NamedFile → Outcome
-outcome_behind (Err refused) files = refused
-outcome_behind (Ok script) files = outcome_of_files script files
+abbrev pub outcome_behind : Command → Result Script Outcome → List NamedFile → Outcome
+outcome_behind command (Err refused) files = refused
+outcome_behind command (Ok script) files = outcome_of_files command script files
 
 -- of the script's file, if there is one, and of the files of modules
-abbrev pub outcome_of_inputs : Option NamedFile → List NamedFile → Outcome
-outcome_of_inputs script files = outcome_behind (script_by script) files
+abbrev pub outcome_of_inputs : Command → Option NamedFile → List NamedFile → Outcome
+outcome_of_inputs command script files = outcome_behind command (script_by script) files
 
 -- the file of a name; a name that the content does not have counts as an empty file
 abbrev pub named_file : FilesTold → List ℕ → NamedFile
@@ -106,12 +134,17 @@ named_file told name = record { name = name; file = file_named told name }
 abbrev pub outcome_named : FilesTold → Option Command → Outcome
 outcome_named told None = refusal BadWords bad_words_line
 outcome_named told (Some command) =
-    outcome_of_inputs (option_map (named_file told) command.script)
+    outcome_of_inputs command (option_map (named_file told) command.script)
     (map (named_file told) command.modules)
 
 -- the outcome of a command
 abbrev pub outcome_of : List (List ℕ) → FilesTold → Outcome
 outcome_of words told = outcome_named told (command_of words)
+
+-- the pieces are on the trace, or stop short where a write failed, by whether all are whole
+abbrev pub TraceLeaves : Bool → SinkTold → SinkTold → List Piece → Type 0
+TraceLeaves whole old new pieces = (console : SinkTold)
+    → Leaves (not whole) (output_with console old false []) (output_with console new false []) pieces
 
 -- a refusal's line was written to the trace, or a front of it, and a write failed
 abbrev pub Refuses : List ℕ → Output → Output → Type 0

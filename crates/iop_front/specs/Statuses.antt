@@ -26,6 +26,10 @@ status_of (stops.Fault fault pc) = GuestFault
 abbrev pub IsRunCode : ℕ → Type 0
 IsRunCode code = (code ≡ 0) ⊎ ((code ≡ 10) ⊎ (code ≡ 11))
 
+-- of a run, also of one that was cut
+abbrev pub IsRanCode : ℕ → Type 0
+IsRanCode code = IsRunCode code ⊎ (code ≡ 24)
+
 -- a refusal's
 abbrev pub IsRefusalCode : ℕ → Type 0
 IsRefusalCode code = (code ≡ 20) ⊎ ((code ≡ 21) ⊎ ((code ≡ 22) ⊎ (code ≡ 23)))

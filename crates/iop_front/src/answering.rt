@@ -1,28 +1,29 @@
 //! The way from a command's words to its answer.
 
-ghost use Rattle.std.specs.Prelude.{◌≡◌, ◌≤◌, Some, All, map, string_bytes, length};
-ghost use Rattle.iop_machine.specs.declared.module.TheConstants.{MOST_MODULES};
+ghost use Rattle.std.specs.Prelude.{◌≡◌, ◌≤◌, Some, None, All, map, string_bytes, length};
+ghost use Rattle.iop_script.specs.declared.statements.TheConstants.{MOST_MODULES};
 ghost use Rattle.iop_trace.specs.Outs.{sinks};
 ghost use Rattle.iop_front.specs.Answers.{outside, Answers};
 ghost use Rattle.iop_script.specs.Laws.{CanRun};
-ghost use Rattle.iop_front.specs.Words.{command_of};
-ghost use Rattle.iop_front.specs.Inputs.{command_held, IsShort};
+ghost use Rattle.iop_options.specs.Commands.{command_of};
+ghost use Rattle.iop_front.specs.Inputs.{IsShort};
 ghost use Rattle.iop_front.specs.Outcome.{Meets, outcome_of_modules};
 
-use crate::command_words::CommandWords;
 use crate::inputs::{Inputs, read_inputs};
-use crate::limits::MEMORY_SIZE;
+use crate::modules_to_load::modules_to_load;
 use crate::refusing::{refuse, refuse_bad_script, refuse_too_long, refuse_unread};
 use crate::running::run_to_end;
 use crate::status::Status;
 use crate::unread::Unread;
 use iop_machine::Machine;
+use iop_options::{MEMORY_SIZE, Options, WordFault, parse_options};
 use iop_ports::{Files, Sink};
 use std::alloc::Global;
 
-/// Runs modules, one after the other, as a script says.
+/// Runs the modules of a command, one after the other, as its options and its script say.
 fn run_modules<C: Sink, T: Sink>(
     alloc: Global,
+    options: &Options,
     inputs: Inputs,
     console: &mut C,
     trace: &mut T,
@@ -30,31 +31,34 @@ fn run_modules<C: Sink, T: Sink>(
     requires runs { CanRun inputs.script }
     requires few { length inputs.modules.items ≤ MOST_MODULES }
     requires short { All IsShort inputs.modules.items }
-    ensures { Meets (outcome_of_modules inputs.script inputs.modules.items) result
+    ensures { Meets (outcome_of_modules options.now inputs.script inputs.modules.items) result
         (sinks C.told T.told console.old trace.old)
         (sinks C.told T.told console.new trace.new) }
 {
     let Inputs { script, modules } = inputs;
+    let Ok(modules) = modules_to_load(alloc, options.generate, modules) else {
+        return Status::NoMemory;
+    };
     match Machine::new(alloc, MEMORY_SIZE, modules, script) {
-        Ok(mut machine) => run_to_end(&mut machine, console, trace),
+        Ok(mut machine) => run_to_end(&mut machine, options, console, trace),
         Err(_) => Status::NoMemory,
     }
 }
 
-/// Answers for a command.
+/// Reads the files of a command and runs it, or writes why not. Answers its status.
 fn answer_command<F: Files, C: Sink, T: Sink>(
     alloc: Global,
-    command: CommandWords<'_>,
+    options: &Options,
     files: &mut F,
     console: &mut C,
     trace: &mut T,
 ) -> Status
-    ensures { Answers (Some (command_held command.entry)) result
+    ensures { Answers (Some options.now) result
         (outside F.told F.faults C.told T.told files.old console.old trace.old)
         (outside F.told F.faults C.told T.told files.new console.new trace.new) }
 {
-    match read_inputs(alloc, command, files) {
-        Ok(inputs) => run_modules(alloc, inputs, console, trace),
+    match read_inputs(alloc, options, files) {
+        Ok(inputs) => run_modules(alloc, options, inputs, console, trace),
         Err(Unread::Unreadable(name)) => refuse_unread(name, trace),
         Err(Unread::TooLong(name)) => refuse_too_long(name, trace),
         Err(Unread::BadScript(number)) => refuse_bad_script(number, trace),
@@ -62,7 +66,7 @@ fn answer_command<F: Files, C: Sink, T: Sink>(
     }
 }
 
-/// Answers for the words of a command.
+/// Reads the words of a command, and answers for it: `BadWords` where they are none.
 pub(crate) fn answer<F: Files, C: Sink, T: Sink>(
     alloc: Global,
     words: &[String],
@@ -73,10 +77,11 @@ pub(crate) fn answer<F: Files, C: Sink, T: Sink>(
     ensures answers { Answers (command_of (map string_bytes words.now)) result
         (outside F.told F.faults C.told T.told files.old console.old trace.old)
         (outside F.told F.faults C.told T.told files.new console.new trace.new) }
-    ensures untouched { result ≡ Status.BadWords → files.new ≡ files.old }
+    ensures untouched { command_of (map string_bytes words.now) ≡ None → files.new ≡ files.old }
 {
-    match CommandWords::of(words) {
-        Some(command) => answer_command(alloc, command, files, console, trace),
-        None => refuse(Status::BadWords, b"iop: bad words\n", trace),
+    match parse_options(alloc, words) {
+        Ok(options) => answer_command(alloc, &options, files, console, trace),
+        Err(WordFault::Bad) => refuse(Status::BadWords, b"iop: bad words\n", trace),
+        Err(WordFault::Memory) => Status::NoMemory,
     }
 }

@@ -1,20 +1,22 @@
-ghost use Rattle.std.specs.Prelude.{◌≡◌, ◌≢◌, ◌↔◌, ◌⊎◌, Some, None, map, string_bytes};
+ghost use Rattle.std.specs.Prelude.{◌≡◌, ◌≢◌, ◌⊎◌, Some, None, map, string_bytes};
 ghost use Rattle.iop_base.specs.Counts.{HasCause};
 ghost use Rattle.iop_ports.specs.Files.{FilesTold};
 ghost use Rattle.iop_trace.specs.Outs.{sinks};
-ghost use Rattle.iop_front.specs.Answers.{FilesRead, OpensFirst, HasFilesNamed, HasBadScript, IsUnread, IsTooLong};
-ghost use Rattle.iop_front.specs.Words.{Command, command_of, first_kind, files_of};
+ghost use Rattle.iop_front.specs.Answers.{AreGoodFiles, HasRun, FilesRead, OpensFirst, HasFilesNamed, HasBadScript, IsUnread, IsTooLong};
+ghost use Rattle.iop_options.specs.Commands.{Command, command_of};
+ghost use Rattle.iop_front.specs.Named.{first_kind, files_of};
 ghost use Rattle.iop_front.specs.Outcome.{Refuses, MeetsCode, bad_words_line, outcome_of};
-ghost use Rattle.iop_front.specs.Statuses.{IsRunCode, IsRefusalCode, IsExitCode, IsCutCode};
+ghost use Rattle.iop_front.specs.Statuses.{IsRunCode, IsRanCode, IsRefusalCode, IsExitCode, IsCutCode};
 
 use crate::answering::answer;
 use iop_ports::{Files, Sink};
 use std::alloc::Global;
 
-/// The command `iop`: opens and reads the files that its words name, a script's first, if
-/// `--script` and its name stand first; loads the modules one after the other, links them to the
-/// registered libraries and runs them, as the script says. It writes the lines of the run to the
-/// trace and the modules' texts to the console, and answers the exit status (`Status::code`).
+/// The command `iop`: opens and reads the files that its words name (`parse_options`), a script's
+/// first; loads the modules one after the other, or the generated one, links them to the registered
+/// libraries and runs them, as the script says, by no more instructions than the budget. It writes
+/// the lines of the run to the trace, with a dump of memory behind the last, and the modules' texts
+/// to the console, and answers the exit status (`Status::code`).
 ///
 /// The words are without the program's name. The first file that cannot be read, or is too long, or
 /// a bad line of the script, decides, and no later file is opened. At most 4,194,305 bytes of each
@@ -34,12 +36,23 @@ pub fn iop_main<F: Files, C: Sink, T: Sink>(
         (sinks C.told T.told console.old trace.old)
         (sinks C.told T.told console.new trace.new) }
 
-    // 20: exactly where the words are no command. No file is opened then.
-    ensures bad_words { (result ≡ 20) ↔ (command_of (map string_bytes words.now) ≡ None) }
+    // 0, 10, 11, and 24 of a run that was cut: they are the outcome of files of all names of the
+    // command, also where the files do not tell.
+    ensures ran { (command : Command)
+        → command_of (map string_bytes words.now) ≡ Some command → IsRanCode result
+        → HasRun command result (F.told files.old)
+        (sinks C.told T.told console.old trace.old)
+        (sinks C.told T.told console.new trace.new) }
+
+    // 20: exactly where the words are no command, unless there is no memory to read them. No file is
+    // opened then.
+    ensures bad_words { result ≡ 20 → command_of (map string_bytes words.now) ≡ None }
+    ensures bad_words_show { command_of (map string_bytes words.now) ≡ None
+        → (result ≡ 20) ⊎ (result ≡ 30) }
     ensures bad_words_line { result ≡ 20 → Refuses bad_words_line
         (sinks C.told T.told console.old trace.old)
         (sinks C.told T.told console.new trace.new) }
-    ensures untouched { result ≡ 20 → files.new ≡ files.old }
+    ensures untouched { command_of (map string_bytes words.now) ≡ None → files.new ≡ files.old }
 
     // 21: the line of a script with a bad line. No module's file is opened then.
     ensures bad_script_line { (command : Command)
@@ -65,7 +78,7 @@ pub fn iop_main<F: Files, C: Sink, T: Sink>(
         → command_of (map string_bytes words.now) ≡ Some command
         → OpensFirst command (F.faults files.old) (F.told files.old) (F.told files.new) }
     ensures read_all { (command : Command)
-        → command_of (map string_bytes words.now) ≡ Some command → IsRunCode result
+        → command_of (map string_bytes words.now) ≡ Some command → IsRanCode result
         → FilesRead (first_kind command) (files_of command)
         (F.faults files.old) (F.told files.old) (F.told files.new) }
     ensures no_stray { (before after : FilesTold)
@@ -97,8 +110,15 @@ pub fn iop_main<F: Files, C: Sink, T: Sink>(
     ensures memory { result ≡ 30 → sinks C.told T.told console.new trace.new
         ≡ sinks C.told T.told console.old trace.old }
 
-    // There is no other answer.
+    // There is no other answer. Where none of these has its cause, the command runs, but for 30.
     ensures statuses { IsExitCode result }
+    ensures complete { (command : Command) (before : FilesTold)
+        → command_of (map string_bytes words.now) ≡ Some command
+        → F.told files.old ≡ Some before → AreGoodFiles command before
+        → ¬ HasCause (F.faults files.old) (F.faults files.new)
+        → ¬ HasCause (T.told trace.old).faults (T.told trace.new).faults
+        → ¬ HasCause (C.told console.old).faults (C.told console.new).faults
+        → IsRunCode result ⊎ (result ≡ 30) }
 {
     answer(alloc, words, files, console, trace).code()
 }

@@ -1,18 +1,19 @@
 //! What a command reads before the machine is made: its script and its modules.
 
-ghost use Rattle.std.specs.Prelude.{◌≡◌, ◌≤◌, Some, [], ◌∷◌, All, IfOk, MatchResult, length, option_map, option_to_list};
-ghost use Rattle.iop_machine.specs.declared.module.TheConstants.{MOST_MODULES};
+ghost use Rattle.std.specs.Prelude.{◌≡◌, ◌≤◌, Some, [], ◌∷◌, All, IfOk, MatchResult, length, option_to_list};
+ghost use Rattle.iop_script.specs.declared.statements.TheConstants.{MOST_MODULES};
 ghost use Rattle.iop_script.specs.Laws.{CanRun};
 ghost use Rattle.iop_script.specs.Reading.{empty_script};
-ghost use Rattle.iop_front.specs.Inputs.{command_held, seen, HasScript, HasInputs, HasStopped, IsShort};
+ghost use Rattle.iop_front.specs.Inputs.{seen, HasScript, HasInputs, HasStopped, IsShort};
 ghost use Rattle.iop_front.specs.Outcome.{read_limit};
-ghost use Rattle.iop_front.specs.Words.{AsScript, kind_by, first_kind, files_of};
+ghost use Rattle.iop_front.specs.Named.{AsScript, kind_by, first_kind, files_of};
 
-use crate::command_words::CommandWords;
 use crate::modules::{read_buffer, read_modules};
 use crate::reading::read_whole;
 use crate::unread::Unread;
+use crate::words::ModuleWords;
 use iop_machine::Module;
+use iop_options::Options;
 use iop_ports::Files;
 use iop_script::{Script, parse};
 use std::alloc::Global;
@@ -55,15 +56,15 @@ fn read_script<'a, F: Files>(
     Ok(parse(alloc, &buffer[..len])?)
 }
 
-/// Reads the script of a file, if there is one; else the script says nothing.
+/// Reads the script of a command, if it names one; else the script says nothing.
 fn read_script_of<'a, F: Files>(
     alloc: Global,
-    name: Option<&'a str>,
+    options: &'a Options,
     buffer: &mut [u8],
     files: &mut F,
 ) -> Result<Script, Unread<'a>>
     requires { length buffer.old ≡ read_limit }
-    ensures read { let named = option_map (λ n. n.now) name.entry in
+    ensures read { let named = options.now.script in
         MatchResult result
         (λ script. HasScript named script
         (seen F.told F.faults files.old) (seen F.told F.faults files.new))
@@ -72,8 +73,8 @@ fn read_script_of<'a, F: Files>(
     ensures runs { IfOk result CanRun }
     ensures buffer { length buffer.new ≡ read_limit }
 {
-    match name {
-        Some(name) => read_script(alloc, name, buffer, files),
+    match &options.script {
+        Some(name) => read_script(alloc, name.as_str(), buffer, files),
         None => Ok(no_script(alloc)),
     }
 }
@@ -84,21 +85,20 @@ fn read_script_of<'a, F: Files>(
 #[inline(never)]
 pub(crate) fn read_inputs<'a, F: Files>(
     alloc: Global,
-    command: CommandWords<'a>,
+    options: &'a Options,
     files: &mut F,
 ) -> Result<Inputs, Unread<'a>>
     ensures read { MatchResult result
-        (λ inputs. HasInputs (command_held command.entry) inputs.script inputs.modules.items
+        (λ inputs. HasInputs options.now inputs.script inputs.modules.items
         (seen F.told F.faults files.old) (seen F.told F.faults files.new))
-        (λ unread. HasStopped (first_kind (command_held command.entry))
-        (files_of (command_held command.entry)) unread
+        (λ unread. HasStopped (first_kind options.now) (files_of options.now) unread
         (seen F.told F.faults files.old) (seen F.told F.faults files.new)) }
     ensures runs { IfOk result (λ inputs. CanRun inputs.script) }
     ensures few { IfOk result (λ inputs. length inputs.modules.items ≤ MOST_MODULES) }
     ensures short { IfOk result (λ inputs. All IsShort inputs.modules.items) }
 {
     let mut buffer = read_buffer(alloc)?;
-    let script = read_script_of(alloc, command.script, &mut buffer, files)?;
-    let modules = read_modules(alloc, command.modules, &mut buffer, files)?;
+    let script = read_script_of(alloc, options, &mut buffer, files)?;
+    let modules = read_modules(alloc, ModuleWords::of(options), &mut buffer, files)?;
     Ok(Inputs { script, modules })
 }

@@ -1,20 +1,24 @@
-//! The command: its words, the files that it reads, the run, and what it answers.
+//! The command: the files that its words name, the run, and what it writes and answers.
 #![tactic(auto)]
 
 mod answering;
 mod command;
-mod command_words;
+mod dumping;
 #[cfg(test)]
 mod image_tests;
 mod inputs;
-mod limits;
 mod modules;
+mod modules_to_load;
+#[cfg(test)]
+mod option_tests;
 #[cfg(test)]
 mod order_tests;
 mod reading;
 mod refusing;
 mod running;
 mod status;
+#[cfg(test)]
+mod test_commands;
 #[cfg(test)]
 mod test_files;
 #[cfg(test)]
@@ -23,4 +27,6 @@ mod unread;
 mod words;
 
 pub use command::iop_main;
+pub use iop_generator::generate;
+pub use iop_options::{DumpRange, Options, WordFault, parse_options};
 pub use status::Status;

@@ -1,10 +1,10 @@
 //! The modules that a command names, read from their files.
 
 ghost use Rattle.std.specs.Prelude.{◌≡◌, ◌≤◌, [], ◌∷◌, All, IfOk, MatchResult, length, map, string_bytes};
-ghost use Rattle.iop_machine.specs.declared.module.TheConstants.{MOST_MODULES};
+ghost use Rattle.iop_script.specs.declared.statements.TheConstants.{MOST_MODULES};
 ghost use Rattle.iop_front.specs.Inputs.{seen, HasTaken, HasStopped, IsShort};
 ghost use Rattle.iop_front.specs.Outcome.{read_limit};
-ghost use Rattle.iop_front.specs.Words.{AsModule};
+ghost use Rattle.iop_front.specs.Named.{AsModule};
 
 use crate::reading::read_whole;
 use crate::unread::Unread;

@@ -1,40 +1,15 @@
 //! Commands that name several files, a script among them.
 
+use crate::Status;
+use crate::test_commands::{answers, quiet, words_of};
 use crate::test_files::{
     FREES_ITSELF, HANDLES_LINE_5, IMPORTS_MISSING, IMPORTS_SHOUT, PLAIN, PUTS_IN_A_FUNCTION,
     TAKES_ITSELF_AGAIN, exports, file_of, hello,
 };
-use crate::{Status, iop_main};
-use iop_ports::{MemFiles, MemSink};
+use iop_ports::MemFiles;
 use std::alloc::Global;
 use std::process::Abort;
 use std::test::Fail;
-
-/// Runs the command of these words and compares the status, the console and the trace.
-fn answers(
-    rt: &impl Abort,
-    alloc: Global,
-    words: &[String],
-    files: &mut MemFiles,
-    (status, text, trace): (Status, &str, &str),
-) -> Result<(), Fail> {
-    let mut console = MemSink::new(alloc, 100, Vec::new(alloc))?;
-    let mut lines = MemSink::new(alloc, 400, Vec::new(alloc))?;
-    let code = iop_main(alloc, words, files, &mut console, &mut lines);
-    assert_eq!(rt; lines.bytes(), trace.as_bytes());
-    assert_eq!(rt; code, status.code());
-    assert_eq!(rt; console.bytes(), text.as_bytes());
-    Ok(())
-}
-
-/// Makes the words of a command.
-fn words_of(alloc: Global, names: &[&str]) -> Result<Vec<String>, Fail> {
-    let mut words = Vec::new(alloc);
-    for name in names {
-        words.push(String::from_str(alloc, name)?)?;
-    }
-    Ok(words)
-}
 
 /// Runs two modules, one after the other, and compares the status, the console and the trace.
 fn runs_two(
@@ -49,11 +24,6 @@ fn runs_two(
     files.add("b.irx", file_of(alloc, second)?)?;
     let words = words_of(alloc, &["a.irx", "b.irx"])?;
     answers(rt, alloc, &words, &mut files, wanted)
-}
-
-/// A quiet end, with these texts and these lines.
-fn quiet<'a>(text: &'a str, trace: &'a str) -> (Status, &'a str, &'a str) {
-    (Status::Quiet, text, trace)
 }
 
 #[test]

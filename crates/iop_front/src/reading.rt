@@ -4,7 +4,7 @@ ghost use Rattle.iop_ports.specs.Counts.{HasCause};
 ghost use Rattle.iop_front.specs.Inputs.{seen, HasTaken, HasStopped};
 ghost use Rattle.iop_front.specs.Outcome.{read_limit};
 ghost use Rattle.iop_front.specs.Reading.{HasRead};
-ghost use Rattle.iop_front.specs.Words.{FileKind};
+ghost use Rattle.iop_front.specs.Named.{FileKind};
 
 use crate::unread::Unread;
 use iop_modload::LONGEST_FILE;

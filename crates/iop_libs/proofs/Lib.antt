@@ -1,2 +1,1 @@
-pub mod StringLemmas
 pub mod OtherServices

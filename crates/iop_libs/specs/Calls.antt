@@ -1,6 +1,6 @@
 -- What the services of loadcore, sysmem and stdio do (ps2sdk's loadcore.h, sysmem.h, stdio.h; the codes
--- are those of its kerr.h). The order of refusals, the answers of the queries for memory, and that a text
--- is printed as it stands, are this project's own profile.
+-- are those of its kerr.h). The order of refusals and the answers of the queries for memory are this
+-- project's own profile.
 use Rattle.std.specs.Prelude.{ℕ, ◌+◌, ◌/◌, ◌%◌, ◌==◌, Bool, if◌then◌else◌, is_some, Option, Some, None, option_map, unwrap_or, List, [], ◌∷◌, length, find}
 use Rattle.std.specs.Int.{cast_unsigned, w32}
 use Rattle.iop_base.specs.Piece.{Piece, Told}
@@ -22,8 +22,9 @@ use Rattle.iop_services.specs.declared.service.Service.{Service}
 use Rattle.iop_services.specs.declared.service.Service.TheVariants as service
 use Rattle.iop_services.specs.Table.{allows}
 use Rattle.iop_libs.specs.declared.answer.Answer.{Answer}
+use Rattle.iop_libs.specs.declared.calling.TheConstants.{STACK_POINTER}
 use Rattle.iop_libs.specs.declared.answer.Answer.TheVariants.{Value, Unlisted, Fault, Other}
-use Rattle.iop_libs.specs.Strings.{string_at}
+use Rattle.iop_printf.specs.Formatting.{format_text}
 
 -- what services look at and do not change
 pub record Sight : Type 0 where
@@ -81,9 +82,10 @@ releases_at m libraries (Some place) =
 abbrev pub releases : Memory → List Entry → ℕ → Code × List Entry
 releases m libraries at = releases_at m libraries (phys (length m.ram) at)
 
--- the text that a call prints
+-- the text that a call prints: that of the format of the first argument, with those behind it
 abbrev pub text_of : Sight → List ℕ
-text_of s = string_at s.memory.ram (argument s 0)
+text_of s = format_text s.memory.ram (argument s 0) (argument s 1 ∷ argument s 2 ∷ argument s 3 ∷ [])
+    (reg s.cpu STACK_POINTER)
 
 module _ (s : Sight) (blocks : BlockMap) (libraries : List Entry) where
   -- an answer that changes nothing

@@ -7,23 +7,36 @@ ghost use Rattle.iop_libs.specs.Calls.{Sight, text_of, serves, calls_row, servic
 
 use crate::answer::Answer;
 use crate::loadcore::{register_library, release_library};
-use crate::strings::string_at;
+use arrayvec::ArrayVec;
 use iop_base::{Code, Lines};
 use iop_exec::Cpu;
+use iop_printf::format;
 use iop_registry::Registry;
 use iop_services::{Service, row_of};
 use iop_stubs::Guest;
 use iop_sysmem::Blocks;
 
-/// Prints the string at `$a0`, and answers how many bytes it has.
+/// The number of `$sp`.
+const STACK_POINTER: usize = 29;
+
+/// Prints the text of the format at `$a0`, with the arguments behind it, and answers how many bytes
+/// the text has.
 fn print<L: Lines>(cpu: &Cpu, guest: &Guest, lines: &mut L) -> u32
     ensures length { let s : Sight = record { memory = guest.now; cpu = cpu.now } in
         result ≡ length (text_of s) }
     ensures lines { let s : Sight = record { memory = guest.now; cpu = cpu.now } in
         Gives (L.output lines.old) (L.output lines.new) (service_pieces s Service.Printf) }
 {
-    let text = string_at(guest.ram(), cpu.regs[4]);
-    lines.text(text);
+    let arguments = [cpu.regs[5], cpu.regs[6], cpu.regs[7]];
+    let mut text = ArrayVec::new();
+    format(
+        guest.ram(),
+        cpu.regs[4],
+        arguments,
+        cpu.regs[STACK_POINTER],
+        &mut text,
+    );
+    lines.text(&text);
     text.len() as u32
 }
 
@@ -62,7 +75,7 @@ fn serve<L: Lines>(
 
 /// Calls service `number` of the kernel's library `library`, 0 to 7 in the order of
 /// `KERNEL_LIBRARIES` of iop_base, from a handler or from a thread. Its arguments stand in `$a0` to
-/// `$a2` of the processor.
+/// `$a3` of the processor; those of a format go on in the words from 16(`$sp`) on.
 ///
 /// It answers `Unlisted` exactly where the library lists no such number, and a Value of
 /// `ILLEGAL_CONTEXT` exactly where that number may not be called from there. Else it does what the

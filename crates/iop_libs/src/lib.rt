@@ -4,10 +4,8 @@
 mod answer;
 mod calling;
 mod loadcore;
-mod strings;
 #[cfg(test)]
 mod tests;
 
 pub use answer::Answer;
 pub use calling::call;
-pub use strings::{LONGEST, string_at};

@@ -162,6 +162,9 @@ fn texts_and_numbers(rt: HostRuntime) -> Result<(), Fail> {
     world.put(&rt, 0x2_0000, &[0x000A_6968]);
     assert_eq!(rt; world.call(1, 14, 0x2_0000, 0, 0), Answer::Value(3));
     assert_eq!(rt; world.lines.len, 3);
+    world.put(&rt, 0x2_0000, &[0x7825_6425, 0x0000_6425]);
+    assert_eq!(rt; world.call(7, 4, 0x2_0000, 0x1F, 100), Answer::Value(5));
+    assert_eq!(rt; world.lines.len, 5);
     assert_eq!(rt; world.call(0, 4, 0, 0, 0), Answer::Value(0));
     assert_eq!(rt; world.call(1, 63, 0, 0, 0), Answer::Unlisted);
     assert_eq!(rt;

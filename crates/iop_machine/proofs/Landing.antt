@@ -9,7 +9,7 @@ use Rattle.iop_machine.specs.Laws.{StaysSound, RunsStaySound, RunsKeepStubs, Stu
 use Rattle.iop_machine.specs.Modules.{Module}
 use Rattle.iop_machine.specs.Stepping.{step, steps}
 use Rattle.iop_machine.specs.World.{World, beginning}
-use Rattle.iop_machine.proofs.KeepingMachine.{Holds, holds_of, step_keeps, steps_keep_machine, begins_holding}
+use Rattle.iop_machine.proofs.KeepingMachine.{Holds, holds_of, step_keeps, begins_holding}
 use Rattle.iop_machine.proofs.Reaching.{steps_zero, steps_suc}
 
 pub stubs_leave_with_their_line : StubsLeaveWithTheirLine
@@ -45,10 +45,7 @@ descends w (suc k) holds =
     (next_descends w (steps k w) (descends w k holds))
 
 pub runs_keep_stubs : RunsKeepStubs
-runs_keep_stubs = λ w k machine. record {
-  live = (descends w k (holds_of machine)).live;
-  machine = steps_keep_machine w k machine;
-}
+runs_keep_stubs = λ w k stub machine. (descends w k (holds_of machine)).live stub
 
 -- what holds of all states that it reaches
 reached : (size : ℕ) (modules : List Module) (events : List Raise) (k : ℕ) → IsRamSize size

@@ -75,6 +75,10 @@ RunsBeginAsMachines =
     (size : ℕ) (modules : List Module) (events : List Raise) → IsRamSize size → CanCome events
     → IsMachine (beginning size modules events)
 
+-- and each of its steps leaves one
+abbrev pub RunsStayMachines : Type 0
+RunsStayMachines = (w : World) (k : ℕ) → IsMachine w → IsMachine (steps k w).state
+
 -- each run of a machine ends, and takes no more steps than that
 abbrev pub RunsEnd : Type 0
 RunsEnd =
@@ -133,15 +137,12 @@ StubsLeaveWithTheirLine =
     → Contains (step w).state.iop.memory.live stub
     ⊎ Contains (step w).pieces (stub_line w.iop.kernel.clock stub)
 
--- a stub that is live after some steps was live before them, or was bound in them; and a machine
--- stays one
-pub record KeepsStubs (w : World) (k : ℕ) : Type 0 where
-  pub live : (stub : Stub) → Contains (steps k w).state.iop.memory.live stub
-      → Contains w.iop.memory.live stub ⊎ Contains (steps k w).bound stub
-  pub machine : IsMachine (steps k w).state
-
+-- a stub that is live after some steps was live before them, or was bound in them
 abbrev pub RunsKeepStubs : Type 0
-RunsKeepStubs = (w : World) (k : ℕ) → IsMachine w → KeepsStubs w k
+RunsKeepStubs =
+    (w : World) (k : ℕ) (stub : Stub) → IsMachine w
+    → Contains (steps k w).state.iop.memory.live stub
+    → Contains w.iop.memory.live stub ⊎ Contains (steps k w).bound stub
 
 -- after a live stub, which is not executed in a delay slot, the instruction behind it is executed
 abbrev pub behind_stub : Iop → Stub → Iop

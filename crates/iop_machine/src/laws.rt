@@ -4,7 +4,7 @@
 ghost use Rattle.iop_machine.specs.ArgumentLaws.{ArgumentsAreRead};
 ghost use Rattle.iop_machine.specs.AreaLaws.{KernelAreaIsRead, BootingKeepsKernel};
 ghost use Rattle.iop_machine.specs.EventLaws.{StepsTakeTheirEvents, EventsRaiseTheirLines, NextComingIsLeast};
-ghost use Rattle.iop_machine.specs.Laws.{StepsCompose, RunsCompose, RunsAreDetermined, OverStays, RunsBeginAsMachines, RunsEnd, RunsAreComputed, StubsReachTheirFunctions, RunsStaySound, StubsLeaveWithTheirLine, RunsKeepStubs, StubsAreFollowed, RunsAreStrict, RunsAreOnTime, RunsAreAwake, RunsKeepEvents, RunsAreCounted, RunsAreDelivered};
+ghost use Rattle.iop_machine.specs.Laws.{StepsCompose, RunsCompose, RunsAreDetermined, OverStays, RunsBeginAsMachines, RunsStayMachines, RunsEnd, RunsAreComputed, StubsReachTheirFunctions, RunsStaySound, StubsLeaveWithTheirLine, RunsKeepStubs, StubsAreFollowed, RunsAreStrict, RunsAreOnTime, RunsAreAwake, RunsKeepEvents, RunsAreCounted, RunsAreDelivered};
 
 /// The steps of a run are those of its first part, and then those of the rest.
 pub fn steps_compose()
@@ -30,6 +30,12 @@ pub fn over_stays()
 /// as one.
 pub fn runs_begin_as_machines()
     ensures { RunsBeginAsMachines }
+{}
+
+/// Each step leaves a machine what a machine is, so that what is said of one run can be said of the
+/// next.
+pub fn runs_stay_machines()
+    ensures { RunsStayMachines }
 {}
 
 /// Each run ends: besides one step for each event of the script it takes at most `most_between` and
@@ -83,7 +89,7 @@ pub fn stubs_leave_with_their_line()
     ensures { StubsLeaveWithTheirLine }
 {}
 
-/// A stub that is live was live before, or was bound on the way; and memory stays sound.
+/// A stub that is live after some steps was live before them, or was bound in them.
 pub fn runs_keep_stubs()
     ensures { RunsKeepStubs }
 {}

@@ -21,4 +21,4 @@ mod waiting;
 
 pub use arguments::{MOST_WORD_BYTES, MOST_WORDS};
 pub use machine::Machine;
-pub use module::{MOST_MODULES, Module};
+pub use module::Module;

@@ -5,7 +5,7 @@ ghost use Rattle.iop_ready.specs.ReadyList.{StandsFor};
 ghost use Rattle.iop_thread.specs.Standing.{Lends};
 ghost use Rattle.iop_ram.specs.Windows.{window_of};
 ghost use Rattle.iop_machine.specs.Modules.{HasRoom, modules_from};
-ghost use Rattle.iop_machine.specs.declared.module.TheConstants.{MOST_MODULES};
+ghost use Rattle.iop_script.specs.declared.statements.TheConstants.{MOST_MODULES};
 ghost use Rattle.iop_machine.specs.World.{World, beginning};
 ghost use Rattle.iop_machine.specs.Laws.{IsMachine};
 ghost use Rattle.iop_machine.specs.Standing.{StandsForWorld, IsSoundMachine};
@@ -39,7 +39,7 @@ pub struct Machine {
 impl Machine {
     /// Makes a machine with `size` bytes of RAM, 2 MiB or 8 MiB, that will load these modules, one
     /// after the other, each handed its word of the command line and the words that the script has
-    /// for it. They are at most `MOST_MODULES`, no file has more than `LONGEST_FILE` bytes, and the
+    /// for it. They are at most `MOST_MODULES` of iop_script, no file has more than `LONGEST_FILE` bytes, and the
     /// words of each have room in the argument block: at most `MOST_WORDS`, which take
     /// `MOST_WORD_BYTES` bytes. The script raises interrupt lines below 64, in the order of their
     /// ticks, which are below 2^63.

@@ -1,8 +1,5 @@
 use std::marker::Model;
 
-/// How many modules a machine may have.
-pub const MOST_MODULES: usize = 64;
-
 /// A module as the command names it.
 #[derive(Debug, Drop)]
 pub struct Module {

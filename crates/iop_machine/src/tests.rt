@@ -123,6 +123,7 @@ fn laws_hold() {
     laws::runs_are_determined();
     laws::over_stays();
     laws::runs_begin_as_machines();
+    laws::runs_stay_machines();
     laws::runs_end();
     laws::runs_are_computed();
     laws::stubs_reach_their_functions();

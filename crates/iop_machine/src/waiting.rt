@@ -5,7 +5,7 @@ ghost use Rattle.std.specs.List.{slice_get};
 ghost use Rattle.iop_script.specs.Scripts.{words_for};
 ghost use Rattle.iop_machine.specs.Modules.{modules_from, HasRoom};
 ghost use Rattle.iop_machine.specs.Waiting.{module_of};
-ghost use Rattle.iop_machine.specs.declared.module.TheConstants.{MOST_MODULES};
+ghost use Rattle.iop_script.specs.declared.statements.TheConstants.{MOST_MODULES};
 
 use crate::module::Module;
 use iop_script::{Args, Word};
@@ -37,7 +37,7 @@ impl Model for Waiting {
     ghost use Rattle.std.specs.Prelude.{◌≤◌, List, All, length};
     ghost use Rattle.iop_machine.specs.Modules.{Module, HasRoom};
     ghost use Rattle.iop_machine.specs.Waiting.{waiting_of};
-    ghost use Rattle.iop_machine.specs.declared.module.TheConstants.{MOST_MODULES};
+    ghost use Rattle.iop_script.specs.declared.statements.TheConstants.{MOST_MODULES};
 
     ghost Value = { List Module };
 

@@ -1,6 +1,6 @@
 -- Texts that are cut after so many bytes.
 use Rattle.std.proofs.Common.{◌≡◌, ℕ, zero, suc, ◌+◌, ◌≤◌, min, List, [], ◌∷◌, ◌++◌, length, take, replicate, refl, ap, sym, ◌∙◌, append_assoc, append-nil, arith}
-use Rattle.std.proofs.lemmas.List.{length-replicate, take-replicate, take_at, take_all, take_min}
+use Rattle.std.proofs.lemmas.List.{length-replicate, take-take, take-replicate, take_at, take_all, take_min}
 use Rattle.std.proofs.Math.Seq.{take-append-add}
 
 -- a text that was cut before it went on
@@ -8,6 +8,14 @@ pub cut_more : (n : ℕ) (xs ys : List ℕ) → take n (take n xs ++ ys) ≡ tak
 cut_more zero xs ys = refl
 cut_more (suc n) [] ys = refl
 cut_more (suc n) (x ∷ xs) ys = ap (λ t. x ∷ t) (cut_more n xs ys)
+
+-- what went on by a front that is long enough
+pub cut_front : (n most : ℕ) (xs ys : List ℕ) → n ≤ most
+    → take n (xs ++ take most ys) ≡ take n (xs ++ ys)
+cut_front n most [] ys enough = take-take n most ys enough
+cut_front zero most (x ∷ xs) ys enough = refl
+cut_front (suc n) most (x ∷ xs) ys enough =
+    ap (λ t. x ∷ t) (cut_front n most xs ys (omega (arith, enough)))
 
 -- and went on twice
 pub cut_twice : (n : ℕ) (xs ys zs : List ℕ)

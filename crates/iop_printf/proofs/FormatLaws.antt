@@ -1,19 +1,15 @@
 -- The laws of formatted text.
-use Rattle.std.proofs.Common.{unwrap_or, ◌≡◌, ℕ, ◌+◌, ◌-◌, ◌%◌, ◌≤◌, ◌==◌, Bool, true, false, not, cond, List, [], ◌∷◌, ◌++◌, length, take, replicate, refl, ap, arith}
+use Rattle.std.proofs.Common.{◌≡◌, ℕ, ◌+◌, ◌==◌, Bool, true, false, not, List, [], ◌∷◌, ◌++◌, take, refl, ap, arith}
 use Rattle.std.specs.List.{list_all}
 use Rattle.std.proofs.lemmas.Bool.{and_parts}
-use Rattle.std.proofs.lemmas.Fmt.{digits_is_IsNumeral}
-use Rattle.std.proofs.lemmas.List.{length-append, length-replicate, length-take}
+use Rattle.std.proofs.lemmas.List.{length-take}
 use Rattle.iop_printf.proofs.Parts.{passes}
 use Rattle.iop_printf.specs.Arguments.{argument}
 use Rattle.iop_printf.specs.Conversions.{percent, conversion_at}
 use Rattle.iop_printf.specs.Formatting.{part_at, text_from, format_text}
-use Rattle.iop_printf.specs.Laws.{text_behind_percent, TextsAreShort, PlainFormatsStay, FormatsGoOn, WidthsAreFilled, NumbersReadBack}
-use Rattle.iop_printf.specs.Texts.{string_at, string_or_null, digits_of, sign_of, number_text, conversion_text, conversion_arguments, padded}
-use Rattle.iop_printf.specs.declared.TheConstants.{LONGEST}
+use Rattle.iop_printf.specs.Laws.{text_behind_percent, TextsAreShort, PlainFormatsStay, FormatsGoOn}
+use Rattle.iop_printf.specs.Texts.{string_at, conversion_text, conversion_arguments}
 use Rattle.iop_printf.specs.declared.arguments.Arguments.{Arguments}
-use Rattle.iop_printf.specs.declared.conversion.Conversion.{Conversion}
-use Rattle.iop_printf.specs.declared.letter.Letter.TheVariants.{Number, Character, Text, Percent}
 
 pub format_text-short : TextsAreShort
 unfolding format_text
@@ -69,34 +65,3 @@ unfolding format_text
 format_text-plain ram fmt registers sp plain =
     ap (λ t. take 4096 t)
     (plain_text ram (record { registers = registers; sp = sp }) 0 (string_at ram fmt) plain)
-
-module _ (c : Conversion) (text : List ℕ) where
-  abbrev spaces : List ℕ
-  spaces = replicate (c.width - length text) 0x20
-
-  spaces_fill : length spaces ≡ c.width - length text
-  spaces_fill = length-replicate {A = ℕ} (c.width - length text) 0x20
-
-  by_side : (left : Bool) → c.width ≤ length (cond left (text ++ spaces) (spaces ++ text))
-  by_side true = omega (arith, length-append text spaces, spaces_fill)
-  by_side false = omega (arith, length-append spaces text, spaces_fill)
-
-  padded-wide : c.width ≤ length (padded c text)
-  padded-wide = by_side c.left
-
-pub letter_text-wide : WidthsAreFilled
-letter_text-wide ram c (Number notation) n other =
-    padded-wide c (number_text c (sign_of notation n) (digits_of notation n))
-letter_text-wide ram c Character n other = padded-wide c (n % 256 ∷ [])
-letter_text-wide ram c Text n other =
-    padded-wide c (take (unwrap_or c.precision LONGEST) (string_or_null ram n))
-letter_text-wide ram c Percent n other = absurd (other refl)
-
-pub digits_of-value : NumbersReadBack
-unfolding digits_of
-digits_of-value n word = record {
-  unsigned = digits_is_IsNumeral 10 false (omega arith) (omega arith) n (omega (arith, word));
-  octal = digits_is_IsNumeral 8 false (omega arith) (omega arith) n (omega (arith, word));
-  lower_hex = digits_is_IsNumeral 16 false (omega arith) (omega arith) n (omega (arith, word));
-  upper_hex = digits_is_IsNumeral 16 true (omega arith) (omega arith) n (omega (arith, word));
-}

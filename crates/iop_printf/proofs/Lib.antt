@@ -6,3 +6,6 @@ pub mod Conversions
 pub mod Digits
 pub mod Parts
 pub mod FormatLaws
+pub mod NumberLaws
+pub mod WidthLaws
+pub mod ReadingLaws

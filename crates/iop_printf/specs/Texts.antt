@@ -1,12 +1,11 @@
 -- The texts of conversions: this project's profile, after printf of C.
-use Rattle.std.specs.Prelude.{ℕ, ◌-◌, ◌%◌, ◌^◌, ◌==◌, nat_lt, true, false, not, ◌&&◌, if◌then◌else◌, unwrap_or, codes, decimal, List, [], ◌∷◌, ◌++◌, length, take, drop, replicate}
+use Rattle.std.specs.Prelude.{ℕ, ◌-◌, ◌%◌, ◌^◌, ◌==◌, nat_lt, true, false, not, ◌&&◌, if◌then◌else◌, Option, unwrap_or, codes, decimal, List, [], ◌∷◌, ◌++◌, length, take, drop, replicate}
 use Rattle.std.specs.Fmt.{digits}
 use Rattle.std.specs.Option.{option_map_or}
 use Rattle.iop_base.specs.Places.{phys}
 use Rattle.iop_base.specs.Strings.{before_zero}
 use Rattle.iop_base.specs.Text.{hex}
 use Rattle.iop_printf.specs.Conversions.{percent, minus, zero_digit}
-use Rattle.iop_printf.specs.declared.TheConstants.{LONGEST}
 use Rattle.iop_printf.specs.declared.conversion.Conversion.{Conversion}
 use Rattle.iop_printf.specs.declared.letter.Letter.{Letter}
 use Rattle.iop_printf.specs.declared.letter.Letter.TheVariants.{Number, Character, Text, Percent}
@@ -57,12 +56,16 @@ padded c text =
     then text ++ replicate (c.width - length text) 0x20
     else replicate (c.width - length text) 0x20 ++ text
 
+-- the front of a string that is no longer than a precision
+abbrev pub string_front : Option ℕ → List ℕ → List ℕ
+string_front precision string = option_map_or (λ most. take most string) precision string
+
 -- what a letter prints of a word
 abbrev pub letter_text : List ℕ → Conversion → Letter → ℕ → List ℕ
 letter_text ram c (Number notation) n =
     padded c (number_text c (sign_of notation n) (digits_of notation n))
 letter_text ram c Character n = padded c (n % 256 ∷ [])
-letter_text ram c Text n = padded c (take (unwrap_or c.precision LONGEST) (string_or_null ram n))
+letter_text ram c Text n = padded c (string_front c.precision (string_or_null ram n))
 letter_text ram c Percent n = percent ∷ []
 
 -- the text of a conversion: one without a letter is printed as it was read

@@ -81,7 +81,7 @@ fn append_format(text: &mut Text, ram: &Ram, arguments: &Arguments, format: &[u8
 /// An argument is the next of `args` (`$a1`, `$a2` and `$a3`) and then of the words from 16(`sp`)
 /// on (MIPS o32), counted modulo 2^32; a word that is misaligned or outside RAM reads 0. All else
 /// is this project's profile, after printf of C.
-pub fn format(ram: &Ram, fmt: u32, args: [u32; 3], sp: u32, out: &mut ArrayVec<u8, 4096>)
+pub fn format(ram: &Ram, fmt: u32, args: [u32; 3], sp: u32, out: &mut ArrayVec<u8, LONGEST>)
     ensures { out.new.items ≡ format_text ram.now fmt args sp }
 {
     out.clear();

@@ -1,15 +1,17 @@
 //! Facts about the definitions that no call computes. Each is the contract of a function that does
 //! nothing.
 
-ghost use Rattle.iop_printf.specs.Laws.{TextsAreShort, PlainFormatsStay, WidthsAreFilled};
+ghost use Rattle.iop_printf.specs.Laws.{TextsAreShort, PlainFormatsStay};
+ghost use Rattle.iop_printf.specs.Laws.{ConversionsAreRead, WidthsAreExact, DigitsAreExact};
 ghost use Rattle.iop_printf.specs.Laws.{FormatsGoOn, NumbersReadBack};
+ghost use Rattle.iop_printf.specs.Laws.{SignedAreWritten, HexDigitsAreWritten};
 
 /// No text has more than 4,096 bytes.
 pub fn texts_are_short()
     ensures { TextsAreShort }
 {}
 
-/// The text of a format without a `%` is the format.
+/// The text of a format without a `%` is the format, cut at 4,096 bytes.
 pub fn plain_formats_stay()
     ensures { PlainFormatsStay }
 {}
@@ -20,12 +22,39 @@ pub fn formats_go_on()
     ensures { FormatsGoOn }
 {}
 
-/// A text that a letter prints of an argument has at least the width of its conversion.
-pub fn widths_are_filled()
-    ensures { WidthsAreFilled }
+/// Flags, a width that does not begin with `0`, a `.` and a precision or neither, sizes and a letter
+/// are read as the conversion of just these parts, whatever stands behind them. A width or a
+/// precision is the value of its digits, at most 4,096.
+pub fn conversions_are_read()
+    ensures { ConversionsAreRead }
+{}
+
+/// What a letter prints of an argument has the width of its conversion, or is what it prints
+/// without a width if that is longer. Spaces fill it up: behind it with `-`, else before it, but for
+/// a number of which zeros fill the width.
+pub fn widths_are_exact()
+    ensures { WidthsAreExact }
+{}
+
+/// A number has as many digits as its precision, or as its numeral if that is longer. Zeros fill it
+/// up behind its sign, also to its width with flag `0` and neither `-` nor a precision.
+pub fn digits_are_exact()
+    ensures { DigitsAreExact }
 {}
 
 /// The digits of a word are digits of its base, and have its value.
 pub fn numbers_read_back()
     ensures { NumbersReadBack }
+{}
+
+/// The sign and the digits of a word as a signed number are the decimal text of its value in two's
+/// complement.
+pub fn signed_are_written()
+    ensures { SignedAreWritten }
+{}
+
+/// Hexadecimal digits are of the case of their letter, and those of a pointer are eight of lower
+/// case.
+pub fn hex_digits_are_written()
+    ensures { HexDigitsAreWritten }
 {}

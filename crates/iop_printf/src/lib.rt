@@ -16,5 +16,6 @@ mod texts;
 
 pub use formatting::format;
 
-/// A text is cut at so many bytes, and a width or a precision counts as no more.
-const LONGEST: usize = 4096;
+/// The length in bytes at which a text is cut, and the greatest value that a width or a precision
+/// counts as. This project's profile.
+pub const LONGEST: usize = 4096;

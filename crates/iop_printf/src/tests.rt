@@ -1,6 +1,6 @@
 //! Formats and their texts.
 
-use crate::format;
+use crate::{format, laws};
 use arrayvec::ArrayVec;
 use iop_ram::Ram;
 use std::alloc::Global;
@@ -100,4 +100,17 @@ fn what_lies_outside_ram_is_nothing(rt: HostRuntime) -> Result<(), Fail> {
     format(&ram, 0xA01F_FFFD, [1, 2, 3], STACK, &mut out);
     assert_eq!(rt; out.as_slice(), b"end".as_slice());
     Ok(())
+}
+
+#[test]
+fn laws_hold() {
+    laws::texts_are_short();
+    laws::plain_formats_stay();
+    laws::formats_go_on();
+    laws::conversions_are_read();
+    laws::widths_are_exact();
+    laws::digits_are_exact();
+    laws::numbers_read_back();
+    laws::signed_are_written();
+    laws::hex_digits_are_written();
 }

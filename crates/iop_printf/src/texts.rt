@@ -3,7 +3,8 @@
 ghost use Rattle.std.specs.Prelude.{◌≡◌, ◌≤◌, ◌<◌, ◌^◌, ◌++◌, length, take, replicate};
 ghost use Rattle.iop_printf.specs.Conversions.{percent, zero_digit};
 ghost use Rattle.iop_printf.specs.Texts.{sign_of, digits_of, least_digits, number_text};
-ghost use Rattle.iop_printf.specs.Texts.{padded, letter_text, conversion_text};
+ghost use Rattle.iop_printf.specs.Texts.{padded, string_or_null, string_front, letter_text};
+ghost use Rattle.iop_printf.specs.Texts.{conversion_text};
 
 use crate::LONGEST;
 use crate::conversion::Conversion;
@@ -102,6 +103,17 @@ fn append_number(text: &mut Text, conversion: &Conversion, notation: Notation, n
     append_padded(text, conversion, sign, zeros, digits.as_slice());
 }
 
+/// Appends the string at an address as a conversion prints it: at most as many bytes as its
+/// precision. Without one no more is read than can show or count for the width.
+fn append_string(text: &mut Text, ram: &Ram, conversion: &Conversion, at: u32)
+    ensures { text.new.items ≡ take LONGEST (text.old.items
+        ++ padded conversion.now (string_front conversion.now.precision (string_or_null ram.now at))) }
+{
+    let shown = conversion.width.max(LONGEST as u32);
+    let most = conversion.precision.unwrap_or(shown);
+    append_padded(text, conversion, b"", 0, string_or_null(ram, at, most));
+}
+
 /// Appends what a letter prints of an argument.
 fn append_letter(text: &mut Text, ram: &Ram, conversion: &Conversion, letter: Letter, argument: u32)
     ensures { text.new.items
@@ -110,16 +122,7 @@ fn append_letter(text: &mut Text, ram: &Ram, conversion: &Conversion, letter: Le
     match letter {
         Letter::Number(notation) => append_number(text, conversion, notation, argument),
         Letter::Character => append_padded(text, conversion, b"", 0, &[(argument % 256) as u8]),
-        Letter::Text => {
-            let most = conversion.precision.unwrap_or(LONGEST as u32);
-            append_padded(
-                text,
-                conversion,
-                b"",
-                0,
-                string_or_null(ram, argument, most),
-            );
-        }
+        Letter::Text => append_string(text, ram, conversion, argument),
         Letter::Percent => append_cut(text, b"%"),
     }
 }

@@ -10,7 +10,7 @@ use Rattle.iop_script.specs.Scripts.{Args}
 use Rattle.iop_script.specs.Statements.{event_of, words_of, args_among, args_of}
 use Rattle.iop_script.specs.Texts.{space, parts, number_of}
 use Rattle.iop_script.specs.declared.raise.Raise.{Raise}
-use Rattle.iop_script.specs.declared.statements.TheConstants.{LAST_TICK, LAST_LINE, LAST_MODULE, MOST_WORDS, LONGEST_ARGS}
+use Rattle.iop_script.specs.declared.statements.TheConstants.{LAST_TICK, LAST_LINE, MOST_MODULES, MOST_WORDS, LONGEST_ARGS}
 
 module _ {A : Type 0} where
   -- a value behind a test
@@ -115,7 +115,7 @@ among_within [] a short is = absurd (cc)
 among_within (keyword ∷ []) a short is = absurd (cc)
 among_within (keyword ∷ number ∷ fields) a short is =
     let n = then_some (λ (n : ℕ). option_map (args_with n) (words_of fields))
-    (number_of 1 LAST_MODULE number) a (if_some (bytes_eq keyword (codes "args")) _ a is).1 in
+    (number_of 1 MOST_MODULES number) a (if_some (bytes_eq keyword (codes "args")) _ a is).1 in
     let words = map_some (args_with n.0) (words_of fields) a n.2 in
     let within = words_within fields words.0 words.1 in
     let few : AreFew (args_with n.0 fields) = record {

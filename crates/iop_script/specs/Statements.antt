@@ -5,7 +5,7 @@ use Rattle.std.specs.Str.{bytes_eq}
 use Rattle.iop_script.specs.Scripts.{Args}
 use Rattle.iop_script.specs.Texts.{space, parts, number_of}
 use Rattle.iop_script.specs.declared.raise.Raise.{Raise}
-use Rattle.iop_script.specs.declared.statements.TheConstants.{LAST_TICK, LAST_LINE, LAST_MODULE, MOST_WORDS, LONGEST_ARGS}
+use Rattle.iop_script.specs.declared.statements.TheConstants.{LAST_TICK, LAST_LINE, MOST_MODULES, MOST_WORDS, LONGEST_ARGS}
 
 -- a line that says nothing: an empty one, or one that begins with `#`
 abbrev pub is_remark : List ℕ → Bool
@@ -35,7 +35,7 @@ unfoldable pub args_among : List (List ℕ) → Option Args
 args_among (keyword ∷ number ∷ fields) =
     if bytes_eq keyword (codes "args")
     then option_and_then (λ n. option_map (λ words. record { number = n; words = words })
-    (words_of fields)) (number_of 1 LAST_MODULE number)
+    (words_of fields)) (number_of 1 MOST_MODULES number)
     else None
 args_among fields = None
 

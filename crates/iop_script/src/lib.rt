@@ -19,4 +19,5 @@ pub use fault::ScriptFault;
 pub use parsing::parse;
 pub use raise::Raise;
 pub use script::Script;
+pub use statements::MOST_MODULES;
 pub use word::Word;

@@ -18,8 +18,8 @@ pub(crate) const LAST_TICK: u64 = 0x7FFF_FFFF_FFFF_FFFF;
 /// The last interrupt line.
 pub(crate) const LAST_LINE: u64 = 63;
 
-/// The greatest number of a module.
-pub(crate) const LAST_MODULE: u64 = 64;
+/// How many modules a machine may have. They are numbered from 1 on.
+pub const MOST_MODULES: u64 = 64;
 
 /// The most words that a script can have for a module.
 pub(crate) const MOST_WORDS: usize = 15;
@@ -103,7 +103,7 @@ fn args_among(alloc: Global, line: &[u8]) -> Result<Option<Args>, AllocError>
         return Ok(None);
     };
     let (number, rest) = split_first(fields, b' ');
-    let Some(module) = number_of(number, 1, LAST_MODULE) else {
+    let Some(module) = number_of(number, 1, MOST_MODULES) else {
         return Ok(None);
     };
     let Some(words) = words_of(alloc, rest)? else {

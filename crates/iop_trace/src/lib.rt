@@ -1,10 +1,12 @@
-//! The text of a trace line, and what takes lines and texts over two sinks.
+//! The text of a trace line and of a line of a dump, and what takes lines and texts over two sinks.
 #![tactic(auto)]
 
+mod dump;
 #[cfg(test)]
 mod tests;
 mod text;
 mod two_sinks;
 
+pub use dump::{BYTES_IN_LINE, DUMP_ROOM, dump_line};
 pub use text::line_text;
 pub use two_sinks::Out;

@@ -6,7 +6,7 @@ ghost use Rattle.iop_base.specs.Output.{Gives};
 ghost use Rattle.iop_base.specs.Text.{line_bytes};
 ghost use Rattle.iop_trace.specs.Outs.{sinks, Leaves};
 
-use crate::{Out, line_text};
+use crate::{Out, dump_line, line_text};
 use iop_base::{Code, GuestFault, Kept, Line, Lines, Stop};
 use iop_ports::{Failed, Sink};
 use std::alloc::Global;
@@ -137,4 +137,14 @@ fn stops_at_a_failing_write(rt: HostRuntime) -> Result<(), Fail> {
     assert_eq!(rt; trace.bytes.as_slice(), b"0 run 1\n42 l".as_slice());
     assert_eq!(rt; trace.faults, 1);
     Ok(())
+}
+
+#[test]
+fn dumps_have_lines(rt: HostRuntime) {
+    let short = dump_line(0x1_0014, &[0x38, 0x11, 0, 8]);
+    assert_eq!(rt; short.as_slice(), b"00010014: 38110008\n".as_slice());
+    let long = dump_line(0xA000_2010, &[0xAB; 16]);
+    let line = b"a0002010: abababababababababababababababab\n";
+    assert_eq!(rt; long.as_slice(), line.as_slice());
+    assert_eq!(rt; dump_line(0, &[]).as_slice(), b"00000000: \n".as_slice());
 }

@@ -1,15 +1,20 @@
-use Rattle.std.proofs.Common.{refl, sym, inr, inl}
+use Rattle.std.proofs.Common.{refl, ap, sym, ◌∙◌, subst, inr, inl}
 use Rattle.iop_machine.proofs.KeepingMachine.{begins_as_machine}
 use Rattle.iop_machine.specs.Modules.{modules_from}
-use Rattle.iop_front.specs.declared.limits.TheConstants.{MEMORY_SIZE}
+use Rattle.iop_machine.specs.Stepping.{run_of}
+use Rattle.iop_machine.specs.World.{beginning}
+use Rattle.iop_options.specs.Commands.{Command}
+use Rattle.iop_options.specs.declared.limits.TheConstants.{MEMORY_SIZE}
+use Rattle.iop_trace.specs.Outs.{sinks}
+use Rattle.iop_front.specs.Outcome.{Comes, modules_to_load, outcome_of_run}
 use Rattle.iop_front.proofs.RoomLemmas.{have_room}
 use Rattle.iop_front.proofs.answering.run_modules.Goals as goal
 
 pub new-requires-clause-room : goal.new-requires-clause-room
 new-requires-clause-room g c =
     let runs = c.requires.runs in
-    have_room c.args.inputs.script.args runs.counts runs.bytes 1 c.args.inputs.modules.items
-    c.requires.short
+    have_room c.args.inputs.script.args runs.counts runs.bytes 1 c.in-Ok.modules.items
+    c.in-Ok.ensures.short
 
 pub new-requires-clause-events : goal.new-requires-clause-events
 new-requires-clause-events g c =
@@ -17,13 +22,22 @@ new-requires-clause-events g c =
     record { order = runs.order; ticks = runs.ticks; lines = runs.lines }
 
 pub run_to_end-requires-clause-new : goal.run_to_end-requires-clause-new
-run_to_end-requires-clause-new g c = sym c.in-Ok.ensures.stands.iop.kernel.holds.clock
+run_to_end-requires-clause-new g c = sym c.in-Ok-new.ensures.stands.iop.kernel.holds.clock
 
-pub returns-in-Ok : goal.returns-in-Ok
-returns-in-Ok g c =
+pub returns-in-Ok-new : goal.returns-in-Ok-new
+returns-in-Ok-new g c =
+    let seen = sinks g.C.Sink.told g.T.Sink.told in
+    let options = c.args.options.now in
     let script = c.args.inputs.script in
+    let files = c.args.inputs.modules.items in
     let runs = c.requires.runs in
-    inr (c.run_to_end.ensures _ c.in-Ok.ensures.stands
-    (begins_as_machine MEMORY_SIZE (modules_from script.args 1 c.args.inputs.modules.items)
+    let are = c.in-Ok.ensures.modules
+    ∙ ap (λ (o : Command). modules_to_load o.generate files) c.options.view_is in
+    inr (subst (λ modules. Comes (outcome_of_run options.dump (run_of options.budget
+    (beginning MEMORY_SIZE (modules_from script.args 1 modules) script.events)))
+    c.run_to_end.result (seen c.args.console.now c.args.trace.now)
+    (seen c.run_to_end.new.console c.run_to_end.new.trace)) are
+    (c.run_to_end.ensures _ c.in-Ok-new.ensures.stands
+    (begins_as_machine MEMORY_SIZE (modules_from script.args 1 c.in-Ok.modules.items)
     script.events (inl refl)
-    (record { order = runs.order; ticks = runs.ticks; lines = runs.lines })))
+    (record { order = runs.order; ticks = runs.ticks; lines = runs.lines }))))

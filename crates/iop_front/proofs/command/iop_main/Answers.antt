@@ -1,7 +1,10 @@
-use Rattle.std.proofs.Common.{sym, ◌∙◌, subst}
-use Rattle.iop_front.specs.Answers.{outside}
-use Rattle.iop_front.specs.Statuses.{IsRunCode, IsRefusalCode, IsExitCode, IsCutCode}
+use Rattle.std.proofs.Common.{sym, ◌∙◌, subst, inl, inr}
+use Rattle.iop_trace.specs.Outs.{sinks}
+use Rattle.iop_front.specs.Answers.{outside, HasRun}
+use Rattle.iop_front.specs.Statuses.{IsRunCode, IsRanCode, IsRefusalCode, IsExitCode, IsCutCode}
 use Rattle.iop_front.proofs.CauseLemmas as causes
+use Rattle.iop_front.proofs.CompleteLemmas.{completes}
+use Rattle.iop_front.proofs.RanLemmas.{opened_all, has_run}
 use Rattle.iop_front.proofs.command.iop_main.Goals as goal
 
 pub returns-clause-outcome : goal.returns-clause-outcome
@@ -14,8 +17,14 @@ returns-clause-outcome g c = λ told is none.
 
 pub returns-clause-bad_words : goal.returns-clause-bad_words
 returns-clause-bad_words g c =
-    let h = causes.bad_words c.answer.ensures.answers in
-    (λ e. h.0 (sym c.code.ensures ∙ e), λ e. c.code.ensures ∙ h.1 e)
+    λ e. causes.bad_words c.answer.ensures.answers (sym c.code.ensures ∙ e)
+
+pub returns-clause-bad_words_show : goal.returns-clause-bad_words_show
+returns-clause-bad_words_show g c =
+    λ none. elim (causes.bad_words_show c.answer.ensures.answers none) [
+      | inl e ↦ inl (c.code.ensures ∙ e)
+      | inr e ↦ inr (c.code.ensures ∙ e)
+    ]
 
 pub returns-clause-bad_words_line : goal.returns-clause-bad_words_line
 returns-clause-bad_words_line g c =
@@ -49,7 +58,15 @@ returns-clause-read g c = λ command named.
 pub returns-clause-read_all : goal.returns-clause-read_all
 returns-clause-read_all g c = λ command named run.
     let h = causes.answers_as c.answer.ensures.answers command named in
-    causes.opened_all h (subst IsRunCode c.code.ensures run)
+    opened_all h (subst IsRanCode c.code.ensures run)
+
+pub returns-clause-ran : goal.returns-clause-ran
+returns-clause-ran g c = λ command named run.
+    let seen = sinks g.C.Sink.told g.T.Sink.told in
+    let h = causes.answers_as c.answer.ensures.answers command named in
+    subst (λ code. HasRun command code (g.F.Files.told c.args.files.now)
+    (seen c.args.console.now c.args.trace.now) (seen c.answer.new.console c.answer.new.trace))
+    (sym c.code.ensures) (has_run h (subst IsRanCode c.code.ensures run))
 
 pub returns-clause-no_stray : goal.returns-clause-no_stray
 returns-clause-no_stray g c = causes.no_strays c.answer.ensures.answers
@@ -81,3 +98,11 @@ returns-clause-memory g c = λ e. causes.memory c.answer.ensures.answers (sym c.
 pub returns-clause-statuses : goal.returns-clause-statuses
 returns-clause-statuses g c =
     subst IsExitCode (sym c.code.ensures) (causes.exit_codes c.answer.ensures.answers)
+
+pub returns-clause-complete : goal.returns-clause-complete
+returns-clause-complete g c = λ command before named told good read traced printed.
+    let h = causes.answers_as c.answer.ensures.answers command named in
+    elim (completes before h told good read traced printed) [
+      | inl run ↦ inl (subst IsRunCode (sym c.code.ensures) run)
+      | inr memory ↦ inr (c.code.ensures ∙ memory)
+    ]

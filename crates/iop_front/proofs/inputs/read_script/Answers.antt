@@ -2,7 +2,7 @@ use Rattle.std.proofs.Common.{take, arith}
 use Rattle.std.proofs.lemmas.List.{length-take}
 use Rattle.std.proofs.lemmas.Result.{err_from_is_err_and}
 use Rattle.iop_front.specs.Inputs.{seen}
-use Rattle.iop_front.specs.Words.{AsScript}
+use Rattle.iop_front.specs.Named.{AsScript}
 use Rattle.iop_front.proofs.ScriptLemmas.{stops_by_fault, script_read}
 use Rattle.iop_front.proofs.inputs.read_script.Goals as goal
 

@@ -1,4 +1,5 @@
-use Rattle.std.proofs.Common.{option_map, sym, subst}
+use Rattle.std.proofs.Common.{option_map, string_bytes, ap, sym, ◌∙◌, subst}
+use Rattle.iop_options.specs.Commands.{Command}
 use Rattle.iop_front.specs.Inputs.{seen, HasScript}
 use Rattle.iop_front.proofs.ScriptLemmas.{no_script}
 use Rattle.iop_front.proofs.inputs.read_script_of.Goals as goal
@@ -6,5 +7,7 @@ use Rattle.iop_front.proofs.inputs.read_script_of.Goals as goal
 pub returns-in-None-clause-read : goal.returns-in-None-clause-read
 returns-in-None-clause-read g c =
     let now = seen g.F.Files.told g.F.Files.faults c.args.files.now in
-    subst (λ o. HasScript (option_map (λ n. n.now) o) c.no_script.result now now)
-    (sym c.in-None.is) (no_script c.no_script.result now c.no_script.ensures.script)
+    let none = ap (option_map string_bytes) c.in-None.is in
+    subst (λ script. HasScript script c.no_script.result now now)
+    (sym none ∙ ap (λ (o : Command). o.script) c.options.view_is)
+    (no_script c.no_script.result now c.no_script.ensures.script)

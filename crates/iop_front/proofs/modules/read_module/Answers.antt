@@ -1,7 +1,7 @@
 use Rattle.std.proofs.Common.{◌∷◌, [], refl, sym, subst}
 use Rattle.std.proofs.lemmas.Result.{err_from_is_err_and}
 use Rattle.iop_front.specs.Inputs.{seen, HasTaken}
-use Rattle.iop_front.specs.Words.{AsModule}
+use Rattle.iop_front.specs.Named.{AsModule}
 use Rattle.iop_front.proofs.TakingLemmas.{stops_short}
 use Rattle.iop_front.proofs.modules.read_module.Goals as goal
 

@@ -7,7 +7,7 @@ use Rattle.std.proofs.lemmas.List.Elements.{All-nil, All-push}
 use Rattle.std.proofs.lemmas.Result.{err_from_is_err_and}
 use Rattle.iop_machine.specs.Modules.{NamedFile}
 use Rattle.iop_front.specs.Inputs.{seen, HasTaken, IsShort}
-use Rattle.iop_front.specs.Words.{AsModule}
+use Rattle.iop_front.specs.Named.{AsModule}
 use Rattle.iop_front.proofs.OpeningLemmas.{modules_followed}
 use Rattle.iop_front.proofs.TakingLemmas.{files_short, stops_short, takes_none, stops_behind, split_text, take_text, takes-append}
 use Rattle.iop_front.proofs.modules.read_modules.Goals as goal

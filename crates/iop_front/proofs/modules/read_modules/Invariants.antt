@@ -1,7 +1,7 @@
 use Rattle.std.proofs.Common.{◌≡◌, ◌≤◌, All, length, map, take, string_bytes, vec_capacity}
 use Rattle.iop_front.specs.Inputs.{seen, HasTaken, IsShort}
 use Rattle.iop_front.specs.Outcome.{read_limit}
-use Rattle.iop_front.specs.Words.{AsModule}
+use Rattle.iop_front.specs.Named.{AsModule}
 use Rattle.iop_front.proofs.modules.read_modules.Given as goal
 
 abbrev pub invariant-loop-text : goal.invariant-loop-text

@@ -1,4 +1,4 @@
-use Rattle.iop_printf.proofs.FormatLaws.{digits_of-value}
+use Rattle.iop_printf.proofs.NumberLaws.{digits_of-value}
 use Rattle.iop_printf.proofs.laws.numbers_read_back.Goals as goal
 
 pub returns : goal.returns

@@ -1,13 +1,10 @@
-use Rattle.std.proofs.Common.{true, false, string_bytes, sym, ◌∙◌}
-use Rattle.iop_front.proofs.WordLemmas.{modules_named_by}
+use Rattle.std.proofs.Common.{string_bytes, sym, subst}
+use Rattle.iop_front.proofs.WordLemmas.{AreShortWords, words_short}
 use Rattle.iop_front.proofs.words.ModuleWords.of.Goals as goal
 
-pub returns-then-are_modules : goal.returns-then-are_modules
-returns-then-are_modules c =
-    sym (modules_named_by string_bytes c.args.words.now true
-    (sym c.if-are_modules.true ∙ c.are_modules.ensures))
-
-pub returns-else-are_modules : goal.returns-else-are_modules
-returns-else-are_modules c =
-    sym (modules_named_by string_bytes c.args.words.now false
-    (sym c.if-are_modules.false ∙ c.are_modules.ensures))
+pub invariant_of-result : goal.invariant_of-result
+invariant_of-result c =
+    let held = c.options.inside in
+    let short = subst (λ words. AreShortWords string_bytes words) (sym c.deref.ensures.value)
+    (words_short string_bytes held.generate held.modules.items c.options.invariant.modules) in
+    record { few = short.few; short = short.short }

@@ -1,0 +1,11 @@
+pub mod RuleLemmas
+pub mod StandLemmas
+pub mod WordLemmas
+pub mod TurnLemmas
+pub mod WalkLemmas
+pub mod RowLemmas
+pub mod RepeatLemmas
+pub mod FoundLemmas
+pub mod NumberLemmas
+pub mod ValueLemmas
+pub mod SoundLemmas

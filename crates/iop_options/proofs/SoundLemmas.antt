@@ -1,0 +1,83 @@
+-- What always holds of a command.
+use Rattle.std.proofs.Common.{◌≡◌, ℕ, ◌≤◌, nat_le, Bool, true, false, cond, ◌&&◌, Option, Some, None, IfSome, MatchOption, All, List, [], ◌∷◌, length, refl, subst, leb-true, eqb-true, lit≤, arith}
+use Rattle.std.specs.Option.{option_map}
+use Rattle.std.specs.List.{list_all}
+use Rattle.std.proofs.lemmas.List.Elements.{All-nil, All-cons}
+use Rattle.clap.proofs.WalkLemmas.{both}
+use Rattle.iop_options.specs.Values.{budget_of, script_of, workers_of}
+use Rattle.iop_options.specs.Commands.{AreModules, is_module, has_its_modules, if_given}
+use Rattle.iop_generator.specs.declared.source.TheConstants.{MOST_WORKERS}
+use Rattle.iop_options.specs.declared.limits.TheConstants.{MOST_BUDGET, LONGEST_WORD}
+use Rattle.iop_script.specs.declared.statements.TheConstants.{MOST_MODULES}
+use Rattle.iop_options.proofs.NumberLemmas.{number_between}
+
+pub budget_within : (text : Option (List ℕ)) (budget : ℕ) → budget_of text ≡ Some budget
+    → budget ≤ MOST_BUDGET
+budget_within None budget e = subst (λ o. IfSome o (λ n. n ≤ MOST_BUDGET)) e (lit≤ tt)
+budget_within (Some text) budget e =
+    (subst (λ o. IfSome o (λ n. (0 ≤ n) × (n ≤ MOST_BUDGET))) e (number_between 10 0 MOST_BUDGET text)).1
+
+-- what holds of each value that can be read holds of one that is
+if_given_holds : {A : Type 0} (P : A → Type 0) (read : List ℕ → Option A)
+    → ((text : List ℕ) → IfSome (read text) P) → (text : Option (List ℕ)) (value : Option A)
+    → if_given read text ≡ Some value → IfSome value P
+if_given_holds {A = A} P read holds text value e =
+    subst (λ (o : Option (Option A)). IfSome o (λ v. IfSome v P)) e (all text)
+  where
+    go : (o : Option A) → IfSome o P
+        → IfSome (option_map (λ it. Some it) o) (λ (v : Option A). IfSome v P)
+    go None h = tt
+    go (Some it) h = h
+
+    all : (t : Option (List ℕ)) → IfSome (if_given read t) (λ (v : Option A). IfSome v P)
+    all None = tt
+    all (Some t) = go (read t) (holds t)
+
+pub script_named : (text script : Option (List ℕ)) → if_given script_of text ≡ Some script
+    → IfSome script (λ name. 1 ≤ length name)
+script_named text script e =
+    if_given_holds (λ name. 1 ≤ length name) script_of named text script e
+  where
+    named : (name : List ℕ) → IfSome (script_of name) (λ n. 1 ≤ length n)
+    named name = go (nat_le 1 (length name)) refl
+      where
+        go : (b : Bool) → nat_le 1 (length name) ≡ b
+            → IfSome (cond b (Some name) None) (λ n. 1 ≤ length n)
+        go true e = leb-true 1 (length name) e
+        go false e = tt
+
+pub workers_within : (text : Option (List ℕ)) (workers : Option ℕ)
+    → if_given workers_of text ≡ Some workers
+    → IfSome workers (λ n. (1 ≤ n) × (n ≤ MOST_WORKERS))
+workers_within text workers e =
+    if_given_holds (λ n. (1 ≤ n) × (n ≤ MOST_WORKERS)) workers_of
+    (number_between 10 1 MOST_WORKERS) text workers e
+
+each_module : (words : List (List ℕ)) → list_all is_module words ≡ true
+    → All (λ word. 1 ≤ length word) words × All (λ word. length word ≤ LONGEST_WORD) words
+each_module [] e = (All-nil _, All-nil _)
+each_module (word ∷ words) e =
+    let parts = both (is_module word) (list_all is_module words) e in
+    let here = both (nat_le 1 (length word)) (nat_le (length word) LONGEST_WORD) parts.0 in
+    let rest = each_module words parts.1 in (
+      All-cons (λ w. 1 ≤ length w) word words (leb-true 1 (length word) here.0) rest.0,
+      All-cons (λ w. length w ≤ LONGEST_WORD) word words
+          (leb-true (length word) LONGEST_WORD here.1) rest.1,
+    )
+
+pub modules_fit : (workers : Option ℕ) (words : List (List ℕ))
+    → has_its_modules workers words ≡ true
+    → MatchOption workers (AreModules words) (λ w. words ≡ [])
+modules_fit None words e =
+    let parts = both (nat_le 1 (length words) && nat_le (length words) MOST_MODULES)
+    (list_all is_module words) e in
+    let counts = both (nat_le 1 (length words)) (nat_le (length words) MOST_MODULES) parts.0 in
+    let each = each_module words parts.1 in
+    record {
+      some = leb-true 1 (length words) counts.0;
+      few = leb-true (length words) MOST_MODULES counts.1;
+      named = each.0;
+      short = each.1;
+    }
+modules_fit (Some w) [] e = refl
+modules_fit (Some w) (word ∷ words) e = absurd (omega (arith, eqb-true _ _ e))

@@ -1,0 +1,31 @@
+use Rattle.std.proofs.Common.{◌≡◌, ◌∙◌, ap, ap₂, true, rules}
+use Rattle.std.proofs.lemmas.Result.{IfOk-weaker}
+use Rattle.clap.specs.Walk.{rule_of}
+use Rattle.clap.specs.Simple.{Shape, app_of, app_of_fields, on_top, with_rule}
+use Rattle.iop_options.specs.Matched.{iop_app, bare_app, file_rule}
+use Rattle.iop_options.proofs.command.iop_command.Goals as goal
+
+abbrev unnamed : Shape → Shape
+unnamed shape = record shape { no_binary_name = true }
+
+abbrev helpless : Shape → Shape
+helpless shape = record shape { disable_help_flag = true }
+
+pub returns : goal.returns
+unfolding iop_app
+returns c =
+    let file_is : rule_of c.action-module.result ≡ file_rule = search rules in
+    let bare_is : app_of c.disable_help_flag.result ≡ bare_app =
+    ap app_of_fields c.disable_help_flag.ensures
+    ∙ ap (on_top helpless) (ap app_of_fields c.no_binary_name.ensures
+    ∙ ap (on_top unnamed) c.new-2.ensures.app) in
+    let one = c.in_ok-arg.ensures.shape c.value_option.ensures.local
+    ∙ ap₂ with_rule bare_is c.value_option.ensures.rule in
+    let two = c.in_ok-arg-2.ensures.shape c.value_option-2.ensures.local
+    ∙ ap₂ with_rule one c.value_option-2.ensures.rule in
+    let three = c.in_ok-arg-3.ensures.shape c.value_option-3.ensures.local
+    ∙ ap₂ with_rule two c.value_option-3.ensures.rule in
+    let four = c.in_ok-arg-4.ensures.shape c.value_option-4.ensures.local
+    ∙ ap₂ with_rule three c.value_option-4.ensures.rule in
+    IfOk-weaker c.arg-5.result _ _
+    (λ command h. h.shape (search rules) ∙ ap₂ with_rule four file_is) c.arg-5.ensures

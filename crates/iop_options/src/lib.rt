@@ -1,0 +1,21 @@
+//! The words of the command: which words are one, and what they choose.
+#![tactic(auto)]
+
+mod command;
+mod copies;
+mod dump_range;
+mod fault;
+mod limits;
+mod modules;
+mod numbers;
+mod options;
+mod parsing;
+#[cfg(test)]
+mod tests;
+mod values;
+
+pub use dump_range::DumpRange;
+pub use fault::WordFault;
+pub use limits::{DEFAULT_BUDGET, LONGEST_DUMP, LONGEST_WORD, MEMORY_SIZE, MOST_BUDGET};
+pub use options::Options;
+pub use parsing::parse_options;

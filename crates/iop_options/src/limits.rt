@@ -1,0 +1,19 @@
+//! What the words of the command may ask for: this project's profile.
+
+/// How many bytes of memory the machine has: 2 MiB, as in a PlayStation 2.
+pub const MEMORY_SIZE: u32 = 0x20_0000;
+
+/// How many instructions a run may execute where the words do not say it.
+pub const DEFAULT_BUDGET: u64 = 10_000_000;
+
+/// How many instructions a run may be allowed at most.
+pub const MOST_BUDGET: u64 = 1_000_000_000_000;
+
+/// How many bytes a dump may have at most.
+pub const LONGEST_DUMP: u32 = 0x1_0000;
+
+/// How many digits a number of a dump may have at most.
+pub(crate) const MOST_HEX_DIGITS: usize = 8;
+
+/// How many bytes the word that names a module's file may have at most.
+pub const LONGEST_WORD: usize = 255;

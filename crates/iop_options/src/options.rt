@@ -1,0 +1,30 @@
+use crate::dump_range::DumpRange;
+use std::marker::Model;
+
+/// What the words of a command choose. Either it names modules, or it generates one.
+#[derive(Debug, Drop)]
+pub struct Options {
+    /// How many instructions the run may execute: at most `MOST_BUDGET`.
+    pub budget: u64,
+    /// The name of the script's file, if there is one: a byte at least.
+    pub script: Option<String>,
+    /// The range that is dumped at the end, if there is one.
+    pub dump: Option<DumpRange>,
+    /// How many workers the generated module has, if one is generated: 1 to `MOST_WORKERS`.
+    pub generate: Option<u32>,
+    /// The names of the modules' files, in order: 1 to `MOST_MODULES`, each of 1 to `LONGEST_WORD`
+    /// bytes. None where a module is generated.
+    pub modules: Vec<String>,
+}
+
+impl Model for Options {
+    ghost use Rattle.iop_options.specs.Commands.{Command, IsCommand};
+
+    ghost Value = { Command };
+
+    ghost use Rattle.iop_options.specs.Held.{command_held};
+
+    ghost view = { command_held };
+
+    ghost invariant = { λ o. IsCommand (command_held o) };
+}

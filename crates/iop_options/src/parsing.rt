@@ -1,0 +1,61 @@
+//! The way from the words to what they choose.
+
+ghost use Rattle.std.specs.Prelude.{map, string_bytes};
+ghost use Rattle.iop_options.specs.Answers.{Gives};
+ghost use Rattle.iop_options.specs.Commands.{command_of};
+ghost use Rattle.iop_options.specs.Matched.{command_matched};
+
+use crate::command::matches_of;
+use crate::copies::{copied, copied_all};
+use crate::fault::WordFault;
+use crate::modules::has_its_modules;
+use crate::options::Options;
+use crate::values::{budget_of, dump_of, script_of, workers_of};
+use clap::ArgMatches;
+use std::alloc::Global;
+
+/// Reads the values of options. Answers `Bad` where the matches are no command.
+fn options_of(alloc: Global, matches: &ArgMatches) -> Result<Options, WordFault>
+    ensures { Gives result (command_matched matches.now) }
+{
+    let budget = budget_of(matches.get_str("budget")).ok_or(WordFault::Bad)?;
+    let script = script_of(matches.get_str("script")).ok_or(WordFault::Bad)?;
+    let dump = dump_of(matches.get_str("dump")).ok_or(WordFault::Bad)?;
+    let generate = workers_of(matches.get_str("generate")).ok_or(WordFault::Bad)?;
+    let modules = matches.get_strs("module").unwrap_or(&[]);
+    if !has_its_modules(generate, modules) {
+        return Err(WordFault::Bad);
+    }
+    Ok(Options {
+        budget,
+        script: copied(alloc, script)?,
+        dump,
+        generate,
+        modules: copied_all(alloc, modules)?,
+    })
+}
+
+/// Reads the words of the command, without the program's name:
+///
+/// `[--budget N] [--script FILE] [--dump FROM:LEN] [--generate N] MODULE...`
+///
+/// - Options and modules stand in any order, each option at most once. Its value is the next word,
+///   or stands behind `=`. All words behind `--` are modules.
+/// - A word that begins with `-`, other than `-` alone, is no value, nor, before `--`, a module.
+/// - `--budget` is decimal, at most `MOST_BUDGET`, and `DEFAULT_BUDGET` where it is left out.
+///   Numbers may have leading zeros.
+/// - `--script` is a name of one byte at least.
+/// - `--dump` has two hexadecimal numbers of 1 to 8 digits: a range of 1 to `LONGEST_DUMP` bytes
+///   that lies wholly inside RAM of `MEMORY_SIZE` bytes.
+/// - `--generate` is decimal, 1 to `MOST_WORKERS`, and then there is no module. Else there are 1 to
+///   `MOST_MODULES` of them, each of 1 to `LONGEST_WORD` bytes.
+///
+/// Answers `Bad` exactly where the words are no command, and `Memory` only where host memory runs
+/// out.
+#[tactic(auto, unfolding(crate::specs::Commands::command_of))]
+pub fn parse_options(alloc: Global, words: &[String]) -> Result<Options, WordFault>
+    ensures { Gives result (command_of (map string_bytes words.now)) }
+{
+    let matches = matches_of(alloc, words)?;
+    options_of(alloc, &matches)
+}

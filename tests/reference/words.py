@@ -1,0 +1,88 @@
+"""The words of the command."""
+
+import re
+from typing import NamedTuple
+
+from inputs import Refused
+from memory import place_of
+
+MOST_MODULES = 64
+MOST_NAME = 255
+MOST_DUMP = 0x10000
+MOST_THREADS = 250
+MOST_BUDGET = 1_000_000_000_000
+
+
+class Options(NamedTuple):
+    """What good words ask for: instructions, a script's name, a place and its length, threads, names of modules."""
+    budget: int
+    script: str | None
+    dump: tuple[int, int] | None
+    generate: int | None
+    modules: list[str]
+
+
+class Bad(Exception):
+    """The words are not those of a command."""
+
+
+def need(holds):
+    if not holds:
+        raise Bad
+
+
+def read_words(words):
+    """What words of the command line ask for, which are bytes."""
+    try:
+        values, modules = sort_words([word.decode() for word in words])
+        options = Options(
+            number(values.get("--budget", "10000000"), 0, MOST_BUDGET),
+            values.get("--script"),
+            dump_range(values["--dump"]) if "--dump" in values else None,
+            number(values["--generate"], 1, MOST_THREADS) if "--generate" in values else None,
+            modules)
+        need(all(1 <= len(name.encode()) <= MOST_NAME for name in modules))
+        need(not modules if options.generate else 1 <= len(modules) <= MOST_MODULES)
+    except (Bad, UnicodeDecodeError) as bad:
+        raise Refused(20, "bad words") from bad
+    return options
+
+
+def sort_words(words):
+    """The values of the options by their names, and the modules."""
+    values, modules, left = {}, [], list(words)
+    while left:
+        word = left.pop(0)
+        if word == "--":
+            return values, modules + left
+        if is_dashed(word):
+            name, equals, value = word.partition("=")
+            if not equals:
+                need(left and not is_dashed(left[0]))
+                value = left.pop(0)
+            need(name in ("--budget", "--script", "--dump", "--generate") and name not in values and value)
+            values[name] = value
+        else:
+            modules.append(word)
+    return values, modules
+
+
+def is_dashed(word):
+    return word.startswith("-") and word != "-"
+
+
+def number(text, least, most):
+    """A number in decimal digits, with any zeros before it."""
+    need(re.fullmatch("[0-9]+", text))
+    digits = text.lstrip("0") or "0"
+    need(len(digits) <= len(str(most)) and least <= int(digits) <= most)
+    return int(digits)
+
+
+def dump_range(text):
+    """A place and a length in hexadecimal digits."""
+    found = re.fullmatch("([0-9A-Fa-f]{1,8}):([0-9A-Fa-f]{1,8})", text)
+    need(found)
+    at, length = int(found[1], 16), int(found[2], 16)
+    need(1 <= length <= MOST_DUMP and place_of(at, length) is not None)
+    return at, length
