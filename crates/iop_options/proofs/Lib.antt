@@ -9,3 +9,5 @@ pub mod FoundLemmas
 pub mod NumberLemmas
 pub mod ValueLemmas
 pub mod SoundLemmas
+pub mod KindLemmas
+pub mod WritingLemmas

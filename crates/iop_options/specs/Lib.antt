@@ -6,3 +6,4 @@ pub mod Commands
 pub mod Answers
 pub mod Held
 pub mod Matched
+pub mod Laws

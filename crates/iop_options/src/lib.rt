@@ -5,6 +5,7 @@ mod command;
 mod copies;
 mod dump_range;
 mod fault;
+pub mod laws;
 mod limits;
 mod modules;
 mod numbers;

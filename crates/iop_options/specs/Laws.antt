@@ -1,0 +1,50 @@
+-- What may be changed in the words of a command without changing the command.
+use Rattle.std.specs.Prelude.{◌≡◌, ℕ, ◌≤◌, true, false, Bool, not, None, is_some, codes, List, [], ◌∷◌, ◌++◌, length}
+use Rattle.std.specs.List.{list_all, list_any}
+use Rattle.std.specs.Str.{bytes_eq}
+use Rattle.iop_options.specs.Words.{is_hyphen, is_equals}
+use Rattle.iop_options.specs.Parts.{parts_from}
+use Rattle.iop_options.specs.Commands.{command_of}
+
+-- `--NAME`
+abbrev pub option_word : (name : List ℕ) → List ℕ
+option_word name = codes "--" ++ name
+
+-- `--NAME=TEXT`: the byte 61 is `=`
+abbrev pub joined_word : (name text : List ℕ) → List ℕ
+joined_word name text = codes "--" ++ (name ++ 61 ∷ text)
+
+-- a name has one byte at least, and no `=`
+pub record IsName (name : List ℕ) : Type 0 where
+  pub some : 1 ≤ length name
+  pub cut : list_any is_equals name ≡ false
+
+-- a word that does not begin with `-`, or is `-` alone
+abbrev pub is_plain : List ℕ → Bool
+is_plain [] = true
+is_plain (only ∷ []) = true
+is_plain (first ∷ second ∷ rest) = not (is_hyphen first)
+
+-- words behind which an option or a module may stand: they are good, none of them is `--`, and no
+-- option waits for its value
+pub record IsFront (words : List (List ℕ)) : Type 0 where
+  pub good : is_some (parts_from None words) ≡ true
+  pub free : list_all (λ word. not (bytes_eq word (codes "--"))) words ≡ true
+
+pub record MayBeWrittenOtherwise (before : List (List ℕ)) : Type 0 where
+  -- an option with its value may stand in front of the words before it
+  pub moved : (name text : List ℕ) (behind : List (List ℕ)) → IsName name →
+      command_of (before ++ joined_word name text ∷ behind)
+      ≡ command_of (joined_word name text ∷ before ++ behind)
+  -- a value may be the next word, or stand behind `=` in the option's
+  pub joined : (name text : List ℕ) (behind : List (List ℕ)) → IsName name →
+      is_plain text ≡ true →
+      command_of (before ++ option_word name ∷ text ∷ behind)
+      ≡ command_of (before ++ joined_word name text ∷ behind)
+  -- `--` may be left out where no module behind it begins with `-`
+  pub separated : (modules : List (List ℕ)) → list_all is_plain modules ≡ true →
+      command_of (before ++ codes "--" ∷ modules) ≡ command_of (before ++ modules)
+
+abbrev pub CommandsMayBeWrittenOtherwise : Type 0
+CommandsMayBeWrittenOtherwise =
+    (before : List (List ℕ)) → IsFront before → MayBeWrittenOtherwise before
