@@ -1,0 +1,3 @@
+pub mod ModuleLemmas
+pub mod TableLemmas
+pub mod TextLemmas

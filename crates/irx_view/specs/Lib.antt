@@ -1,0 +1,4 @@
+pub mod Modules
+pub mod Rules
+pub mod Texts
+pub mod Types
