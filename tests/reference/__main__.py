@@ -3,8 +3,8 @@
     python3 -B tests/reference WORD...    does what `iop` does for these words; console on stdout, trace on stderr
 
 It is written from docs/PROFILE.md and docs/FORMATS.md, and shares no line with the program but for the source of the test
-module. It does no more than the tests need: it takes well-formed modules, and knows the more common instructions. It ends
-with 70 where it does not know what would happen. `tests/models` compares it with what the cases want.
+module. It does no more than the tests need, and ends with 70 where it does not know what would happen.
+`tests/commands tests/model` compares it with what the cases want.
 
 What the command is told stands in these files:
 
@@ -16,7 +16,8 @@ What the command is told stands in these files:
 The machine is one class, whose parts stand each in a file of its own:
 
     machine.py       its state and memory at the start, and its run to the end
-    loading.py       the way of a module: the parts of its file, relocation, linking, its words, its removal
+    irx.py           the rules of a module's file
+    loading.py       the way of a module: relocation, linking, its words, its removal
     threads.py       threads, the list of the ready ones and dispatch; thbase
     objects.py       semaphores, event flags and mailboxes; thsemap, thevent, thmsgbx
     deliveries.py    alarms, delays, interrupt lines and their handlers; thbase on the clock, intrman
@@ -63,7 +64,7 @@ def outcome(words):
 def main():
     try:
         console, trace, status = outcome([os.fsencode(word) for word in sys.argv[1:]])
-    except (IndexError, NotImplementedError, StopIteration, struct.error) as unknown:
+    except (IndexError, StopIteration, struct.error) as unknown:
         print(f"model: {type(unknown).__name__} {unknown}", file=sys.stderr)
         return UNKNOWN
     sys.stdout.buffer.write(console)

@@ -30,10 +30,10 @@ class Deliveries:
         """Delivers what comes first, and tells whether something did."""
         if not self.interrupts or self.handler or self.running is not None and self.cpu.slot:
             return False
-        for number, line in enumerate(self.irqs):
-            if line.raised and line.enabled and line.handler:
+        for line in [line for line in self.irqs if line.raised]:
+            if line.enabled and line.handler:
                 line.raised = line.enabled = False
-                self.trace(f"line {number}")
+                self.trace(f"line {self.irqs.index(line)}")
                 self.begin_handler(lambda value: self.line_handled(line, value), *line.handler)
                 return True
         delays = [(*thread.delay, thread) for thread in self.threads.values() if thread.delay]

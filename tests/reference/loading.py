@@ -1,9 +1,13 @@
 """The way of a module: it is read, relocated, linked, run and removed."""
 
 import struct
+from itertools import takewhile
 
+from irx import HI16, LO16, read_module
 from memory import SIZE
 from processor import Registers
+
+MOST_STUBS = 65536
 
 
 def signed(word):
@@ -14,79 +18,84 @@ class Loading:
     """Of the machine: how modules are loaded, and what becomes of one that returned."""
 
     def load(self, file):
-        """Answers (base, length, entry, gp, text), or a code."""
-        offset, count = struct.unpack_from("<I", file, 28)[0], struct.unpack_from("<H", file, 44)[0]
-        headers = [struct.unpack_from("<8I", file, offset + 32 * n) for n in range(count)]
-        info = next(h for h in headers if h[0] == 0x70000080)
-        part = next(h for h in headers if h[0] == 1)
-        _, entry, gp, text, init, bss = struct.unpack_from("<6I", file, info[1])
-        length = max(part[5], text + init + bss)
-        if part[1] + part[4] > len(file):
-            raise NotImplementedError("a bad file")
-        image = bytearray(file[part[1]:part[1] + part[4]].ljust(length, b"\0"))
-        base = self.blocks.alloc(0, length, 0)
+        """Answers (base, length, entry, gp), or a code."""
+        module = read_module(file)
+        if module is None:
+            return -201
+        base = self.blocks.alloc(0, module.length, 0)
         if not base:
             return -400
-        self.memory.write(base, bytes(image))
-        self.relocate(file, base)
-        code = self.link(base, text)
+        self.memory.write(base, module.image.ljust(module.length, b"\0"))
+        for entries in module.entries:
+            self.relocate(entries, base)
+        code = self.link(base, module.text)
         if code:
             self.blocks.free(base)
             return code
-        return base, length, base + entry, base + gp
+        return base, module.length, base + module.entry, base + module.gp
 
-    def relocate(self, file, base):
-        offset, count = struct.unpack_from("<I", file, 32)[0], struct.unpack_from("<H", file, 48)[0]
-        if offset + 40 * count > len(file):
-            raise NotImplementedError("a bad file")
+    def relocate(self, entries, base):
         ram = self.memory.ram
-        for n in range(count):
-            section = struct.unpack_from("<10I", file, offset + 40 * n)
-            if section[1] != 9:
+        for k, (site, kind) in enumerate(entries):
+            if kind == 0:
                 continue
-            entries = [struct.unpack_from("<II", file, section[4] + k) for k in range(0, section[5], 8)]
-            for k, (site, info) in enumerate(entries):
-                at = base + site
-                word = struct.unpack_from("<I", ram, at)[0]
-                kind = info % 256
-                if kind == 2:
-                    word += base
-                elif kind == 4:
-                    word = word & 0xFC000000 | (word + base // 4) & 0x03FFFFFF
-                elif kind == 5:
-                    low_site = next(s for s, i in entries[k + 1:] if i % 256 == 6)
-                    low = struct.unpack_from("<h", ram, base + low_site)[0]
-                    whole = (word % 65536) * 65536 + low + base
-                    word = word & 0xFFFF0000 | (whole + 0x8000) // 65536 % 65536
-                elif kind == 6:
-                    word = word & 0xFFFF0000 | (word + base) & 0xFFFF
-                struct.pack_into("<I", ram, at, word % 2**32)
+            at = base + site
+            word = struct.unpack_from("<I", ram, at)[0]
+            if kind == 2:
+                word += base
+            elif kind == 4:
+                word = word & 0xFC000000 | (word + base // 4) & 0x03FFFFFF
+            elif kind == HI16:
+                low_site = next(s for s, later in entries[k + 1:] if later == LO16)
+                low = struct.unpack_from("<h", ram, base + low_site)[0]
+                whole = (word % 65536) * 65536 + low + base
+                word = word & 0xFFFF0000 | (whole + 0x8000) // 65536 % 65536
+            elif kind == LO16:
+                word = word & 0xFFFF0000 | (word + base) & 0xFFFF
+            struct.pack_into("<I", ram, at, word % 2**32)
 
-    def link(self, base, text):
-        memory, bound, at = self.memory, [], base
-        before = bytes(memory.ram)
-        word = lambda place: struct.unpack_from("<I", before, place)[0]
-        while at + 8 <= base + text:
+    def import_tables(self, at, end):
+        """The name, the major version and the stubs, places and indices, of each import table of a range; None where one
+        is bad."""
+        word, tables = self.memory.word, []
+        while at + 8 <= end:
             if (word(at), word(at + 4)) != (0x41E00000, 0):
                 at += 4
                 continue
-            version, name = before[at + 9], before[at + 12:at + 20]
+            library, stubs, at = (self.memory.ram[at + 12:at + 20], self.memory.ram[at + 9]), [], at + 20
+            while at + 8 <= end and (word(at), word(at + 4)) != (0, 0):
+                if word(at) != 0x03E00008 or word(at + 4) >> 16 != 0x2400:
+                    return None
+                stubs.append((at, word(at + 4) % 65536))
+                at += 8
+            if at + 8 > end:
+                return None
+            tables.append((bytes(library[0]), library[1], stubs))
+            at += 8
+        return tables
+
+    def functions(self, table):
+        """The functions of an export table."""
+        places = range(table + 20, min(table + 20 + 4 * 1024, SIZE - 3), 4)
+        return list(takewhile(lambda function: function, map(self.memory.word, places)))
+
+    def link(self, base, text):
+        """Binds the stubs of a module, and answers 0; or a code."""
+        tables = self.import_tables(base, base + text)
+        if tables is None:
+            return -201
+        bound = []
+        for name, version, stubs in tables:
             table = next((t for n, major, t in self.registry if n == name and major == version), None)
             if table is None:
                 return -200
-            functions = []
-            while table + 24 + 4 * len(functions) <= SIZE and word(table + 20 + 4 * len(functions)):
-                functions.append(word(table + 20 + 4 * len(functions)))
-            at += 20
-            while word(at):
-                index = word(at + 4) % 65536
-                if index < len(functions):
-                    bound.append((at, functions[index], (name, version)))
-                at += 8
-            at += 8
+            functions = self.functions(table)
+            bound += [(at, functions[index], (name, version)) for at, index in stubs if index < len(functions)]
+        if len(self.memory.live) + len(bound) > MOST_STUBS:
+            return -400
         for at, function, library in bound:
-            struct.pack_into("<I", memory.ram, at, 0x08000000 | function >> 2 & 0x03FFFFFF)
-            memory.live[at] = library
+            struct.pack_into("<I", self.memory.ram, at, 0x08000000 | function >> 2 & 0x03FFFFFF)
+            self.memory.live[at] = library
         return 0
 
     def load_next(self):

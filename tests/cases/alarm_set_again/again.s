@@ -1,5 +1,5 @@
-; An alarm whose handler cancels it and sets it again: it has a new number, and the result does not touch it. The third time
-; the handler gives up
+; An alarm whose handler cancels it and sets it again: it has a new number, and the result does not touch it. The
+; third time the handler gives up
     .name again
     .entry main
     .import thbase 1 1

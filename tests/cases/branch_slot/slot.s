@@ -1,5 +1,5 @@
-; A line that is raised behind a branch comes after the instruction in its slot. Line 1 is raised twice while it is disabled,
-; and comes once, when it is enabled
+; A line that is raised behind a branch comes after the instruction in its slot. Line 1 is raised twice while it is
+; disabled, and comes once, when it is enabled
     .name slot
     .entry main
     .import intrman 1 1

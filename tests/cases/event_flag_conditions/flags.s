@@ -38,9 +38,14 @@ wait_any:
     addu $a3, $0, $0
     j wait_flag
     addiu $a2, $0, 1
+    .import intrman 1 1
+    .fn turn_off 8
+    .fn turn_on 9
+    .endi
     .data
 rows:
     .word create_flag, attribute, 0, -401
+    .word create_flag, attribute_3, 0, -401
     .word create_flag, one_waiter, 0, 1
     .word create_flag, many, 0, 2
     .word set, 1, 5, 0
@@ -61,6 +66,8 @@ rows:
     .word wait_any, 1, 0, -423
     .word poll_any, 3, 0, -409
     .word wait_any, 3, 1, -409
+    .word wait_any, 3, 0, -409
+    .word wait_any, 0, 1, -409
     .word set, 3, 1, -409
     .word clear, 3, 1, -409
     .word delete_flag, 3, 0, -409
@@ -76,16 +83,25 @@ rows:
     .word set_in_handler, 1, 1, -100
     .word clear_in_handler, 1, 1, -100
     .word refer_flag_in_handler, 1, status, -100
+    .word refer_flag_in_handler, 1, 2, -100
     .word disable, 0, 0, 0
     .word wait_any, 2, 2, -417
+    .word wait_any, 3, 0, -417
     .word poll_only, 2, 2, 0
     .word enable, 0, 0, 0
+    .word turn_off, 0, 0, 0
+    .word wait_any, 2, 2, -417
+    .word wait_any, 3, 0, -417
+    .word poll_only, 2, 2, 0
+    .word turn_on, 0, 0, 0
     .word delete_flag, 1, 0, 0
     .word delete_flag, 1, 0, -409
     .word create_flag, many, 0, 3
     .word 0
 attribute:
     .word 1, 0, 0
+attribute_3:
+    .word 3, 0, 0
 one_waiter:
     .word 0, 0, 0
 many:

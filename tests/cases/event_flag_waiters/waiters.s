@@ -1,5 +1,6 @@
-; One thread waits for both bits and clears, the next for any bit: one call sets both, wakes the first alone, and the pattern is 0. A
-; second waiter is refused where there may be one alone. The waiters of a flag that is deleted are woken with -425
+; One thread waits for both bits and clears, the next for any bit: one call sets both, wakes the first alone, and the
+; pattern is 0. A second waiter is refused where there may be one alone. The waiters of a flag that is deleted are
+; woken with -425
     .name waiters
     .import thevent 1 1
     .fn create_flag 4

@@ -1,5 +1,5 @@
-; While nothing runs, a line, an alarm and a delay come at moment 1000, in this order; the alarm comes again 256 ticks later,
-; until line 1 comes, whose handler cancels it
+; While nothing runs, a line, an alarm and a delay come at moment 1000, in this order; the alarm comes again 256 ticks
+; later, until line 1 comes, whose handler cancels it
     .name idle
     .entry main
     .import intrman 1 1

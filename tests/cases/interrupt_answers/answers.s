@@ -1,5 +1,5 @@
-; What the services of interrupts and of alarms answer, and what waits do while interrupts are off. The alarm that is left
-; stands at a moment that never comes
+; What the services of intrman answer in a thread and in a handler, whose return turns interrupts on, and what waits
+; do while they are off
     .name answers
     .import intrman 1 1
     .fn register 4
@@ -12,12 +12,6 @@
     .fn resume_interrupts 18
     .fn in_handler 23
     .endi
-    .import thbase 1 1
-    .fn delay 33
-    .fn set_alarm 35
-    .fn cancel_alarm 37
-    .fn cancel_alarm_in_handler 38
-    .endi
 ; a handler for the line $a0, with the argument 7
 register_it:
     lui $a2, %hi(handles)
@@ -27,12 +21,6 @@ register_it:
 handles:
     jr $ra
     addu $v0, $0, $0
-; an alarm after the time at $a0, with the argument 7
-set_it:
-    lui $a1, %hi(handles)
-    addiu $a1, $a1, %lo(handles)
-    j set_alarm
-    addiu $a2, $0, 7
     .data
 rows:
     .word suspend_interrupts, word, 0, 0
@@ -47,17 +35,28 @@ rows:
     .word disable_line, 5, word, -103
     .word peek, word, 0, 5
     .word enable_line, 64, 0, -101
+    .word enable_line, -1, 0, -101
     .word disable_line, 64, word, -101
     .word peek, word, 0, 5
+    .word disable_line, 64, 0, -101
     .word release_line, 64, 0, -101
     .word release_line, 5, 0, -105
     .word register_it, 64, 0, -101
+    .word register_it, -1, 0, -101
+    .word register_it, 63, 0, 0
+    .word release_line, 63, 0, 0
     .word register_it, 5, 0, 0
     .word register_it, 5, 0, -104
     .word enable_line, 5, 0, 0
-    .word disable_line, 5, 0, 0
+    .word enable_line, 5, 0, 0
+    .word disable_line, 5, word_2, 0
+    .word peek, word_2, 0, 5
     .word disable_line, 5, 0, -103
+    .word enable_line, 5, 0, 0
     .word release_line, 5, 0, 0
+    .word disable_line, 5, 0, -103
+    .word enable_line, 63, 0, 0
+    .word disable_line, 63, 0, 0
     .word turn_off, 0, 0, 0
     .word turn_off, 0, 0, -102
     .word turn_on, 0, 0, 0
@@ -69,16 +68,37 @@ rows:
     .word delay, 1, 0, -417
     .word enable, 0, 0, 0
     .word in_handler, 0, 0, 0
-    .word set_it, never, 0, 0
-    .word set_it, never, 0, -104
-    .word cancel_alarm_in_handler, handles, 7, -100
-    .word cancel_alarm, handles, 8, -105
-    .word cancel_alarm, handles, 7, 0
-    .word cancel_alarm, handles, 7, -105
-    .word alarm_in_handler, never, 0, -100
-    .word set_it, never, 0, 0
+    .word register_it, 6, 0, 0
+    .word rows_in_handler, handler_rows, 0, 0
+    .word suspend_interrupts, word, 0, 0
+    .word peek, word, 0, 1
+    .word turn_on, 0, 0, 0
+    .word release_line, 6, 0, 0
     .word 0
-never:
-    .word -1, -1
+handler_rows:
+    .word in_handler, 0, 0, 1
+    .word register_it, 6, 0, -100
+    .word register_it, 64, 0, -100
+    .word release_line, 6, 0, -100
+    .word release_line, 64, 0, -100
+    .word enable_line, 6, 0, 0
+    .word enable_line, 64, 0, -101
+    .word disable_line, 6, word, 0
+    .word peek, word, 0, 6
+    .word disable_line, 6, 0, -103
+    .word disable_line, 64, 0, -101
+    .word suspend_interrupts, word, 0, 0
+    .word peek, word, 0, 1
+    .word suspend_interrupts, word, 0, -102
+    .word peek, word, 0, 0
+    .word resume_interrupts, 0, 0, 0
+    .word turn_off, 0, 0, -102
+    .word resume_interrupts, 1, 0, 0
+    .word turn_off, 0, 0, 0
+    .word turn_on, 0, 0, 0
+    .word turn_off, 0, 0, 0
+    .word 0
 word:
+    .word 0
+word_2:
     .word 0

@@ -34,11 +34,17 @@ rows:
     .word fills, 2, 0, 0
     .word send, 1, rows, -400
     .word send, 2, 0xFFFFFFF0, -400
+    .word rows_in_handler, handler_rows, 0, 0
     .word poll_box, place, 1, 0
     .word send, 2, rows, 0
     .word send, 1, rows, -400
     .word delete_box, 1, 0, 0
     .word send, 2, rows, 0
+    .word 0
+handler_rows:
+    .word send_in_handler, 1, rows, -400
+    .word send_in_handler, 2, 0xFFFFFFF0, -400
+    .word send_in_handler, 3, rows, -410
     .word 0
 by_arrival:
     .word 0, 0

@@ -10,9 +10,14 @@
     .fn refer_box 11
     .fn refer_box_in_handler 12
     .endi
+    .import intrman 1 1
+    .fn turn_off 8
+    .fn turn_on 9
+    .endi
     .data
 rows:
     .word create_box, attribute, 0, -401
+    .word create_box, attribute_8, 0, -401
     .word create_box, by_arrival, 0, 1
     .word create_box, by_priority, 0, 2
     .word poll_box, place, 1, -424
@@ -47,10 +52,17 @@ rows:
     .word refer_box, 3, status, -410
     .word send_in_handler, 1, m1, -100
     .word refer_box_in_handler, 1, status, -100
+    .word refer_box_in_handler, 1, 2, -100
     .word disable, 0, 0, 0
     .word receive, place, 1, -417
     .word poll_box, place, 1, -424
+    .word receive, place, 3, -417
     .word enable, 0, 0, 0
+    .word turn_off, 0, 0, 0
+    .word receive, place, 1, -417
+    .word receive, place, 3, -417
+    .word poll_box, place, 1, -424
+    .word turn_on, 0, 0, 0
     .word send, 2, m5, 0
     .word delete_box, 2, 0, 0
     .word delete_box, 2, 0, -410
@@ -58,6 +70,8 @@ rows:
     .word 0
 attribute:
     .word 2, 0
+attribute_8:
+    .word 8, 0
 by_arrival:
     .word 0, 3
 by_priority:

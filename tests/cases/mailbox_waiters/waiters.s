@@ -1,5 +1,5 @@
-; A message goes to the thread that waits, by priority or by arrival, and is not queued. Its own priority is not looked at then, and its
-; byte stands outside RAM here. The waiter of a mailbox that is deleted is woken with -425
+; A message goes to the thread that waits, by priority or by arrival, and is not queued. Its own priority is not
+; looked at then, and its byte stands outside RAM here. The waiter of a mailbox that is deleted is woken with -425
     .name waiters
     .import thmsgbx 1 1
     .fn create_box 4

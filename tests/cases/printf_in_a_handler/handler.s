@@ -1,8 +1,11 @@
-; An alarm's handler prints its argument, a register that is 0, and a word of the handlers' stack
+; An alarm's handler prints its argument, registers that are 0, and words of the handlers' stack, by stdio and by sysmem
     .name handler
     .entry main
     .import stdio 1 1
     .fn print 4
+    .endi
+    .import sysmem 1 1
+    .fn kernel_print 14
     .endi
     .import thbase 1 1
     .fn set_alarm 35
@@ -27,6 +30,10 @@ prints:
     lui $a0, %hi(text)
     jal print
     addiu $a0, $a0, %lo(text)
+    lui $a0, %hi(answer)
+    addiu $a0, $a0, %lo(answer)
+    jal kernel_print
+    addu $a1, $v0, $0
     jr $s0
     addu $v0, $0, $0
     .data
@@ -34,3 +41,5 @@ time:
     .word 100, 0
 text:
     .asciz "alarm %d, %d, %d, stack %d %d\n"
+answer:
+    .asciz "%d\n"

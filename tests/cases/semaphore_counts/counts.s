@@ -10,9 +10,14 @@
     .fn refer_sema 11
     .fn refer_sema_in_handler 12
     .endi
+    .import intrman 1 1
+    .fn turn_off 8
+    .fn turn_on 9
+    .endi
     .data
 rows:
     .word create_sema, attribute, 0, -401
+    .word create_sema, attribute_and_count, 0, -401
     .word create_sema, too_many, 0, -420
     .word create_sema, full, 0, 1
     .word create_sema, empty, 0, 2
@@ -32,6 +37,8 @@ rows:
     .word peek, status_16, 0, 2
     .word peek, status_20, 0, 0
     .word signal, 3, 0, -408
+    .word signal, 0, 0, -408
+    .word signal, -1, 0, -408
     .word wait, 3, 0, -408
     .word poll, 3, 0, -408
     .word delete_sema, 3, 0, -408
@@ -39,17 +46,26 @@ rows:
     .word delete_sema, 0, 0, -408
     .word signal_in_handler, 1, 0, -100
     .word refer_sema_in_handler, 1, status, -100
+    .word refer_sema_in_handler, 1, 2, -100
     .word disable, 0, 0, 0
     .word wait, 2, 0, -417
     .word wait, 3, 0, -417
     .word poll, 2, 0, 0
     .word enable, 0, 0, 0
+    .word turn_off, 0, 0, 0
+    .word wait, 2, 0, -417
+    .word wait, 3, 0, -417
+    .word poll, 2, 0, 0
+    .word signal, 2, 0, 0
+    .word turn_on, 0, 0, 0
     .word delete_sema, 1, 0, 0
     .word delete_sema, 1, 0, -408
     .word create_sema, full, 0, 3
     .word 0
 attribute:
     .word 2, 0, 0, 1
+attribute_and_count:
+    .word 0x100, 0, 2, 1
 too_many:
     .word 0, 0, 2, 1
 full:

@@ -1,5 +1,6 @@
-; Threads of priority 30, 20 and 20 wait for a semaphore, by priority and then by arrival. When it is deleted they are woken
-; with -425 in the order in which signals would choose them, which is that of the trace where their priorities are equal
+; Threads of priority 30, 20 and 20 wait for a semaphore, by priority and then by arrival. When it is deleted they are
+; woken with -425 in the order in which signals would choose them, which is that of the trace where their priorities
+; are equal
     .name deleted
     .import thsemap 1 1
     .fn create_sema 4

@@ -1,4 +1,5 @@
-; Threads that wait for a semaphore are terminated, released, suspended and resumed: a signal wakes none that waits no more
+; Threads that wait for a semaphore are terminated, released, suspended and resumed: a signal wakes none that waits no
+; more
     .name ends
     .import thsemap 1 1
     .fn create_sema 4

@@ -1,35 +1,32 @@
-; 255 threads can be live, that of the loader among them, so the 255th call is refused with -400. The
-; deletion of one makes room for one more, of id 256. The module returns 4 times 255 + 256 - 400
+; 255 threads can be live, that of the loader among them. One that is deleted makes room for another, whose id is new
     .name limit
-    .import thbase 1 1
-    .fn create 4
-    .fn delete 5
-    .endi
-    .entry main
-main:
-    addu $s0, $ra, $0
-    lui $s1, %hi(param)
-    addiu $s1, $s1, %lo(param)
-    addu $s2, $0, $0
-more:
+; makes threads of the words at $a0 as long as their ids are less than $a1, and answers the last answer
+makes:
+    addu $s3, $ra, $0
+    addu $s4, $a0, $0
+    addu $s5, $a1, $0
+make:
     jal create
-    addu $a0, $s1, $0
-    addiu $t0, $0, -400
-    bne $v0, $t0, more
-    addiu $s2, $s2, 1
-    jal delete
-    addiu $a0, $0, 100
-    jal create
-    addu $a0, $s1, $0
-    addu $s2, $s2, $v0
-    jal create
-    addu $a0, $s1, $0
-    addu $s2, $s2, $v0
-    jr $s0
-    sll $v0, $s2, 2
-returns:
-    jr $ra
+    addu $a0, $s4, $0
+    sltu $t0, $v0, $s5
+    bne $t0, $0, make
+    nop
+    jr $s3
     nop
     .data
-param:
-    .word 0, 0, returns, 256, 20
+rows:
+    .word makes, words, 255, 255
+    .word create, words, 0, -400
+    .word create, priority, 0, -403
+    .word create, stack, 0, -404
+    .word delete, 100, 0, 0
+    .word start, 100, 0, -407
+    .word create, words, 0, 256
+    .word create, words, 0, -400
+    .word 0
+words:
+    .word 0, 0, peek, 256, 20
+priority:
+    .word 0, 0, peek, 256, 127
+stack:
+    .word 0, 0, peek, 255, 20

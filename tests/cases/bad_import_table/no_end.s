@@ -1,0 +1,5 @@
+; The text ends behind the stubs, before the two words 0 of its table
+    .name bad
+    .word 0x41E00000, 0, 0x101, 0x69647473, 0x0000006F
+    .word 0x03E00008, 0x24000004
+    .word 0x03E00008, 0x24000004

@@ -1,0 +1,7 @@
+    .name fault
+    beq $0, $0, end
+    jr $ra
+    nop
+end:
+    jr $ra
+    addu $v0, $0, $0

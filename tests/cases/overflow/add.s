@@ -1,0 +1,7 @@
+    .name fault
+    lui $t0, 0x7FFF
+    ori $t0, $t0, 0xFFFF
+    addiu $t1, $0, 1
+    add $t0, $t0, $t1
+    jr $ra
+    addu $v0, $0, $0

@@ -1,0 +1,7 @@
+    .name fault
+    lui $t0, 0x8000
+    nop
+    nop
+    addi $t0, $t0, -1
+    jr $ra
+    addu $v0, $0, $0

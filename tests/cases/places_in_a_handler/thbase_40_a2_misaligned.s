@@ -1,0 +1,20 @@
+; SysClock2USec writes the microseconds at $a2, which is no multiple of 4
+    .name place
+    .entry main
+main:
+    lui $a0, %hi(soon)
+    addiu $a0, $a0, %lo(soon)
+    lui $a1, %hi(handles)
+    addiu $a1, $a1, %lo(handles)
+    syscall 803
+    jr $ra
+    addu $v0, $0, $0
+; the handler of an alarm
+handles:
+    addu $a0, $0, $0
+    lui $a2, 0x10
+    addiu $a2, $a2, 2
+    syscall 808
+    .data
+soon:
+    .word 100, 0

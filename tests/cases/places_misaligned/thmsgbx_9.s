@@ -1,0 +1,6 @@
+; PollMbx writes a word at $a0, which is no multiple of 4
+    .name place
+    nop
+    lui $a0, 0x10
+    addiu $a0, $a0, 2
+    syscall 1545

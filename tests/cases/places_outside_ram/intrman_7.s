@@ -1,0 +1,6 @@
+; DisableIntr writes a word at $a1, and RAM ends there
+    .name place
+    addu $a0, $0, $0
+    lui $a1, 0x20
+    addiu $a1, $a1, 0
+    syscall 519

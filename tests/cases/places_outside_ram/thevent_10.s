@@ -1,0 +1,6 @@
+; WaitEventFlag writes a word at $a3, and RAM ends there
+    .name place
+    addu $a0, $0, $0
+    lui $a3, 0x20
+    addiu $a3, $a3, 0
+    syscall 1290

@@ -1,0 +1,6 @@
+; ReceiveMbx, with interrupts off, writes a word at $a0, and RAM ends there
+    .name place
+    syscall 520
+    lui $a0, 0x20
+    addiu $a0, $a0, 0
+    syscall 1544
