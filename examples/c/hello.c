@@ -1,16 +1,15 @@
-/* A module that greets everyone in a table, and tells its own name. */
-
-/* sysmem 14: writes a text to the console. */
-extern int Kprintf(const char *format, ...);
+/* A module that greets everyone in a list, and tells its own name. */
+#include <loadcore.h>
+#include <sysmem.h>
 
 struct greeting {
     const char *text;
     const struct greeting *next;
 };
 
-static const struct greeting last = { "bye\n", 0 };
-static const struct greeting second = { "hello, console\n", &last };
-static const struct greeting first = { "hello, world\n", &second };
+static const struct greeting last = { "bye", 0 };
+static const struct greeting second = { "hello, console", &last };
+static const struct greeting first = { "hello, world", &second };
 
 /* What is greeted next. It stands in memory that the file has bytes for. */
 static const struct greeting *next = &first;
@@ -20,19 +19,17 @@ static int written;
 
 static void write(const char *text)
 {
-    written += Kprintf(text);
+    written += Kprintf("%s\n", text);
 }
 
-/* The loader calls it with the words of the module, of which the first is its name. A 0 keeps the module. */
-int start(int argc, char **argv)
+/* The loader calls it with the words of the module, of which the first is its name. */
+int _start(int argc, char **argv)
 {
     while (next) {
         write(next->text);
         next = next->next;
     }
-    if (argc > 0) {
+    if (argc > 0)
         write(argv[0]);
-        write("\n");
-    }
-    return written > 0 ? 0 : 1;
+    return written > 0 ? MODULE_RESIDENT_END : MODULE_NO_RESIDENT_END;
 }

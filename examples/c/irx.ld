@@ -1,5 +1,5 @@
 /* The image of a module, linked at 0: text, then data, then what begins as zeros. */
-ENTRY(start)
+ENTRY(_start)
 SECTIONS
 {
   .text 0 : { *(.text .text.*) }

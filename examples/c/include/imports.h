@@ -1,20 +1,28 @@
 /*
- * Import tables of an IOP module, for a file of the assembler. Each function that a module calls has a stub of two
- * instructions, which the loader patches. The stubs of a library stand in its table:
+ * The import table of a library, for a file of the assembler. Each function has a stub of two instructions, which the
+ * loader patches:
  *
- *     import_table "sysmem", 1, 1
- *     import Kprintf, 14
- *     end_import_table
+ *     #include <imports.h>
+ *
+ *         import_table "tally", 1, 1
+ *         import tally_add, 4
+ *         import tally_total, 5
+ *         end_import_table
+ *
+ * A file has one table. In the archive libiop.a it becomes a part of the modules that call a function of it, and of no
+ * others.
  */
 
     .set noreorder
 
 /* The head of a table: the library's name of at most 8 bytes, and the version that is wanted. */
 .macro import_table name, major, minor
+    .text
+    .balign 4
     .word 0x41e00000, 0
     .half (\major << 8) | \minor, 0
 1:  .ascii "\name"
-    .zero 8 - (. - 1b)
+    .org 1b + 8
 .endm
 
 /* The stub of a function, by its number in the library. */
