@@ -198,7 +198,8 @@ fn push_relocations(
     cells: &[Cell<usize>],
 ) -> Result<(), AllocError>
     ensures { OnOk result ((labels : Labels) (list : List PlainCell) →
-        AreCells labels cells.now list → relocations.new.items ≡ relocations.old.items ++ cells_relocations behind list) }
+        AreCells labels cells.now list
+        → relocations.new.items ≡ relocations.old.items ++ cells_relocations behind list) }
 {
     for (index, cell) in cells.iter().enumerate() {
         let relocation = cell_relocation(address_behind(behind, index), *cell);

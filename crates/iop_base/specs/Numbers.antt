@@ -1,9 +1,13 @@
 -- Numbers and the bytes that hold them. Bytes, halves and words are numbers below 2 ^ 8, 2 ^ 16 and
 -- 2 ^ 32; in memory and in files the lowest byte comes first (little-endian, as the IOP's R3000
 -- runs).
-use Rattle.std.specs.Prelude.{ℕ, zero, suc, ◌+◌, ◌-◌, ◌*◌, ◌/◌, ◌%◌, ◌^◌, ◌<◌, nat_lt, if◌then◌else◌, ℤ, pos, ◌-ℤ◌, List, [], ◌∷◌, ◌++◌, slice_index, length, take, drop}
+use Rattle.std.specs.Prelude.{ℕ, zero, suc, ◌+◌, ◌-◌, ◌*◌, ◌/◌, ◌%◌, ◌^◌, ◌<◌, nat_lt, Bool, if◌then◌else◌, ℤ, pos, ◌-ℤ◌, List, [], ◌∷◌, ◌++◌, slice_index, length, take, drop}
 use Rattle.iop_base.specs.declared.width.Width.{Width}
 use Rattle.iop_base.specs.declared.width.Width.TheVariants.{Byte, Half, Word}
+
+-- a truth value as a number
+abbrev pub one_if : Bool → ℕ
+one_if b = if b then 1 else 0
 
 abbrev pub IsByte : ℕ → Type 0
 IsByte n = n < 2 ^ 8

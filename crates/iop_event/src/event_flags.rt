@@ -195,7 +195,8 @@ impl EventFlags {
     /// Takes the thread out that is first among those that wait for an event flag. None exactly
     /// where none waits, or no event flag of this id is live.
     pub fn pop_waiter(&mut self, id: u32) -> Option<u32>
-        ensures answer { result ≡ option_map (λ waiter. waiter.thread) (takes_next self.old id false).0 }
+        ensures answer { let taken = takes_next self.old id false in
+            result ≡ option_map (λ waiter. waiter.thread) taken.0 }
         ensures left { self.new ≡ (takes_next self.old id false).1 }
     {
         let waiter = self.objects.take_next(id, false)?;

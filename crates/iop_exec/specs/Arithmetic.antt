@@ -38,9 +38,6 @@ is_less a b = int_lt (as_signed a) (as_signed b)
 abbrev pub is_negative : ℕ → Bool
 is_negative word = int_lt (as_signed word) (pos 0)
 
-abbrev pub one_if : Bool → ℕ
-one_if b = if b then 1 else 0
-
 -- the 64 bits of a signed product
 abbrev pub signed_product : (a b : ℕ) → ℕ
 signed_product a b = cast_unsigned w64 (as_signed a *ℤ as_signed b)

@@ -2,7 +2,7 @@
 -- RAM, a word that is no instruction and a jump in a delay slot fault, and that a syscall calls a
 -- service, is this project's profile. Operands are those from before the instruction.
 use Rattle.std.specs.Prelude.{ℕ, ◌+◌, ◌-◌, ◌*◌, ◌/◌, ◌%◌, ◌^◌, ◌==◌, nat_lt, Bool, not, ◌&&◌, ◌||◌, if◌then◌else◌, ◌+ℤ◌, ◌-ℤ◌, Option, Some, None, option_map, List, slice_index, slice_set, bit_and, bit_or, bit_xor}
-use Rattle.iop_base.specs.Numbers.{sign_extended, wrapped}
+use Rattle.iop_base.specs.Numbers.{sign_extended, wrapped, one_if}
 use Rattle.iop_base.specs.Places.{load_at, store_at}
 use Rattle.iop_base.specs.declared.guest_fault.GuestFault.{GuestFault}
 use Rattle.iop_base.specs.declared.guest_fault.GuestFault.TheVariants.{Address, Overflow, Reserved, Break as Broken, BranchInSlot}
@@ -14,7 +14,7 @@ use Rattle.iop_isa.specs.Instructions.{inst_of, is_jump}
 use Rattle.iop_isa.specs.Targets.{jump_target}
 use Rattle.iop_exec.specs.declared.cpu.Cpu.{Cpu}
 use Rattle.iop_exec.specs.Processors.{position_of, standing_at, next_position, position_after_jump, position_after_branch}
-use Rattle.iop_exec.specs.Arithmetic.{as_signed, fitting_word, left_shift, right_shift, signed_shift, complement, is_less, is_negative, one_if, signed_product, signed_quotient, signed_remainder, quotient, remainder, left_load, right_load, left_store, right_store}
+use Rattle.iop_exec.specs.Arithmetic.{as_signed, fitting_word, left_shift, right_shift, signed_shift, complement, is_less, is_negative, signed_product, signed_quotient, signed_remainder, quotient, remainder, left_load, right_load, left_store, right_store}
 
 -- the one store that an instruction makes: the low bytes of a value
 pub record Storing : Type 0 where

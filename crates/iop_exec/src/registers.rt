@@ -126,10 +126,11 @@ impl Registers {
 
     /// Ends a multiplication: the upper half of the product goes into HI, the lower into LO.
     pub(crate) fn complete_product(&mut self, position: &mut Position, product: u64) -> Event
-        ensures state { cpu_of self.new position.new ≡ at_next (record (cpu_of self.old position.old) {
-          hi = product / 2 ^ 32;
-          lo = product % 2 ^ 32;
-        }) }
+        ensures state { let old = cpu_of self.old position.old in
+            cpu_of self.new position.new ≡ at_next (record old {
+              hi = product / 2 ^ 32;
+              lo = product % 2 ^ 32;
+            }) }
         ensures event { result ≡ Event.Plain }
     {
         self.complete_pair(

@@ -1,9 +1,9 @@
 //! The modules that a command has loaded: those of its files, or the generated one.
 
 ghost use Rattle.std.specs.Prelude.{◌≡◌, ◌≤◌, All, IfOk, IfSome, length};
+ghost use Rattle.iop_base.specs.declared.limits.TheConstants.{MOST_WORKERS};
 ghost use Rattle.iop_front.specs.Inputs.{IsShort};
 ghost use Rattle.iop_front.specs.Outcome.{generated_module, modules_to_load};
-ghost use Rattle.iop_generator.specs.declared.source.TheConstants.{MOST_WORKERS};
 ghost use Rattle.iop_script.specs.declared.statements.TheConstants.{MOST_MODULES};
 
 use iop_generator::generate;

@@ -7,6 +7,7 @@ use Rattle.std.specs.Str.Lines.{lines}
 use Rattle.std.proofs.lemmas.List.FromFn.{get_or-map-range_with_len}
 use Rattle.std.proofs.lemmas.List.Sums.{fold-append}
 use Rattle.iop_base.specs.Numbers.{word_at}
+use Rattle.iop_base.specs.declared.limits.TheConstants.{MOST_WORKERS}
 use Rattle.iop_isa.specs.Registers.{register_named}
 use Rattle.iop_isa.specs.Writing.{named}
 use Rattle.iop_asm.specs.Cells.{plain_cell}
@@ -14,7 +15,7 @@ use Rattle.iop_asm.specs.Texts.{words, comma_words, before_comment, is_name, num
 use Rattle.iop_asm.specs.Operands.{immediate_of, operands_of}
 use Rattle.iop_asm.specs.Statements.{Fills, directive_of, label_of, keyword_of, directed, statement_of}
 use Rattle.iop_asm.specs.Drafts.{Draft, empty_draft, at_next_line, after_statement, read_text, after_line}
-use Rattle.iop_generator.specs.declared.source.TheConstants.{MOST_WORKERS, LINES_BEFORE, LINES_BEHIND}
+use Rattle.iop_generator.specs.declared.source.TheConstants.{LINES_BEFORE, LINES_BEHIND}
 use Rattle.iop_generator.specs.Sources.{source}
 use Rattle.iop_generator.proofs.Parts.{number_text, source-parts}
 use Rattle.iop_generator.proofs.Lines.{lines-append}

@@ -4,9 +4,9 @@ use Rattle.std.proofs.Common.{◌≡◌, ℕ, ◌≤◌, None, IsSome, is_some, 
 use Rattle.std.specs.Result.{result_ok}
 use Rattle.iop_asm.specs.Units.{ModuleUnit}
 use Rattle.iop_asm.specs.Assembly.{label_address, first_fault, all_faults, unit_of_draft, unit_unless, assembled}
+use Rattle.iop_base.specs.declared.limits.TheConstants.{MOST_WORKERS}
 use Rattle.irx_build.specs.Files.{file_of, header_bytes, info_segment_bytes, image_segment_bytes, info_bytes, section_bytes}
 use Rattle.irx_build.specs.Building.{refusal, ok_unless, file_or_refusal}
-use Rattle.iop_generator.specs.declared.source.TheConstants.{MOST_WORKERS}
 use Rattle.iop_generator.specs.Sources.{source, file_of_source}
 use Rattle.iop_generator.proofs.Drafts.{after_lines, final, after_lines-source}
 

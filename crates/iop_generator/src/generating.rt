@@ -6,8 +6,9 @@ ghost use Rattle.irx_build.specs.Building.{refusal};
 ghost use Rattle.irx_build.specs.Files.{file_of};
 ghost use Rattle.iop_generator.specs.Sources.{source, file_of_source};
 
-use crate::source::{MOST_WORKERS, source};
+use crate::source::source;
 use iop_asm::{AsmFault, AsmUnit, assemble};
+use iop_base::MOST_WORKERS;
 use irx_build::{BuildFault, build};
 use std::alloc::{AllocError, Global};
 

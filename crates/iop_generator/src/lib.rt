@@ -8,4 +8,3 @@ mod source;
 mod tests;
 
 pub use generating::{LONGEST_GENERATED, generate};
-pub use source::MOST_WORKERS;

@@ -5,9 +5,6 @@ ghost use Rattle.iop_generator.specs.Sources.{number_line, source};
 
 use std::alloc::{AllocError, Global};
 
-/// The most workers: the greatest count of the module's semaphore.
-pub const MOST_WORKERS: u32 = 250;
-
 /// The lines before the one that has the number of workers.
 const LINES_BEFORE: &str = "\
 .name gen

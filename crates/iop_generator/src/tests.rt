@@ -1,6 +1,7 @@
 //! The file for the fewest and for the most workers.
 
-use crate::{MOST_WORKERS, generate};
+use crate::generate;
+use iop_base::MOST_WORKERS;
 use irx_elf::Irx;
 use std::test::Fail;
 

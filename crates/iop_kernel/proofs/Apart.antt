@@ -1,277 +1,358 @@
--- The services of interrupts, of threads and of what they wait for alone change the kernel, and they
--- leave the libraries as they were; those of a part's own library alone change it.
-use Rattle.std.proofs.Common.{◌≡◌, ℕ, ◌==◌, Bool, true, Option, Some, None, Result, Ok, Err, List, refl, ◌∙◌}
+-- The services of interrupts, of threads and of what they wait for alone change the kernel, and
+-- they leave the libraries as they were; those of a part's own library alone change it.
+use Rattle.std.proofs.Common.{◌≡◌, ◌≢◌, ℕ, Bool, true, false, Option, Some, None, List, refl, ap, ◌∙◌}
+use Rattle.std.specs.Prelude.{⊤}
+use Rattle.iop_base.specs.Piece.{Piece}
 use Rattle.std.proofs.lemmas.Bool.{cond_both}
-use Rattle.iop_base.specs.declared.code.Code.{Code}
-use Rattle.iop_base.specs.declared.code.TheConstants.Code.{ILLEGAL_INTERRUPT}
-use Rattle.iop_exec.specs.Row.{reg}
-use Rattle.iop_intr.specs.InterruptLines.{IrqLine, handler_of, registering, releasing, enabling, disabling}
-use Rattle.iop_libs.specs.Calls.{Sight, After, calls_row}
+use Rattle.iop_base.specs.declared.code.TheConstants.Code.{WAIT_RELEASED}
+use Rattle.iop_event.specs.EventFlags.{EventFlags}
+use Rattle.iop_intr.specs.InterruptLines.{IrqLine}
+use Rattle.iop_libs.specs.Calls.{Sight, calls_row}
 use Rattle.iop_libs.specs.Calls as libs
-use Rattle.iop_libs.specs.declared.answer.Answer.{Answer}
-use Rattle.iop_libs.specs.declared.answer.Answer.TheVariants.{Value, Unlisted, Fault, Other}
+use Rattle.iop_mbx.specs.Mailboxes as mailboxes
+use Rattle.iop_mbx.specs.Mailboxes.{Mailboxes}
 use Rattle.iop_registry.specs.declared.registry.Entry.{Entry}
-use Rattle.iop_services.specs.Table.{rows_of, row_of, allows}
+use Rattle.iop_sema.specs.Semaphores as semaphores
+use Rattle.iop_sema.specs.Semaphores.{Semaphores}
+use Rattle.iop_services.specs.Table.{row_of, allows}
 use Rattle.iop_services.specs.declared.row.Row.{Row}
 use Rattle.iop_services.specs.declared.service.Service.{Service}
 use Rattle.iop_services.specs.declared.service.Service.TheVariants as service
-use Rattle.iop_sysmem.specs.Allocating.{allocating}
 use Rattle.iop_sysmem.specs.BlockMap.{BlockMap}
-use Rattle.iop_thread.specs.ThreadTable.{thread_of, has_room}
-use Rattle.iop_thread.specs.declared.param.Param.{Param}
-use Rattle.iop_thread.specs.declared.thread.Thread.{Thread}
-use Rattle.iop_kernel.specs.Boards.{Board, board_of, optional_place}
-use Rattle.iop_kernel.specs.Interrupts.{leaves_irqs, disables_by, disables_at, suspends_at}
-use Rattle.iop_kernel.specs.Waits.{is_code}
-use Rattle.iop_kernel.specs.Laws.{ServicesStayApart, LibrariesStayApart}
-use Rattle.iop_kernel.specs.Creating.{creates_at, creates_with, creates_from}
-use Rattle.iop_kernel.specs.Naming.{named}
-use Rattle.iop_kernel.specs.Status.{refers_it, refers_to, refers_at}
-use Rattle.iop_kernel.specs.Serving.{serves_core, serves_board, serves, answers_by, calls_library}
-use Rattle.iop_kernel.specs.System.{Kernel, Core, Left, Done, System, Served, in_handler, argument as core_argument, caller, words_place}
-use Rattle.iop_kernel.specs.declared.status.TheConstants.{STATUS_WORDS}
-use Rattle.iop_kernel.specs.declared.creating.TheConstants.{PARAM_WORDS, FROM_ABOVE}
-use Rattle.iop_kernel.proofs.ObjectsSpared.{Parts, PartsStay, all_stay}
-use Rattle.iop_kernel.proofs.RowsPassing.{Pass, row_passes, answer_passes, library_passes}
-use Rattle.iop_kernel.proofs.RowsSparing.{leaves_kernel, leaves_libraries, is_of_interrupts, rows_leave_kernel, rows_leave_libraries, rows_are_of_interrupts, rows_spare_semaphores, rows_spare_event_flags, rows_spare_mailboxes, rows_spare_timers, rows_spare_irqs, rows_spare_interrupts, rows_spare_dispatching}
-use Rattle.iop_kernel.proofs.ServicesSparing.{spares_semaphores, spares_event_flags, spares_mailboxes, spares_timers, spares_irqs, spares_interrupts, spares_dispatching}
-use Rattle.iop_kernel.proofs.ServicesStaying.{serves_stays}
+use Rattle.iop_thread.specs.ThreadTable.{ThreadTable}
+use Rattle.iop_thread.specs.declared.wait.Wait.{Wait}
+use Rattle.iop_thread.specs.declared.wait.Wait.TheVariants.{Delay, Semaphore, EventFlag, Mailbox}
+use Rattle.iop_kernel.specs.Laws.{KeepsObjects, LibrariesStayApart, serves_kernel}
+use Rattle.iop_kernel.specs.Running.{exit_thread}
+use Rattle.iop_kernel.specs.Serving.{serves, calls_library}
+use Rattle.iop_kernel.specs.System.{Kernel, System, caller, in_handler, with_threads, opened}
+use Rattle.iop_kernel.specs.Waits.{leaves_object, requeues_at, wakes_with}
+use Rattle.iop_kernel.specs.declared.after.After.{After}
+use Rattle.iop_kernel.specs.declared.call.TheConstants.{INTRMAN, THBASE, THSEMAP, THEVENT, THMSGBX}
+use Rattle.iop_kernel.proofs.Moves.{Moves}
+use Rattle.iop_kernel.proofs.ObjectsKept.{same_objects, drops_keep, requeues_keep}
+use Rattle.iop_kernel.proofs.RowsHome.{home, row_home}
+use Rattle.iop_kernel.proofs.Walking.{sight, serves_goes, library_goes, asked_not}
+use Rattle.iop_kernel.proofs.WalkingThreads.{exits_go}
 
--- a service that leaves it does so
-serves_leaves : (s : System) (x : Service) → leaves_kernel x ≡ true
-    → (serves s x).left.state.core.kernel ≡ s.core.kernel
-unfolding serves serves_board serves_core leaves_kernel
-serves_leaves s service.FlushIcache is = refl
-serves_leaves s service.FlushDcache is = refl
-serves_leaves s service.RegisterLibraryEntries is = refl
-serves_leaves s service.ReleaseLibraryEntries is = refl
-serves_leaves s service.AllocSysMemory is = refl
-serves_leaves s service.FreeSysMemory is = refl
-serves_leaves s service.QueryMemSize is = refl
-serves_leaves s service.QueryMaxFreeMemSize is = refl
-serves_leaves s service.QueryTotalFreeMemSize is = refl
-serves_leaves s service.QueryBlockTopAddress is = refl
-serves_leaves s service.QueryBlockSize is = refl
-serves_leaves s service.Kprintf is = refl
-serves_leaves s service.Printf is = refl
-serves_leaves s other is = absurd (cc is)
+-- the lines, the handler and the objects are left as they were, but for those that wait
+abbrev KeepsRest : (k l : Kernel) → Type 0
+KeepsRest k l =
+    (l.irqs ≡ k.irqs) × (l.handler ≡ k.handler) × KeepsObjects k.semaphores l.semaphores
+    × KeepsObjects k.event_flags l.event_flags × KeepsObjects k.mailboxes l.mailboxes
 
--- the kernel is left by what is done for an answer
-answers_leave : (s : System) (library number : ℕ) (answer : Answer)
-    → answer_passes leaves_kernel answer ≡ true
-    → (answers_by library number s answer).left.state.core.kernel ≡ s.core.kernel
-unfolding answer_passes
-answers_leave s library number (Value word) is = refl
-answers_leave s library number Unlisted is = refl
-answers_leave s library number Fault is = refl
-answers_leave s library number (Other x) is = serves_leaves s x is
+same_rest : (k : Kernel) → KeepsRest k k
+same_rest k = (
+  refl,
+  refl,
+  same_objects k.semaphores,
+  same_objects k.event_flags,
+  same_objects k.mailboxes,
+)
 
--- what is done for an answer is to spare
-abbrev spared_for : Answer → Parts
-spared_for answer = record {
-  semaphores = answer_passes spares_semaphores answer;
-  event_flags = answer_passes spares_event_flags answer;
-  mailboxes = answer_passes spares_mailboxes answer;
-  timers = answer_passes spares_timers answer;
-  irqs = answer_passes spares_irqs answer;
-  interrupts = answer_passes spares_interrupts answer;
-  dispatching = answer_passes spares_dispatching answer;
-}
+-- a thread no longer waits
+leaving_rest : (k : Kernel) (thread : ℕ) (wait : Option Wait)
+    → KeepsRest k (leaves_object k thread wait)
+leaving_rest k thread (Some Delay) = same_rest k
+leaving_rest k thread (Some (Semaphore id)) = (
+  refl,
+  refl,
+  drops_keep k.semaphores id thread,
+  same_objects k.event_flags,
+  same_objects k.mailboxes,
+)
+leaving_rest k thread (Some (EventFlag id)) = (
+  refl,
+  refl,
+  same_objects k.semaphores,
+  drops_keep k.event_flags id thread,
+  same_objects k.mailboxes,
+)
+leaving_rest k thread (Some (Mailbox id)) = (
+  refl,
+  refl,
+  same_objects k.semaphores,
+  same_objects k.event_flags,
+  drops_keep k.mailboxes id thread,
+)
+leaving_rest k thread other = same_rest k
 
--- and it does
-answers_stay : (s : System) (library number : ℕ) (answer : Answer)
-    → PartsStay (spared_for answer) s.core.kernel
-    (answers_by library number s answer).left.state.core.kernel
-unfolding answer_passes
-answers_stay s library number (Value word) = all_stay s.core.kernel _ refl
-answers_stay s library number Unlisted = all_stay s.core.kernel _ refl
-answers_stay s library number Fault = all_stay s.core.kernel _ refl
-answers_stay s library number (Other x) = serves_stays s x
+-- or has another priority
+requeueing_rest : (k : Kernel) (thread priority : ℕ) (wait : Option Wait)
+    → KeepsRest k (requeues_at k thread priority wait)
+requeueing_rest k thread priority (Some (Semaphore id)) = (
+  refl,
+  refl,
+  requeues_keep k.semaphores id (semaphores.is_by_priority k.semaphores id) thread priority,
+  same_objects k.event_flags,
+  same_objects k.mailboxes,
+)
+requeueing_rest k thread priority (Some (EventFlag id)) = (
+  refl,
+  refl,
+  same_objects k.semaphores,
+  requeues_keep k.event_flags id false thread priority,
+  same_objects k.mailboxes,
+)
+requeueing_rest k thread priority (Some (Mailbox id)) = (
+  refl,
+  refl,
+  same_objects k.semaphores,
+  same_objects k.event_flags,
+  requeues_keep k.mailboxes id (mailboxes.is_by_priority k.mailboxes id) thread priority,
+)
+requeueing_rest k thread priority other = same_rest k
 
--- nothing changes but whether interrupts are on, and the lines
-abbrev OnlyInterrupts : (k l : Kernel) → Type 0
-OnlyInterrupts k l = l ≡ record k { interrupts = l.interrupts; irqs = l.irqs }
+module _ (s : System) (library : ℕ) where
+  abbrev k : Kernel
+  k = s.core.kernel
 
-module _ (s : System) where
-  -- a call of a service of interrupts leaves the rest
-  abbrev Interrupts : Left Core → Type 0
-  Interrupts left = OnlyInterrupts s.core.kernel left.state.kernel
+  -- what the law says, of a service of the library
+  pub record Stays (left : Kernel) (entries : List Entry) : Type 0 where
+    pub kernel : serves_kernel library ≡ false → left ≡ k
+    pub intrman : library ≡ INTRMAN → left
+        ≡ record k { interrupts = left.interrupts; irqs = left.irqs }
+    pub irqs : library ≢ INTRMAN → left.irqs ≡ k.irqs
+    pub timers : library ≢ THBASE → left.timers ≡ k.timers
+    pub interrupts : library ≢ INTRMAN → library ≢ THBASE
+        → left.interrupts ≡ k.interrupts
+    pub dispatching : library ≢ THBASE → left.dispatching ≡ k.dispatching
+    pub handler : left.handler ≡ k.handler
+    pub libraries : serves_kernel library ≡ true → entries ≡ s.libraries
+    pub semaphores : library ≢ THSEMAP → KeepsObjects k.semaphores left.semaphores
+    pub event_flags : library ≢ THEVENT → KeepsObjects k.event_flags left.event_flags
+    pub mailboxes : library ≢ THMSGBX → KeepsObjects k.mailboxes left.mailboxes
 
-  abbrev BoardInterrupts : Done Board → Type 0
-  BoardInterrupts done = OnlyInterrupts s.core.kernel done.left.state.core.kernel
+  abbrev pub P : System → List Piece → Type 0
+  P d given = Stays d.core.kernel d.libraries
 
-  -- a call on the lines
-  leaves_rest : (r : Code × List IrqLine) → Interrupts (leaves_irqs s.core r)
-  leaves_rest (code, left) = refl
+  abbrev pub Q : After → System → List Piece → Type 0
+  Q after d given = Stays d.core.kernel d.libraries
 
-  -- a line is disabled, by what that answers
-  disables_rest : (line : ℕ) (place : Option ℕ) (r : Code × List IrqLine)
-      → BoardInterrupts (disables_by (board_of s) line place r)
-  disables_rest line place (code, left) =
-      cond_both (is_code code ILLEGAL_INTERRUPT) _ _ BoardInterrupts (λ illegal. refl)
-      (λ legal. refl)
+  -- the kernel is left
+  still : (entries : List Entry) → (serves_kernel library ≡ true → entries ≡ s.libraries)
+      → Stays k entries
+  still entries libraries = record {
+    kernel = λ other. refl;
+    intrman = λ own. refl;
+    irqs = λ other. refl;
+    timers = λ other. refl;
+    interrupts = λ other another. refl;
+    dispatching = λ other. refl;
+    handler = refl;
+    libraries = libraries;
+    semaphores = λ other. same_objects k.semaphores;
+    event_flags = λ other. same_objects k.event_flags;
+    mailboxes = λ other. same_objects k.mailboxes;
+  }
 
-  -- by the place for its number
-  disables_at_rest : (line : ℕ) (o : Option (Option ℕ))
-      → BoardInterrupts (disables_at (board_of s) line o)
-  disables_at_rest line None = refl
-  disables_at_rest line (Some place) =
-      disables_rest line place (disabling s.core.kernel.irqs line)
+  -- a library that serves the kernel may change it
+  serving : (n : ℕ) → serves_kernel n ≡ true → library ≡ n → {A : Type 0}
+      → serves_kernel library ≡ false → A
+  serving n is own other = absurd (cc (ap serves_kernel own, is, other))
 
-  -- interrupts are turned off, by the place for what they were
-  suspends_rest : (o : Option ℕ) → BoardInterrupts (suspends_at (board_of s) o)
-  suspends_rest None = refl
-  suspends_rest (Some place) = refl
+  -- intrman changes whether interrupts are on, and the lines
+  by_intrman : library ≡ INTRMAN → (interrupts : Bool) (irqs : List IrqLine)
+      → Stays (record k { interrupts = interrupts; irqs = irqs }) s.libraries
+  by_intrman own interrupts irqs = record {
+    kernel = serving INTRMAN refl own;
+    intrman = λ same. refl;
+    irqs = λ other. absurd (other own);
+    timers = λ other. refl;
+    interrupts = λ other another. absurd (other own);
+    dispatching = λ other. refl;
+    handler = refl;
+    libraries = λ is. refl;
+    semaphores = λ other. same_objects k.semaphores;
+    event_flags = λ other. same_objects k.event_flags;
+    mailboxes = λ other. same_objects k.mailboxes;
+  }
 
-  -- each of them
-  serves_interrupts : (x : Service) → is_of_interrupts x ≡ true
-      → OnlyInterrupts s.core.kernel (serves s x).left.state.core.kernel
-  unfolding serves serves_board serves_core is_of_interrupts
-  serves_interrupts service.RegisterIntrHandler is =
-      leaves_rest (registering s.core.kernel.irqs (core_argument s.core 0)
-      (handler_of (core_argument s.core 2) (core_argument s.core 3) (reg s.core.cpu 28)))
-  serves_interrupts service.ReleaseIntrHandler is =
-      leaves_rest (releasing s.core.kernel.irqs (core_argument s.core 0))
-  serves_interrupts service.EnableIntr is =
-      leaves_rest (enabling s.core.kernel.irqs (core_argument s.core 0))
-  serves_interrupts service.DisableIntr is =
-      disables_at_rest (core_argument s.core 0)
-      (optional_place s.memory (core_argument s.core 1))
-  serves_interrupts service.CpuDisableIntr is =
-      cond_both s.core.kernel.interrupts _ _ Interrupts (λ on. refl) (λ off. refl)
-  serves_interrupts service.CpuEnableIntr is = refl
-  serves_interrupts service.CpuSuspendIntr is =
-      suspends_rest (words_place s.memory (core_argument s.core 0) 1)
-  serves_interrupts service.CpuResumeIntr is = refl
-  serves_interrupts service.QueryIntrContext is = refl
-  serves_interrupts other is = absurd (cc is)
+  -- thbase all but the lines, the handler and the objects
+  by_thbase : library ≡ THBASE → (left : Kernel) → KeepsRest k left → Stays left s.libraries
+  by_thbase own left rest = record {
+    kernel = serving THBASE refl own;
+    intrman = λ same. absurd (cc (own, same));
+    irqs = λ other. rest.0;
+    timers = λ other. absurd (other own);
+    interrupts = λ other another. absurd (another own);
+    dispatching = λ other. absurd (other own);
+    handler = rest.1;
+    libraries = λ is. refl;
+    semaphores = λ other. rest.2;
+    event_flags = λ other. rest.3;
+    mailboxes = λ other. rest.4;
+  }
 
-  -- what is done for an answer
-  answers_interrupts : (library number : ℕ) (answer : Answer)
-      → answer_passes is_of_interrupts answer ≡ true
-      → OnlyInterrupts s.core.kernel
-      (answers_by library number s answer).left.state.core.kernel
-  unfolding answer_passes
-  answers_interrupts library number (Value word) is = refl
-  answers_interrupts library number Unlisted is = refl
-  answers_interrupts library number Fault is = refl
-  answers_interrupts library number (Other x) is = serves_interrupts x is
+  -- those of objects their own, and the threads
+  by_thsemap : library ≡ THSEMAP → (threads : ThreadTable) (left : Semaphores)
+      → Stays (record k { threads = threads; semaphores = left }) s.libraries
+  by_thsemap own threads left = record {
+    kernel = serving THSEMAP refl own;
+    intrman = λ same. absurd (cc (own, same));
+    irqs = λ other. refl;
+    timers = λ other. refl;
+    interrupts = λ other another. refl;
+    dispatching = λ other. refl;
+    handler = refl;
+    libraries = λ is. refl;
+    semaphores = λ other. absurd (other own);
+    event_flags = λ other. same_objects k.event_flags;
+    mailboxes = λ other. same_objects k.mailboxes;
+  }
 
--- the services of the kernel leave the libraries
-module _ (s : System) where
-  -- a call leaves them
-  abbrev Leaves : Served → Type 0
-  Leaves d = d.left.state.libraries ≡ s.libraries
+  by_thevent : library ≡ THEVENT → (threads : ThreadTable) (left : EventFlags)
+      → Stays (record k { threads = threads; event_flags = left }) s.libraries
+  by_thevent own threads left = record {
+    kernel = serving THEVENT refl own;
+    intrman = λ same. absurd (cc (own, same));
+    irqs = λ other. refl;
+    timers = λ other. refl;
+    interrupts = λ other another. refl;
+    dispatching = λ other. refl;
+    handler = refl;
+    libraries = λ is. refl;
+    semaphores = λ other. same_objects k.semaphores;
+    event_flags = λ other. absurd (other own);
+    mailboxes = λ other. same_objects k.mailboxes;
+  }
 
-  -- a thread is made, by what the allocation gave
-  creates_at_leaves : (param : Param) (r : ℕ × BlockMap) → Leaves (creates_at s param r)
-  creates_at_leaves param (stack, blocks) =
-      cond_both (stack == 0) _ _ Leaves (λ none. refl) (λ some. refl)
+  by_thmsgbx : library ≡ THMSGBX → (threads : ThreadTable) (left : Mailboxes)
+      → Stays (record k { threads = threads; mailboxes = left }) s.libraries
+  by_thmsgbx own threads left = record {
+    kernel = serving THMSGBX refl own;
+    intrman = λ same. absurd (cc (own, same));
+    irqs = λ other. refl;
+    timers = λ other. refl;
+    interrupts = λ other another. refl;
+    dispatching = λ other. refl;
+    handler = refl;
+    libraries = λ is. refl;
+    semaphores = λ other. same_objects k.semaphores;
+    event_flags = λ other. same_objects k.event_flags;
+    mailboxes = λ other. absurd (other own);
+  }
 
-  -- by what the words ask for
-  creates_with_leaves : (r : Result Param Code) → Leaves (creates_with s r)
-  creates_with_leaves (Err code) = refl
-  creates_with_leaves (Ok param) =
-      cond_both (has_room s.core.kernel.threads) _ _ Leaves
-      (λ room. creates_at_leaves param (allocating s.blocks FROM_ABOVE param.stack_size 0))
-      (λ full. refl)
+  -- each change of a service of the library
+  pub apart : Moves P Q ⊤ s library
+  apart = record {
+    each = record {
+      begins = still s.libraries (λ is. refl);
+      stores = λ d given place bytes inside h. h;
+      goes_on = λ d given word h. h;
+      faults = λ kind. still s.libraries (λ is. refl);
+    };
+    interrupts = λ own. record {
+      lines = λ left. by_intrman own _ left;
+      turns = λ on. by_intrman own on _;
+    };
+    alarms = λ own. record {
+      sets = λ moment handler arg. by_thbase own _ (same_rest k);
+      cancels = λ handler arg. by_thbase own _ (same_rest k);
+    };
+    threads = λ own. record {
+      dispatch = λ enabled on asks. by_thbase own _ (same_rest k);
+      creates = λ size param stack blocks is. by_thbase own _ (same_rest k);
+      deletes = λ id stack left is. by_thbase own _ (same_rest k);
+      starts = λ id argument. by_thbase own _ (same_rest k);
+      ends = λ id is other. by_thbase own _ (same_rest k);
+      ends_deleted = λ id stack left is other did. by_thbase own _ (same_rest k);
+      returns = λ id word is loader. by_thbase own _ (same_rest k);
+      terminates = λ id wait left other is rests.
+          by_thbase own _ (leaving_rest (with_threads s.core left).kernel id wait);
+      terminates_running = λ id wait left other is runs.
+          by_thbase own _ (leaving_rest (with_threads (opened s.core) left).kernel id wait);
+      changes = λ id priority wait left is.
+          by_thbase own _ (requeueing_rest (with_threads s.core left).kernel id priority wait);
+      rotates = λ priority other. by_thbase own _ (same_rest k);
+      rotates_beside = λ priority same may is. by_thbase own _ (same_rest k);
+      rotates_own = λ priority id same may is. by_thbase own _ (same_rest k);
+      releases = λ id t wait found is.
+          by_thbase own _ (leaving_rest (wakes_with s.core t.id WAIT_RELEASED).kernel t.id (Some wait));
+      takes_wakeup = λ left is. by_thbase own _ (same_rest k);
+      sleeps = λ left is may asks. by_thbase own _ (same_rest k);
+      wakes_up = λ id other. by_thbase own _ (same_rest k);
+      cancels = λ id. by_thbase own _ (same_rest k);
+      suspends = λ id other may. by_thbase own _ (same_rest k);
+      resumes = λ id other. by_thbase own _ (same_rest k);
+      delays = λ moment thread is may. by_thbase own _ (same_rest k);
+    };
+    semaphores = λ own. record {
+      makes = λ attr option initial max legal fits. by_thsemap own _ _;
+      deletes = λ o found. by_thsemap own _ _;
+      counts = λ id x known none fits. by_thsemap own _ _;
+      wakes = λ id x one known chosen. by_thsemap own _ _;
+      takes = λ id x known some. by_thsemap own _ _;
+      waits = λ id thread x is may known zero. by_thsemap own _ _;
+    };
+    event_flags = λ own. record {
+      makes = λ attr option first legal. by_thevent own _ _;
+      deletes = λ o found. by_thevent own _ _;
+      sets = λ bits o found. by_thevent own _ _;
+      clears = λ id mask x known. by_thevent own _ _;
+      tests = λ id wanted x known met. by_thevent own _ _;
+      waits = λ id wanted thread x is may known some free unmet. by_thevent own _ _;
+    };
+    mailboxes = λ own. record {
+      makes = λ attr option legal. by_thmsgbx own _ _;
+      deletes = λ o found. by_thmsgbx own _ _;
+      puts = λ id message x known none room. by_thmsgbx own _ _;
+      wakes = λ id x one known chosen. by_thmsgbx own _ _;
+      gets = λ id x one known next. by_thmsgbx own _ _;
+      waits = λ id place thread x is may known none. by_thmsgbx own _ _;
+    };
+  }
 
-  -- by the place of the words
-  creates_leaves : (o : Option ℕ) → Leaves (creates_from s o)
-  creates_leaves None = refl
-  creates_leaves (Some place) = creates_with_leaves _
+-- each service leaves what is not its library's
+pub serves_apart : (s : System) (x : Service) → let d = serves s x in
+    Stays s (home x) d.left.state.core.kernel d.left.state.libraries
+serves_apart s x = serves_goes x (apart s (home x)) (λ asked. tt)
 
-  -- a status is told, if the thread is found
-  refers_it_leaves : (place : ℕ) (o : Option Thread) → Leaves (refers_it s place o)
-  refers_it_leaves place None = refl
-  refers_it_leaves place (Some t) = refl
+-- so does the thread that ends
+pub exits_apart : (s : System)
+    → Stays s THBASE (exit_thread s.core).state.kernel s.libraries
+exits_apart s = exits_go (apart s THBASE).each ((apart s THBASE).threads refl) (caller s.core) refl
 
-  -- by the thread that is named
-  refers_to_leaves : (place : ℕ) (o : Option ℕ) → Leaves (refers_to s place o)
-  refers_to_leaves place None = refl
-  refers_to_leaves place (Some id) =
-      refers_it_leaves place (thread_of s.core.kernel.threads.live id)
-
-  -- by the place of the words
-  refers_leaves : (id : ℕ) (o : Option ℕ) → Leaves (refers_at s id o)
-  refers_leaves id None = refl
-  refers_leaves id (Some place) = refers_to_leaves place (named (caller s.core) id)
-
-  -- each service of the kernel
-  libraries_served : (x : Service) → Leaves (serves s x)
-  unfolding serves
-  libraries_served service.CreateThread =
-      creates_leaves (words_place s.memory (core_argument s.core 0) PARAM_WORDS)
-  libraries_served service.ReferThreadStatus =
-      let at = core_argument s.core 1 in
-      refers_leaves (core_argument s.core 0) (words_place s.memory at STATUS_WORDS)
-  libraries_served service.DeleteThread = refl
-  libraries_served service.ExitDeleteThread = refl
-  libraries_served other = refl
-
-  -- what is done for an answer
-  libraries_answered : (library number : ℕ) (answer : Answer)
-      → Leaves (answers_by library number s answer)
-  libraries_answered library number (Value word) = refl
-  libraries_answered library number Unlisted = refl
-  libraries_answered library number Fault = refl
-  libraries_answered library number (Other x) = libraries_served x
-
--- so do the libraries that the kernel has, but two services
+-- the services of the libraries that serve the kernel leave the libraries
 libraries_kept : (sight : Sight) (blocks : BlockMap) (libraries : List Entry) (x : Service)
-    → leaves_libraries x ≡ true → (libs.serves sight blocks libraries x).libraries ≡ libraries
-unfolding leaves_libraries
+    → serves_kernel (home x) ≡ true → (libs.serves sight blocks libraries x).libraries ≡ libraries
+unfolding home
 libraries_kept sight blocks libraries service.RegisterLibraryEntries is = absurd (cc is)
 libraries_kept sight blocks libraries service.ReleaseLibraryEntries is = absurd (cc is)
 libraries_kept sight blocks libraries other is = refl
 
--- by the row
-libraries_of_row : (sight : Sight) (blocks : BlockMap) (libraries : List Entry) (inside : Bool)
-    (o : Option Row) → ((row : Row) → o ≡ Some row → leaves_libraries row.service ≡ true)
+-- so do their rows
+row_kept : (sight : Sight) (blocks : BlockMap) (libraries : List Entry) (inside : Bool)
+    (o : Option Row) → ((row : Row) → o ≡ Some row → serves_kernel (home row.service) ≡ true)
     → (calls_row sight blocks libraries inside o).libraries ≡ libraries
-libraries_of_row sight blocks libraries inside None passes = refl
-libraries_of_row sight blocks libraries inside (Some row) passes =
-    cond_both (allows row.context inside) _ _ (λ (after : After). after.libraries ≡ libraries)
-    (λ allowed. libraries_kept sight blocks libraries row.service (passes row refl))
-    (λ refused. refl)
+row_kept sight blocks libraries inside None of = refl
+row_kept sight blocks libraries inside (Some row) of =
+    cond_both (allows row.context inside) _ _ (λ (left : libs.After). left.libraries ≡ libraries)
+    (λ allowed. libraries_kept sight blocks libraries row.service (of row refl)) (λ refused. refl)
 
--- a call of a service of a library
-services_stay_apart : (s : System) (library number : ℕ) → ServicesStayApart s library number
-    (calls_library library number s).left.state.core.kernel
-unfolding calls_library
-services_stay_apart s library number =
-    let sight : Sight = record { memory = s.memory; cpu = s.core.cpu } in
-    let inside = in_handler s.core.kernel in
-    let row = row_of library number in
-    let called = calls_row sight s.blocks s.libraries inside row in
-    let between : System = record s { blocks = called.blocks; libraries = called.libraries } in
-    let stay = answers_stay between library number called.answer in
-    let pass = λ (test : Service → Bool) (all : Pass test (rows_of library)).
-    library_passes test sight s.blocks s.libraries inside library number all in
-    record {
-      kernel = λ other. answers_leave between library number called.answer
-          (pass leaves_kernel (rows_leave_kernel library other));
-      intrman = λ same. answers_interrupts between library number called.answer
-          (pass is_of_interrupts (rows_are_of_interrupts library same));
-      irqs = λ other. stay.irqs (pass spares_irqs (rows_spare_irqs library other));
-      timers = λ other. stay.timers (pass spares_timers (rows_spare_timers library other));
-      interrupts = λ other another.
-          stay.interrupts (pass spares_interrupts (rows_spare_interrupts library other another));
-      dispatching = λ other.
-          stay.dispatching (pass spares_dispatching (rows_spare_dispatching library other));
-      handler = stay.handler;
-      libraries = λ same. libraries_answered between library number called.answer
-          ∙ libraries_of_row sight s.blocks s.libraries inside row (λ found is.
-          row_passes leaves_libraries number (rows_of library) found
-          (rows_leave_libraries library same) is);
-      semaphores = λ other.
-          stay.semaphores (pass spares_semaphores (rows_spare_semaphores library other));
-      event_flags = λ other.
-          stay.event_flags (pass spares_event_flags (rows_spare_event_flags library other));
-      mailboxes = λ other.
-          stay.mailboxes (pass spares_mailboxes (rows_spare_mailboxes library other));
-    }
+-- a call of a library
+library_apart : (s : System) (library number : ℕ) → let d = calls_library library number s in
+    Stays s library d.left.state.core.kernel d.left.state.libraries
+library_apart s library number =
+    library_goes library number (apart s library) (still s library s.libraries (λ is. refl))
+    (still s library _ (λ serving. row_kept (sight s) s.blocks s.libraries
+    (in_handler s.core.kernel) (row_of library number) (λ row found.
+    ap serves_kernel (row_home library number row found) ∙ serving))) (asked_not s)
 
 -- each of them stays apart
 pub libraries_stay_apart : LibrariesStayApart
-libraries_stay_apart = services_stay_apart
+libraries_stay_apart s library number =
+    let h = library_apart s library number in
+    record {
+      kernel = h.kernel;
+      intrman = h.intrman;
+      irqs = h.irqs;
+      timers = h.timers;
+      interrupts = h.interrupts;
+      dispatching = h.dispatching;
+      handler = h.handler;
+      libraries = h.libraries;
+      semaphores = h.semaphores;
+      event_flags = h.event_flags;
+      mailboxes = h.mailboxes;
+    }

@@ -21,14 +21,16 @@ use Rattle.iop_kernel.specs.Handlers.{return_handler}
 use Rattle.iop_kernel.specs.Laws.{KeepsObjects}
 use Rattle.iop_kernel.specs.Serving.{call_of, serves_core, serves_board, serves, answers_by, calls_library, calls, services}
 use Rattle.iop_kernel.specs.Running.{exit_thread, returns_by, return_module}
-use Rattle.iop_kernel.specs.System.{Core, Left, System, Served, in_handler, argument as core_argument, caller, words_place}
+use Rattle.iop_kernel.specs.System.{Kernel, Core, Left, System, Served, in_handler, argument as core_argument, caller, words_place}
 use Rattle.iop_kernel.specs.declared.call.Call.{Call}
 use Rattle.iop_kernel.specs.declared.call.Call.TheVariants.{Library, ThreadReturn, HandlerReturn, ModuleReturn}
-use Rattle.iop_kernel.specs.declared.semaphores.TheConstants.{SEMAPHORE_WORDS}
+use Rattle.iop_kernel.specs.declared.semaphores.TheConstants.{SEMAPHORE_WORDS, SEMAPHORE_STATUS_WORDS}
 use Rattle.iop_kernel.proofs.ObjectsKept.{same_objects}
-use Rattle.iop_kernel.proofs.ObjectsStaying.{exits_spare, handler_return_leaves}
-use Rattle.iop_kernel.proofs.ServicesSparing.{spared_by}
-use Rattle.iop_kernel.proofs.ServicesStaying.{serves_stays}
+use Rattle.iop_kernel.proofs.Apart.{serves_apart, exits_apart}
+use Rattle.iop_kernel.proofs.KeepingMemory.{words_inside}
+use Rattle.iop_kernel.proofs.RowsHome.{home}
+use Rattle.iop_kernel.proofs.SameObjects.{tells, handler_return_leaves}
+use Rattle.iop_kernel.proofs.WalkingStores.{refers_sema_goes}
 use Rattle.iop_kernel.proofs.CountingTables.{CountsBy, none_changes}
 use Rattle.iop_kernel.proofs.CountingCalls.{other_counts}
 use Rattle.iop_kernel.proofs.CountingSemaphores.{call_to, refused, signal_sema_counts, wait_sema_counts, poll_sema_counts, deletes_sema_counts, creates_sema_counts}
@@ -56,7 +58,7 @@ module _ (s : System) (registers : 2 < length s.core.cpu.regs) where
 
   -- each service of the kernel
   serves_counts : (x : Service) → Counts x (serves s x)
-  unfolding serves serves_board serves_core spared_by
+  unfolding serves serves_board serves_core home
   serves_counts service.CreateSema =
       creates_sema_counts s.core registers s.memory
       (words_place s.memory (core_argument s.core 0) SEMAPHORE_WORDS)
@@ -66,8 +68,15 @@ module _ (s : System) (registers : 2 < length s.core.cpu.regs) where
   serves_counts service.SignalSema = signal_sema_counts s.core registers
   serves_counts service.WaitSema = wait_sema_counts s.core registers
   serves_counts service.PollSema = poll_sema_counts s.core registers
+  serves_counts service.ReferSemaStatus =
+      let place = words_place s.memory (core_argument s.core 1) SEMAPHORE_STATUS_WORDS in
+      let left = refers_sema_goes (tells s) (core_argument s.core 0) place
+      (words_inside s.memory (core_argument s.core 1) SEMAPHORE_STATUS_WORDS) in
+      spared service.ReferSemaStatus (serves s service.ReferSemaStatus) refl refl
+      (subst (λ (k : Kernel). KeepsObjects before k.semaphores) (sym left) (same_objects before))
   serves_counts other =
-      spared other (serves s other) refl refl ((serves_stays s other).semaphores refl)
+      spared other (serves s other) refl refl
+      ((serves_apart s other).semaphores (λ is. absurd (cc is)))
 
 -- whether the libraries ask for a service of the kernel
 asks : Answer → Bool
@@ -202,7 +211,7 @@ module _ (s : System) (registers : 2 < length s.core.cpu.regs) where
   calls_count None = ended s.core.kernel.semaphores (same_objects s.core.kernel.semaphores)
   calls_count (Some ThreadReturn) =
       ended (exit_thread s.core).state.kernel.semaphores
-      ((exits_spare s.core (caller s.core)).semaphores refl)
+      ((exits_apart s).semaphores (λ is. absurd (cc is)))
   calls_count (Some ModuleReturn) =
       ended (return_module s.core).state.kernel.semaphores (returns_keep (caller s.core))
   calls_count (Some HandlerReturn) =

@@ -7,7 +7,7 @@ use Rattle.iop_base.specs.declared.code.Code.{Code}
 use Rattle.iop_base.specs.declared.code.TheConstants.Code.{OK, UNKNOWN_SEMAPHORE, SEMAPHORE_ZERO, SEMAPHORE_OVERFLOW, CANNOT_WAIT, NO_MEMORY}
 use Rattle.iop_exec.specs.Row.{reg}
 use Rattle.iop_objects.specs.Objects as objects
-use Rattle.iop_objects.specs.Objects.{object_of, state_of, waiters_of, with_state, has_room}
+use Rattle.iop_objects.specs.Objects.{state_of, waiters_of, with_state, has_room}
 use Rattle.iop_objects.specs.Queue.{Choice, chooses}
 use Rattle.iop_objects.specs.declared.waiter.Waiter.{Waiter}
 use Rattle.iop_sema.specs.Semaphores as semaphores

@@ -2,8 +2,8 @@
 use Rattle.std.proofs.Common.{◌≡◌, ◌≢◌, ℕ, ◌+◌, ◌==◌, nat_lt, Bool, true, false, if◌then◌else◌, Option, Some, None, option_map, List, [], ◌∷◌, refl, ap, sym, ◌∙◌, subst, arith}
 use Rattle.std.specs.Prelude.{option_and_then}
 use Rattle.std.proofs.lemmas.Bool.Decides.{nat_tests}
+use Rattle.iop_base.specs.Numbers.{one_if}
 use Rattle.iop_base.specs.declared.code.TheConstants.Code.{OBJECT_DELETED}
-use Rattle.iop_exec.specs.Arithmetic.{one_if}
 use Rattle.iop_mbx.specs.Mailboxes.{waiters_by_priority}
 use Rattle.iop_objects.specs.Objects.{Object, Objects, object_of, deletes}
 use Rattle.iop_objects.specs.Queue.{in_order}

@@ -23,14 +23,16 @@ use Rattle.iop_kernel.specs.Laws.{KeepsObjects}
 use Rattle.iop_kernel.specs.Overdue.{NoneOverdue}
 use Rattle.iop_kernel.specs.Serving.{call_of, serves_core, serves_board, serves, answers_by, calls_library, calls, services}
 use Rattle.iop_kernel.specs.Running.{exit_thread, returns_by, return_module}
-use Rattle.iop_kernel.specs.System.{Core, Left, System, Served, in_handler, argument as core_argument, caller, words_place}
+use Rattle.iop_kernel.specs.System.{Kernel, Core, Left, System, Served, in_handler, argument as core_argument, caller, words_place}
 use Rattle.iop_kernel.specs.declared.call.Call.{Call}
 use Rattle.iop_kernel.specs.declared.call.Call.TheVariants.{Library, ThreadReturn, HandlerReturn, ModuleReturn}
-use Rattle.iop_kernel.specs.declared.mailboxes.TheConstants.{MAILBOX_WORDS}
+use Rattle.iop_kernel.specs.declared.mailboxes.TheConstants.{MAILBOX_WORDS, MAILBOX_STATUS_WORDS}
 use Rattle.iop_kernel.proofs.ObjectsKept.{same_objects}
-use Rattle.iop_kernel.proofs.ObjectsStaying.{exits_spare, handler_return_leaves}
-use Rattle.iop_kernel.proofs.ServicesSparing.{spared_by}
-use Rattle.iop_kernel.proofs.ServicesStaying.{serves_stays}
+use Rattle.iop_kernel.proofs.Apart.{serves_apart, exits_apart}
+use Rattle.iop_kernel.proofs.KeepingMemory.{words_inside}
+use Rattle.iop_kernel.proofs.RowsHome.{home}
+use Rattle.iop_kernel.proofs.SameObjects.{tells, handler_return_leaves}
+use Rattle.iop_kernel.proofs.WalkingStores.{refers_mbx_goes}
 use Rattle.iop_kernel.proofs.DeliveringTables.{DeliversBy, none_changes}
 use Rattle.iop_kernel.proofs.DeliveringCalls.{other_delivers}
 use Rattle.iop_kernel.proofs.DeliveringMailboxes.{call_to, refused, creates_mbx_delivers, deletes_mbx_delivers}
@@ -60,7 +62,7 @@ module _ (s : System) (registers : 2 < length s.core.cpu.regs)
 
   -- each service of the kernel
   serves_delivers : (x : Service) → Delivers x (serves s x)
-  unfolding serves serves_board serves_core spared_by
+  unfolding serves serves_board serves_core home
   serves_delivers service.CreateMbx =
       creates_mbx_delivers s.core registers s.memory
       (words_place s.memory (core_argument s.core 0) MAILBOX_WORDS)
@@ -74,8 +76,15 @@ module _ (s : System) (registers : 2 < length s.core.cpu.regs)
   serves_delivers service.PollMbx =
       let at = core_argument s.core 0 in
       polls_mbx_delivers (board_of s) registers (words_place s.memory at 1)
+  serves_delivers service.ReferMbxStatus =
+      let place = words_place s.memory (core_argument s.core 1) MAILBOX_STATUS_WORDS in
+      let left = refers_mbx_goes (tells s) (core_argument s.core 0) place
+      (words_inside s.memory (core_argument s.core 1) MAILBOX_STATUS_WORDS) in
+      spared service.ReferMbxStatus (serves s service.ReferMbxStatus) refl refl
+      (subst (λ (k : Kernel). KeepsObjects before k.mailboxes) (sym left) (same_objects before))
   serves_delivers other =
-      spared other (serves s other) refl refl ((serves_stays s other).mailboxes refl)
+      spared other (serves s other) refl refl
+      ((serves_apart s other).mailboxes (λ is. absurd (cc is)))
 
 -- whether the libraries ask for a service of the kernel
 asks : Answer → Bool
@@ -212,7 +221,7 @@ module _ (s : System) (registers : 2 < length s.core.cpu.regs)
   calls_deliver None = ended s.core.kernel.mailboxes (same_objects s.core.kernel.mailboxes)
   calls_deliver (Some ThreadReturn) =
       ended (exit_thread s.core).state.kernel.mailboxes
-      ((exits_spare s.core (caller s.core)).mailboxes refl)
+      ((exits_apart s).mailboxes (λ is. absurd (cc is)))
   calls_deliver (Some ModuleReturn) =
       ended (return_module s.core).state.kernel.mailboxes (returns_keep (caller s.core))
   calls_deliver (Some HandlerReturn) =

@@ -5,7 +5,7 @@ use Rattle.iop_base.specs.declared.code.Code.{Code}
 use Rattle.iop_base.specs.declared.code.TheConstants.Code.{OK, OBJECT_DELETED}
 use Rattle.iop_event.specs.EventFlags.{EventFlags, deletes, deletes_it}
 use Rattle.iop_objects.specs.Objects as objects
-use Rattle.iop_objects.specs.Objects.{object_of, waiters_in, waiters_of, takes_next}
+use Rattle.iop_objects.specs.Objects.{object_of, waiters_in, takes_next}
 use Rattle.iop_ready.specs.declared.entry.Entry.{Entry}
 use Rattle.iop_thread.specs.Operations.{wakes}
 use Rattle.iop_thread.specs.ThreadTable.{ThreadTable}

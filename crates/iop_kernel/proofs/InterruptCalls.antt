@@ -1,9 +1,9 @@
 -- What the services of intrman that write to memory come to.
 use mir.Val.{bool_byte}
 use Rattle.std.proofs.Common.{◌≡◌, ℕ, Bool, true, false, Option, Some, List, [], ◌∷◌, refl, ap, sym, ◌∙◌}
+use Rattle.iop_base.specs.Numbers.{one_if}
 use Rattle.iop_base.specs.declared.code.Code.{Code}
 use Rattle.iop_base.specs.declared.code.TheConstants.Code.{ILLEGAL_INTERRUPT}
-use Rattle.iop_exec.specs.Arithmetic.{one_if}
 use Rattle.iop_intr.specs.InterruptLines.{IrqLine, disabling}
 use Rattle.iop_kernel.specs.Boards.{Board, writes_with, optional_place}
 use Rattle.iop_kernel.specs.Interrupts.{disables_at, disable_line, suspended_code, suspends_at, suspend_interrupts}

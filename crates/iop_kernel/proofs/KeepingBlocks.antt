@@ -42,11 +42,6 @@ size_freed map (Some i) = refl
 pub same_blocks : (map : BlockMap) → AreKept map map
 same_blocks map = record { are_blocks = λ h. h; size = refl }
 
--- and by one thing after another
-pub kept_then : {a b c : BlockMap} → AreKept a b → AreKept b c → AreKept a c
-kept_then g h =
-    record { are_blocks = λ x. h.are_blocks (g.are_blocks x); size = h.size ∙ g.size }
-
 -- an allocation keeps them
 pub allocating_keeps : (map : BlockMap) (mode size at : ℕ)
     → AreKept map (allocating map mode size at).1

@@ -1,6 +1,5 @@
 -- What a service keeps of the kernel and its processor, and small changes that keep it.
-use Rattle.std.proofs.Common.{◌≡◌, ℕ, ◌+◌, ◌≤◌, Bool, true, false, if◌then◌else◌, IfSome, Option, Some, None, List, refl, ◌∙◌, arith}
-use Rattle.std.proofs.lemmas.Bool.{cond_both}
+use Rattle.std.proofs.Common.{◌≡◌, ℕ, ◌+◌, ◌≤◌, true, if◌then◌else◌, IfSome, Option, Some, None, List, refl, ◌∙◌, arith}
 use Rattle.std.proofs.lemmas.Bool.Decides.{nat_tests}
 use Rattle.iop_event.specs.EventFlags.{EventFlags}
 use Rattle.iop_exec.specs.declared.cpu.Cpu.{Cpu}
@@ -20,7 +19,7 @@ use Rattle.iop_thread.proofs.Waits.{moves_waits}
 use Rattle.iop_kernel.specs.Laws.{IsCore, IsAwake, HandlerKeeps}
 use Rattle.iop_kernel.specs.Overdue.{NoneOverdue}
 use Rattle.iop_kernel.specs.Placing as whole
-use Rattle.iop_kernel.specs.System.{Kernel, Core, Left, may_switch, registers_beside, running_registers, with_threads, with_semaphores, with_timers, with_irqs, opened, answered}
+use Rattle.iop_kernel.specs.System.{Kernel, Core, Left, may_switch, registers_beside, running_registers, with_threads, with_timers, with_irqs, opened, answered}
 use Rattle.iop_kernel.specs.Running.{ended}
 use Rattle.iop_kernel.specs.Waiting.{waits}
 use Rattle.iop_kernel.specs.Waits.{core_leaves, core_requeues}
@@ -82,11 +81,6 @@ CoreKeeps = KeepsBut 0
 -- a call leaves what it is to keep
 abbrev pub Keeps : Core → Left Core → Type 0
 Keeps c left = CoreKeeps c left.state
-
--- of two ways, both keep it
-pub keeps_both : (c : Core) (b : Bool) (x y : Left Core) → (b ≡ true → Keeps c x)
-    → (b ≡ false → Keeps c y) → Keeps c (if b then x else y)
-keeps_both c b x y = cond_both b x y (Keeps c)
 
 -- nothing changes
 pub nothing_changes : (c : Core) → CoreKeeps c c
@@ -199,15 +193,6 @@ irqs_change c left =
     let k = c.kernel in
     parts_change c 0 k.semaphores k.event_flags k.mailboxes k.timers left (omega arith)
 
--- so do the semaphores, and a word is answered
-pub semaphores_change : (c : Core) (left : Semaphores) → CoreKeeps c (with_semaphores c left)
-semaphores_change c left = objects_change c left c.kernel.event_flags c.kernel.mailboxes
-
-pub answers_semaphores : (c : Core) (left : Semaphores) (word : ℕ)
-    → CoreKeeps c (answered (with_semaphores c left) word)
-answers_semaphores c left word =
-    keeps_then (semaphores_change c left) (only_answered (with_semaphores c left) word)
-
 -- a thread no longer waits for an object
 pub leaving_keeps : (c : Core) (thread : ℕ) (wait : Option Wait)
     → CoreKeeps c (core_leaves c thread wait)
@@ -316,24 +301,3 @@ module _ (c : Core) where
     straight = (go h).straight;
     awake = awake_on t h (go h).on;
   })
-
-  -- and a word is answered
-  pub answers_on : (t : ThreadTable) (word : ℕ) → (HoldsAlone c → GoOn c t)
-      → CoreKeeps c (answered (with_threads c t) word)
-  answers_on t word go = keeps_then (goes_on t go) (only_answered (with_threads c t) word)
-
-  -- a thread no longer waits for an object, before that
-  pub answers_left : (t : ThreadTable) (thread : ℕ) (wait : Option Wait) (word : ℕ)
-      → (HoldsAlone c → GoOn c t)
-      → CoreKeeps c (answered (core_leaves (with_threads c t) thread wait) word)
-  answers_left t thread wait word go =
-      keeps_then (goes_on t go)
-      (keeps_then (leaving_keeps (with_threads c t) thread wait) (only_answered _ word))
-
-  -- or has another priority among those that wait for it
-  pub answers_requeued : (t : ThreadTable) (thread priority : ℕ) (wait : Option Wait) (word : ℕ)
-      → (HoldsAlone c → GoOn c t)
-      → CoreKeeps c (answered (core_requeues (with_threads c t) thread priority wait) word)
-  answers_requeued t thread priority wait word go =
-      keeps_then (goes_on t go)
-      (keeps_then (requeueing_keeps (with_threads c t) thread priority wait) (only_answered _ word))

@@ -1,22 +1,19 @@
 -- What the beginning and the return of a handler keep of the kernel and its processor.
-use Rattle.std.proofs.Common.{◌≡◌, ℕ, ◌==◌, true, IfSome, Option, Some, None, refl, ap, sym, subst, arith}
+use Rattle.std.proofs.Common.{◌≡◌, ℕ, ◌==◌, true, IfSome, Option, Some, None, refl, ap, sym, subst}
 use Rattle.std.proofs.lemmas.Bool.{cond_both}
-use Rattle.iop_exec.specs.Row.{reg, with_reg}
+use Rattle.iop_exec.specs.Row.{with_reg}
 use Rattle.iop_exec.specs.declared.cpu.Cpu.{Cpu}
 use Rattle.iop_intr.specs.declared.handler.Handler.{Handler}
 use Rattle.iop_thread.specs.States.{zeroed_at}
 use Rattle.iop_time.specs.Timers.{Timers}
-use Rattle.iop_kernel.specs.Handlers.{handler_registers, begins_handler, alarm_gives, gives_result, handler_returned, returns_handler}
+use Rattle.iop_kernel.specs.Handlers.{handler_registers, begins_handler, alarm_gives, gives_result, handler_returned}
 use Rattle.iop_kernel.specs.Laws.{HandlerKeeps, HasReturned}
-use Rattle.iop_kernel.specs.System.{Kernel, Core, System, on_core, silent}
+use Rattle.iop_kernel.specs.System.{Kernel, Core, System}
 use Rattle.iop_kernel.specs.declared.active_handler.ActiveHandler.{ActiveHandler}
 use Rattle.iop_kernel.specs.declared.active_handler.Cause.{Cause}
 use Rattle.iop_kernel.specs.declared.active_handler.Cause.TheVariants.{Line, Alarm}
 use Rattle.iop_kernel.specs.declared.active_handler.TheConstants.{HANDLER_RETURN, HANDLER_STACK}
-use Rattle.iop_kernel.proofs.KeepingBlocks.{same_blocks}
 use Rattle.iop_kernel.proofs.KeepingCore.{HoldsAlone}
-use Rattle.iop_kernel.proofs.KeepingMemory.{nothing_stored}
-use Rattle.iop_kernel.proofs.KeepingSystem.{CallKeeps, call_keeps, faults_keep}
 use Rattle.iop_kernel.proofs.Steady.{IsSteady, steady_with_reg}
 
 -- an alarm that is set again, or goes, takes no number
@@ -42,7 +39,7 @@ returned_to k kept =
     record { kernel = record k { interrupts = true; handler = None }; cpu = kept }
 
 -- it is as awake as it was, or more so
-returned_holds : (c : Core) (left : Kernel) (kept : Cpu) → GivesTo c.kernel left → IsSteady kept
+pub returned_holds : (c : Core) (left : Kernel) (kept : Cpu) → GivesTo c.kernel left → IsSteady kept
     → HoldsAlone c → HoldsAlone (returned_to left kept)
 returned_holds c left kept gives steady h =
     subst (λ (k : Kernel). HoldsAlone (returned_to k kept)) (sym gives.is) (record {
@@ -55,28 +52,12 @@ returned_holds c left kept gives steady h =
     })
 
 -- the registers that a handler keeps are steady
-kept_steady : (o : Option ActiveHandler) (handler : ActiveHandler) → IfSome o HandlerKeeps
+pub kept_steady : (o : Option ActiveHandler) (handler : ActiveHandler) → IfSome o HandlerKeeps
     → o ≡ Some handler → IsSteady handler.kept
 kept_steady o handler keeps is =
     let kept : HandlerKeeps handler = subst (λ (x : Option ActiveHandler). IfSome x HandlerKeeps) is
     keeps in
     (kept.straight, kept.registers)
-
--- a handler returns, if one runs
-pub returns_handler_keeps : (s : System) (o : Option ActiveHandler) → s.core.kernel.handler ≡ o
-    → CallKeeps s (silent (on_core s (returns_handler s.core o)))
-returns_handler_keeps s None is = call_keeps s _ (faults_keep s _)
-returns_handler_keeps s (Some handler) is =
-    let k = s.core.kernel in
-    let gives = gives_to k handler.cause (reg s.core.cpu 2) in
-    record {
-      core = λ h. returned_holds s.core _ handler.kept gives
-          (kept_steady k.handler handler h.handler is) h;
-      clock = ap (λ (left : Kernel). left.clock) gives.is;
-      numbers = omega (arith, gives.next);
-      memory = nothing_stored s _;
-      blocks = same_blocks s.blocks;
-    }
 
 -- what has become of the handler that returned
 pub returns_handler_follows : (s : System) (handler : ActiveHandler) (value : ℕ)

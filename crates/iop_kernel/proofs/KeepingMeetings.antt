@@ -10,13 +10,12 @@ use Rattle.iop_event.specs.Waiting.{settles}
 use Rattle.iop_event.specs.declared.met.Met.{Met}
 use Rattle.iop_objects.specs.Objects.{changes}
 use Rattle.iop_stubs.specs.Stubs.{Memory, after_store, store_lines}
-use Rattle.iop_kernel.specs.Boards.{Board, bytes_of_words}
-use Rattle.iop_kernel.specs.EventFlags.{LiveFlag, met_place, meets_one, meets_all, meeting_lines, meeting_all}
+use Rattle.iop_kernel.specs.Boards.{Board}
+use Rattle.iop_kernel.specs.EventFlags.{LiveFlag, met_place, meets_one, meets_all}
 use Rattle.iop_kernel.specs.Laws.{Store, after_stores, stores_lines}
 use Rattle.iop_kernel.specs.System.{Core, code_word, with_threads, words_place}
 use Rattle.iop_kernel.specs.Waits.{wakes_all}
-use Rattle.iop_kernel.proofs.KeepingMemory.{Stored, none_stored, one_stored, words_inside}
-use Rattle.iop_kernel.proofs.WordBytes.{length-bytes_of_words}
+use Rattle.iop_kernel.proofs.KeepingMemory.{Stored, words_inside}
 
 -- the threads that are met when bits are set, and the event flags that are left
 abbrev pub met_of : LiveFlag → (bits : ℕ) → List Met
@@ -76,23 +75,9 @@ stored_then clock old between new pieces more g h = record {
 }
 
 -- a place for the pattern of one that was met lies in RAM
-met_inside : (b : Board) (one : Met) (p : ℕ) → met_place b one ≡ Some p
+pub met_inside : (b : Board) (one : Met) (p : ℕ) → met_place b one ≡ Some p
     → p + 4 ≤ length b.memory.ram
 met_inside b one p =
     cond_both (one.place == 0) None (words_place b.memory one.place 1)
     (λ (o : Option ℕ). o ≡ Some p → p + 4 ≤ length b.memory.ram) (λ none e. absurd (cc e))
     (λ some. words_inside b.memory one.place 1 p)
-
--- the patterns of all that were met are stored
-pub meets_stored : (met : List Met) (b : Board)
-    → Stored b.core.kernel.clock b.memory (meets_all b met).memory (meeting_all b met)
-meets_stored [] b = none_stored b.core.kernel.clock b.memory
-meets_stored (one ∷ met) b =
-    let clock = b.core.kernel.clock in
-    let now = meets_one b one in
-    let words = one.pattern ∷ [] in
-    stored_then clock b.memory now.memory (meets_all now met).memory (meeting_lines b one)
-    (meeting_all now met)
-    (one_stored clock b.memory (met_place b one) (bytes_of_words words) (λ p e.
-    omega (arith, met_inside b one p e, length-bytes_of_words words)))
-    (meets_stored met now)

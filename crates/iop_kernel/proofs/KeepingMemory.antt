@@ -1,5 +1,5 @@
 -- What the services store in memory.
-use Rattle.std.proofs.Common.{◌≡◌, ℕ, ◌+◌, ◌*◌, ◌%◌, ◌==◌, ◌≤◌, nat_le, Bool, true, false, if◌then◌else◌, Option, Some, None, List, [], ◌∷◌, length, All, Contains, refl, sym, ◌∙◌, subst, arith}
+use Rattle.std.proofs.Common.{◌≡◌, ℕ, ◌+◌, ◌*◌, ◌%◌, ◌==◌, ◌≤◌, nat_le, Bool, true, false, if◌then◌else◌, Option, Some, None, List, [], ◌∷◌, length, All, refl, sym, ◌∙◌, arith}
 use Rattle.std.proofs.lemmas.Bool.Decides.{nat_tests}
 use Rattle.std.proofs.lemmas.List.{length-append, append-nil}
 use Rattle.iop_base.specs.Piece.{Piece}
@@ -9,9 +9,9 @@ use Rattle.iop_stubs.specs.Stubs.{Memory, after_store, store_lines, range_place}
 use Rattle.iop_thread.specs.States.{wait_in}
 use Rattle.iop_thread.specs.declared.thread.Thread.{Thread}
 use Rattle.iop_thread.specs.declared.wait.Wait.{Wait}
-use Rattle.iop_kernel.specs.Laws.{Store, Writes, after_stores, stores_lines}
+use Rattle.iop_kernel.specs.Laws.{Store, after_stores, stores_lines}
 use Rattle.iop_kernel.specs.Status.{status_bytes, status_words, wait_words}
-use Rattle.iop_kernel.specs.System.{System, storing_lines, words_place}
+use Rattle.iop_kernel.specs.System.{words_place}
 use Rattle.iop_kernel.proofs.WordBytes.{length-bytes_of_words}
 
 -- what several stores leave, and tell
@@ -46,32 +46,6 @@ one_stored clock memory (Some p) bytes inside = record {
   told = sym (append-nil _);
   size = length-with_bytes memory.ram p bytes (inside p refl);
 }
-
--- they are what the law asks for
-pub stores_written : (s : System) (memory : Memory) (pieces : List Piece)
-    → Stored s.core.kernel.clock s.memory memory pieces → Writes s memory pieces
-stores_written s memory pieces h = record {
-  stores = h.stores;
-  inside = h.inside;
-  left = h.left;
-  told = λ piece x. subst (λ (all : List Piece). Contains all piece) (sym h.told) x;
-}
-
--- so is nothing
-pub nothing_stored : (s : System) (pieces : List Piece) → Writes s s.memory pieces
-nothing_stored s pieces = record {
-  stores = [];
-  inside = λ k d below. absurd (omega (arith, below));
-  left = refl;
-  told = λ piece x. absurd (omega (arith, x.1));
-}
-
--- and bytes at a place, if there is one
-pub bytes_stored : (s : System) (place : Option ℕ) (bytes : List ℕ)
-    → ((p : ℕ) → place ≡ Some p → p + length bytes ≤ length s.memory.ram)
-    → Writes s (after_store s.memory place bytes) (storing_lines s place bytes)
-bytes_stored s place bytes inside =
-    stores_written s _ _ (one_stored s.core.kernel.clock s.memory place bytes inside)
 
 -- a place that passes the test
 in_range : (b : Bool) (p size len q : ℕ) → nat_le (p + len) size ≡ b

@@ -5,7 +5,7 @@ use Rattle.iop_base.specs.declared.code.Code.{Code}
 use Rattle.iop_base.specs.declared.code.TheConstants.Code.{OK, OBJECT_DELETED}
 use Rattle.iop_mbx.specs.Mailboxes.{Mailboxes, waiters_by_priority, is_by_priority, deletes, deletes_it, takes_waiter}
 use Rattle.iop_objects.specs.Objects as objects
-use Rattle.iop_objects.specs.Objects.{object_of, state_of, waiters_in, waiters_of}
+use Rattle.iop_objects.specs.Objects.{object_of, waiters_in}
 use Rattle.iop_objects.specs.Queue.{in_order}
 use Rattle.iop_ready.specs.declared.entry.Entry.{Entry}
 use Rattle.iop_thread.specs.Operations.{wakes}

@@ -10,13 +10,13 @@ use Rattle.iop_time.specs.Timers.{Timers}
 use Rattle.iop_time.specs.declared.due.Due.{Due}
 use Rattle.iop_time.specs.declared.due.Due.TheVariants as due
 use Rattle.iop_kernel.specs.Deliveries.{Delivered, may_deliver, delivers_line, delivers_due, delivers_by, delivers}
-use Rattle.iop_kernel.specs.Handlers.{gives_result, returns_handler, return_handler}
+use Rattle.iop_kernel.specs.Handlers.{gives_result, handler_returned}
 use Rattle.iop_kernel.specs.Overdue.{NoneOverdue}
 use Rattle.iop_kernel.specs.System.{Core, code_word, with_timers}
 use Rattle.iop_kernel.specs.declared.active_handler.ActiveHandler.{ActiveHandler}
 use Rattle.iop_kernel.specs.declared.active_handler.Cause.{Cause}
 use Rattle.iop_kernel.specs.declared.active_handler.Cause.TheVariants.{Line, Alarm}
-use Rattle.iop_kernel.proofs.OverdueKernels.{InTimeLeft, sleepers, with_other_threads, beside_in_time}
+use Rattle.iop_kernel.proofs.OverdueKernels.{sleepers, with_other_threads, beside_in_time}
 
 module _ (c : Core) (h : NoneOverdue c.kernel) where
   -- the handler of a line begins
@@ -47,11 +47,10 @@ module _ (c : Core) (h : NoneOverdue c.kernel) where
   delivered_by_in_time None d made =
       due_delivered_in_time (takes_due c.kernel.timers c.kernel.clock) d made
 
-  -- a handler returns, if one runs
-  returns_handler_in_time : (handler : Option ActiveHandler)
-      → InTimeLeft (returns_handler c handler)
-  returns_handler_in_time None = h
-  returns_handler_in_time (Some handler) = by handler.cause (reg c.cpu 2)
+  -- a handler returns
+  pub handler_returned_in_time : (handler : ActiveHandler)
+      → NoneOverdue (handler_returned c handler (reg c.cpu 2)).kernel
+  handler_returned_in_time handler = by handler.cause (reg c.cpu 2)
     where
       by : (cause : Cause) (value : ℕ)
           → NoneOverdue (record (gives_result c.kernel cause value) {
@@ -60,9 +59,6 @@ module _ (c : Core) (h : NoneOverdue c.kernel) where
           })
       by (Line line) value = beside_in_time c.kernel h _ _ _ _ _ _
       by (Alarm number) value = beside_in_time c.kernel h _ _ _ _ _ _
-
-  pub return_handler_in_time : InTimeLeft (return_handler c)
-  return_handler_in_time = returns_handler_in_time c.kernel.handler
 
 -- where something may be delivered
 delivered_if : (c : Core) (d : Delivered) → NoneOverdue c.kernel → (b : Bool)

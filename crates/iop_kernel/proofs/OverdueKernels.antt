@@ -15,21 +15,12 @@ use Rattle.iop_thread.specs.declared.wait.Wait.{Wait}
 use Rattle.iop_thread.specs.declared.wait.Wait.TheVariants as waits
 use Rattle.iop_thread.proofs.Sleepers.{keeps_sleepers}
 use Rattle.iop_time.specs.Timers.{Timers}
-use Rattle.iop_kernel.specs.Boards.{Board}
 use Rattle.iop_kernel.specs.Overdue.{NoneOverdue, CountIsZero, HasNoMessage}
-use Rattle.iop_kernel.specs.System.{Kernel, Core, Left, Done}
+use Rattle.iop_kernel.specs.System.{Kernel}
 use Rattle.iop_kernel.specs.declared.active_handler.ActiveHandler.{ActiveHandler}
 use Rattle.iop_kernel.specs.Waits.{wakes_all, leaves_object, requeues_at}
 use Rattle.iop_kernel.proofs.OverdueFlags.{InTime, flags_drop, flags_requeue}
 use Rattle.iop_kernel.proofs.OverdueIdle.{idle_drops, idle_requeues}
-
--- no wait is overdue in what a call leaves
-abbrev pub InTimeLeft : Left Core → Type 0
-InTimeLeft left = NoneOverdue left.state.kernel
-
--- nor in what one that looks at memory leaves
-abbrev pub InTimeDone : Done Board → Type 0
-InTimeDone done = NoneOverdue done.left.state.core.kernel
 
 -- nothing is to be had of a semaphore
 abbrev pub IsZero : Semaphore → Type 0

@@ -9,22 +9,13 @@ use Rattle.iop_thread.proofs.Waits.{moves_waits}
 use Rattle.iop_intr.specs.InterruptLines.{IrqLine}
 use Rattle.iop_time.specs.Timers.{Timers, AreTimers}
 use Rattle.iop_time.specs.declared.clock.TheConstants.{MOST_DELAYS}
-use Rattle.iop_kernel.specs.Boards.{Board}
 use Rattle.iop_kernel.specs.Placing.{IsPlaced}
 use Rattle.iop_kernel.specs.Running.{ended}
-use Rattle.iop_kernel.specs.System.{Kernel, Core, Left, Done, caller_beside}
+use Rattle.iop_kernel.specs.System.{Kernel, Core, caller_beside}
 use Rattle.iop_kernel.specs.declared.active_handler.ActiveHandler.{ActiveHandler}
 use Rattle.iop_kernel.proofs.PlacingDelays.{live_room, delayed_beside}
 use Rattle.iop_kernel.proofs.PlacingAlike.{AllAskAlike, alike_on}
 use Rattle.iop_kernel.proofs.PlacingThreads.{placed_with}
-
--- what a call leaves is placed
-abbrev pub Placed : Left Core → Type 0
-Placed left = IsPlaced left.state.kernel
-
--- what a call that looks at memory too leaves is placed
-abbrev pub PlacedBoard : Done Board → Type 0
-PlacedBoard done = IsPlaced done.left.state.core.kernel
 
 -- threads that can stand in place of the kernel's, since each waits for what it did
 pub record PlacedThreads (k : Kernel) (left : ThreadTable) : Type 0 where

@@ -4,8 +4,8 @@ use Rattle.std.specs.Option.{option_or}
 use Rattle.std.proofs.lemmas.Bool.{cond_both}
 use Rattle.std.proofs.lemmas.Bool.Decides.{nat_tests}
 use Rattle.std.proofs.lemmas.Option.{same_Some}
+use Rattle.iop_base.specs.Numbers.{one_if}
 use Rattle.iop_base.specs.declared.code.TheConstants.Code.{OK}
-use Rattle.iop_exec.specs.Arithmetic.{one_if}
 use Rattle.iop_exec.specs.Row.{reg}
 use Rattle.iop_intr.specs.InterruptLines.{line_of, deliverable}
 use Rattle.iop_intr.specs.declared.handler.Handler.{Handler}
@@ -23,13 +23,13 @@ use Rattle.iop_time.specs.declared.due.Due.{Due}
 use Rattle.iop_time.specs.declared.due.Due.TheVariants as due
 use Rattle.iop_time.proofs.Keeping.{sets_again-keeps, without_alarms-keeps}
 use Rattle.iop_kernel.specs.Deliveries.{Delivered, may_deliver, delivers_line, delivers_due, delivers_by, delivers}
-use Rattle.iop_kernel.specs.Handlers.{alarm_gives, gives_result, returns_handler, return_handler}
+use Rattle.iop_kernel.specs.Handlers.{alarm_gives, gives_result, handler_returned}
 use Rattle.iop_kernel.specs.Placing.{IsPlaced, is_for_delay}
 use Rattle.iop_kernel.specs.System.{Kernel, Core, code_word}
 use Rattle.iop_kernel.specs.declared.active_handler.ActiveHandler.{ActiveHandler}
 use Rattle.iop_kernel.specs.declared.active_handler.Cause.{Cause}
 use Rattle.iop_kernel.specs.declared.active_handler.Cause.TheVariants.{Line, Alarm}
-use Rattle.iop_kernel.proofs.PlacingBasics.{Placed, places, moves, timers_placed, beside_placed}
+use Rattle.iop_kernel.proofs.PlacingBasics.{places, moves, timers_placed, beside_placed}
 use Rattle.iop_kernel.proofs.PlacingDelays.{delayed}
 use Rattle.iop_kernel.proofs.PlacingThreads.{placed_leaves}
 
@@ -151,14 +151,11 @@ module _ (c : Core) (h : IsPlaced c.kernel) where
   given_places (Line line) value = beside_placed _ _ _ _ _ h
   given_places (Alarm number) value = alarm_given_places number value
 
-  -- a handler returns, if one runs
-  returns_handler_places : (handler : Option ActiveHandler) → Placed (returns_handler c handler)
-  returns_handler_places None = h
-  returns_handler_places (Some handler) =
+  -- a handler returns
+  pub handler_returned_places : (handler : ActiveHandler)
+      → IsPlaced (handler_returned c handler (reg c.cpu 2)).kernel
+  handler_returned_places handler =
       beside_placed _ true _ None _ (given_places handler.cause (reg c.cpu 2))
-
-  pub return_handler_places : Placed (return_handler c)
-  return_handler_places = returns_handler_places k.handler
 
 -- where something may be delivered
 delivered_if : (c : Core) (d : Delivered) → IsPlaced c.kernel → (b : Bool)

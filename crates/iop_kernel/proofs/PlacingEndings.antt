@@ -2,7 +2,7 @@
 -- the object's waiters is left is placed.
 use Rattle.std.proofs.Common.{◌≡◌, ℕ, ◌+◌, ◌==◌, nat_lt, Bool, true, false, if◌then◌else◌, Option, Some, None, option_map, List, refl, ap, sym, ◌∙◌, subst, arith}
 use Rattle.std.proofs.lemmas.Bool.Decides.{nat_tests}
-use Rattle.iop_exec.specs.Arithmetic.{one_if}
+use Rattle.iop_base.specs.Numbers.{one_if}
 use Rattle.iop_objects.specs.Objects.{Object, Objects, object_of, waiters_in, waiters_of, changes, deletes}
 use Rattle.iop_objects.specs.Queue.{Choice, chooses, in_order}
 use Rattle.iop_objects.specs.declared.waiter.Waiter.{Waiter}
@@ -10,10 +10,9 @@ use Rattle.iop_thread.specs.Placing.{times}
 use Rattle.iop_thread.specs.ThreadTable.{ThreadTable}
 use Rattle.iop_thread.specs.Waits.{wait_of}
 use Rattle.iop_thread.specs.declared.wait.Wait.{Wait}
-use Rattle.iop_kernel.specs.Placing.{IsPlaced, AreWaited, AreDelayed, is_for_delay}
+use Rattle.iop_kernel.specs.Placing.{IsPlaced, AreWaited}
 use Rattle.iop_kernel.specs.System.{Kernel}
 use Rattle.iop_kernel.specs.Waits.{threads_of, wakes_all}
-use Rattle.iop_kernel.proofs.PlacingDelays.{delayed_alike, live_room}
 use Rattle.iop_kernel.proofs.PlacingObjects.{own_ids_changed, ids_below_changed, waiters_other, waiters_own}
 use Rattle.iop_kernel.proofs.PlacingQueues.{times_in, times_in_order, chosen_split}
 use Rattle.iop_kernel.proofs.PlacingThreads.{AllWoken, all_woken}
@@ -136,12 +135,6 @@ module _ (k : Kernel) (h : IsPlaced k) (wait : Wait) (ids : List ℕ) (word : �
   pub ends_other_kind : (is_for : ℕ → Option Wait → Bool)
       → ((id : ℕ) → is_for id None ≡ is_for id (Some wait)) → AskAlike is_for k.threads woken
   ends_other_kind is_for other id t = ends_alike is_for id (other id) t
-
-  -- and where it is for no time the same delays stand
-  pub delays_woken : is_for_delay None ≡ is_for_delay (Some wait) → AreDelayed k.timers woken
-  delays_woken other =
-      delayed_alike h.delays (live_room k.threads woken ends_all.placed ends_all.live h.delays.room)
-      (ends_other_kind (λ id. is_for_delay) (λ id. other))
 
   module _ {A W : Type 0} {is_for : ℕ → Option Wait → Bool} (s : Objects A W)
       (mine : AreWaited s is_for k.threads) (kind : IsKind is_for) (n : ℕ)

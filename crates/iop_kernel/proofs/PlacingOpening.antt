@@ -1,6 +1,6 @@
 -- Threads and waiters are placed in the kernel at first.
 use Rattle.std.proofs.Common.{◌≡◌, ℕ, ◌==◌, Bool, true, false, if◌then◌else◌, option_and_then, Option, Some, None, refl, ap, sym, ◌∙◌, arith}
-use Rattle.iop_exec.specs.Arithmetic.{one_if}
+use Rattle.iop_base.specs.Numbers.{one_if}
 use Rattle.iop_objects.specs.Objects.{no_objects}
 use Rattle.iop_thread.specs.Operations.{opening, dormant_thread, loader_param}
 use Rattle.iop_thread.specs.States.{wait_in}

@@ -3,7 +3,7 @@ use Rattle.std.proofs.Common.{◌≡◌, ℕ, ◌+◌, ◌==◌, nat_lt, Bool, t
 use Rattle.std.proofs.lemmas.Bool.{cond_both}
 use Rattle.std.proofs.lemmas.Bool.Decides.{nat_tests}
 use Rattle.std.proofs.lemmas.Option.{same_Some}
-use Rattle.iop_exec.specs.Arithmetic.{one_if}
+use Rattle.iop_base.specs.Numbers.{one_if}
 use Rattle.iop_objects.specs.Queue.{Choice, chooses, chooses_between, chooses_best, in_order, put_by_priority, sorted}
 use Rattle.iop_objects.specs.Waiting.{is_thread, without, with_priority, in_place, moved_last, requeued}
 use Rattle.iop_objects.specs.declared.queued.Queued.{Queued}

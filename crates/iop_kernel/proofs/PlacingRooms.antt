@@ -9,7 +9,7 @@ use Rattle.std.proofs.lemmas.List.Kept.{AllPairs-cons}
 use Rattle.std.proofs.lemmas.List.Sums.{count_by-le-length, length-filter}
 use Rattle.std.proofs.lemmas.Map.Keys.{IsDistinct-from_apart}
 use Rattle.std.proofs.lemmas.Map.Made.{length-le_from_is_member}
-use Rattle.iop_exec.specs.Arithmetic.{one_if}
+use Rattle.iop_base.specs.Numbers.{one_if}
 use Rattle.iop_objects.proofs.Rooms.{leave_room}
 use Rattle.iop_objects.specs.Laws.{threads_waiting}
 use Rattle.iop_objects.specs.Objects.{Objects, waiting}

@@ -1,7 +1,7 @@
 -- Threads and waiters are placed when the waits of threads change.
 use Rattle.std.proofs.Common.{◌≡◌, ℕ, ◌+◌, ◌≤◌, ◌==◌, nat_lt, Bool, true, false, if◌then◌else◌, Option, Some, None, List, [], ◌∷◌, length, refl, ap, sym, ◌∙◌, arith}
 use Rattle.std.proofs.lemmas.Bool.Decides.{nat_tests}
-use Rattle.iop_exec.specs.Arithmetic.{one_if}
+use Rattle.iop_base.specs.Numbers.{one_if}
 use Rattle.iop_mbx.specs.Mailboxes as mailboxes
 use Rattle.iop_sema.specs.Semaphores as semaphores
 use Rattle.iop_thread.specs.Operations as threads

@@ -4,8 +4,8 @@ use Rattle.std.proofs.lemmas.Bool.{cond_both}
 use Rattle.std.proofs.lemmas.Bool.Decides.{nat_tests}
 use Rattle.std.proofs.lemmas.List.Elements.{All-filter}
 use Rattle.std.proofs.lemmas.List.Kept.{AllPairs-filter}
+use Rattle.iop_base.specs.Numbers.{one_if}
 use Rattle.iop_base.specs.declared.code.Code.{Code}
-use Rattle.iop_exec.specs.Arithmetic.{one_if}
 use Rattle.iop_objects.specs.Objects.{Object, Objects, object_of, waiters_in, waiters_of, has_room, creates, deletes, with_state, with_waiters, waits, drops, requeues}
 use Rattle.iop_objects.specs.Waiting.{without, requeued}
 use Rattle.iop_objects.specs.declared.queued.Queued.{Queued}

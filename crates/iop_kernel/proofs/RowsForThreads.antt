@@ -89,7 +89,7 @@ module _ (sight : Sight) (blocks : BlockMap) (libraries : List Entry) where
   other_is other y e = cc e
 
   -- by whether it may be called
-  allowed_other : (row : Row) (y : Service) (allowed : Bool)
+  pub allowed_other : (row : Row) (y : Service) (allowed : Bool)
       → (if allowed then libs.serves sight blocks libraries row.service
       else answers sight blocks libraries (code_value ILLEGAL_CONTEXT)).answer ≡ Other y
       → (allowed ≡ true) × (row.service ≡ y)

@@ -43,10 +43,6 @@ outside_beside : (o : Option ActiveHandler) (running : Option ℕ) (id : ℕ)
 outside_beside None running id e = (refl, e)
 outside_beside (Some handler) running id e = absurd (cc e)
 
--- where a thread calls, no handler runs
-pub calls_outside : (c : Core) (id : ℕ) → caller c ≡ Some id → c.kernel.handler ≡ None
-calls_outside c id e = (outside_beside c.kernel.handler c.kernel.threads.running id e).0
-
 -- and it is the one that runs
 pub caller_runs : (c : Core) (id : ℕ) → caller c ≡ Some id → c.kernel.threads.running ≡ Some id
 caller_runs c id e = (outside_beside c.kernel.handler c.kernel.threads.running id e).1

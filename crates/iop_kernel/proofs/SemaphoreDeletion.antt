@@ -4,7 +4,7 @@ use Rattle.std.specs.Prelude.{option_map, unwrap_or, is_some}
 use Rattle.iop_base.specs.declared.code.Code.{Code}
 use Rattle.iop_base.specs.declared.code.TheConstants.Code.{OK, OBJECT_DELETED}
 use Rattle.iop_objects.specs.Objects as objects
-use Rattle.iop_objects.specs.Objects.{object_of, waiters_in, waiters_of, takes_next}
+use Rattle.iop_objects.specs.Objects.{object_of, waiters_in, takes_next}
 use Rattle.iop_objects.specs.Queue.{in_order}
 use Rattle.iop_ready.specs.declared.entry.Entry.{Entry}
 use Rattle.iop_sema.specs.Semaphores.{Semaphores, by_priority, is_by_priority, deletes, deletes_it}

@@ -1,7 +1,7 @@
 -- Calls of services, as the history of a run has them (ps2sdk: thsemap.h, thmsgbx.h).
 use Rattle.std.specs.Prelude.{◌≡◌, ℕ, ◌+◌, ◌≤◌, ◌==◌, Bool, true, false, ◌&&◌, not, if◌then◌else◌, Option, Some, None, Result, Ok, Err, List, [], ◌∷◌, ◌++◌, length, map, sum_by, flat_map}
+use Rattle.iop_base.specs.Numbers.{one_if}
 use Rattle.iop_base.specs.declared.code.Code.{Code}
-use Rattle.iop_exec.specs.Arithmetic.{one_if}
 use Rattle.iop_exec.specs.Row.{reg}
 use Rattle.iop_mbx.specs.Mailboxes.{Mailboxes, Mailbox, gets, messages_by_priority}
 use Rattle.iop_objects.specs.Objects.{state_of, waiters_of}

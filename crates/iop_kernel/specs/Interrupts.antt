@@ -2,10 +2,10 @@
 -- and the order of the refusals, and the word that DisableIntr writes, are this project's own
 -- profile.
 use Rattle.std.specs.Prelude.{ℕ, ◌==◌, Bool, true, false, not, if◌then◌else◌, Option, Some, None, List, [], ◌∷◌}
+use Rattle.iop_base.specs.Numbers.{one_if}
 use Rattle.iop_base.specs.declared.code.Code.{Code}
 use Rattle.iop_base.specs.declared.code.TheConstants.Code.{OK, ILLEGAL_INTERRUPT, INTERRUPTS_DISABLED}
 use Rattle.iop_base.specs.declared.guest_fault.GuestFault.TheVariants.{Address}
-use Rattle.iop_exec.specs.Arithmetic.{one_if}
 use Rattle.iop_exec.specs.Row.{reg}
 use Rattle.iop_intr.specs.InterruptLines.{IrqLine, handler_of, registering, releasing, enabling, disabling}
 use Rattle.iop_kernel.specs.Boards.{Board, quiet, writes_with, optional_place}

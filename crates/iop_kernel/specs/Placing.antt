@@ -1,6 +1,6 @@
 -- Where threads and those that wait stand, at all times (ps2sdk: thread.h): a law of the services.
 use Rattle.std.specs.Prelude.{◌≡◌, ◌≢◌, ℕ, ◌<◌, ◌≤◌, ◌==◌, Bool, true, false, Option, Some, length, map, All, AllPairs}
-use Rattle.iop_exec.specs.Arithmetic.{one_if}
+use Rattle.iop_base.specs.Numbers.{one_if}
 use Rattle.iop_objects.specs.Objects.{Objects, waiters_of}
 use Rattle.iop_thread.specs.Placing as threads
 use Rattle.iop_thread.specs.Placing.{times}

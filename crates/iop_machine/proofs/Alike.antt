@@ -1,7 +1,7 @@
 -- A run from behind the script's events that are due is the run from before them.
 use Rattle.std.proofs.Common.{◌≡◌, ℕ, zero, suc, ◌+◌, ◌-◌, ◌≤◌, None, false, ◌++◌, refl, ap, sym, ◌∙◌, arith, subst}
+use Rattle.iop_base.specs.Numbers.{one_if}
 use Rattle.iop_base.specs.Output.{Output, Gives}
-use Rattle.iop_exec.specs.Arithmetic.{one_if}
 use Rattle.iop_kernel.specs.Deliveries.{delivers}
 use Rattle.iop_kernel.specs.Dispatching.{dispatches}
 use Rattle.iop_kernel.specs.System.{is_active}

@@ -1,8 +1,8 @@
 -- How many calls that execute no instruction are left: what a call of the core leaves of them.
 use Rattle.std.proofs.Common.{◌≡◌, ℕ, ◌+◌, ◌-◌, ◌*◌, ◌<◌, ◌≤◌, ◌^◌, Bool, true, false, not, Option, Some, None, ap, arith}
 use Rattle.std.specs.Prelude.{is_some, length}
+use Rattle.iop_base.specs.Numbers.{one_if}
 use Rattle.iop_base.specs.declared.stop.Stop.{Stop}
-use Rattle.iop_exec.specs.Arithmetic.{one_if}
 use Rattle.iop_kernel.specs.System.{Kernel}
 use Rattle.iop_kernel.specs.declared.active_handler.ActiveHandler.{ActiveHandler}
 use Rattle.iop_time.specs.Timers.{Timers}

@@ -5,7 +5,7 @@ use Rattle.std.specs.Option.{option_or}
 use Rattle.std.proofs.lemmas.Bool.Decides.{nat_tests}
 use Rattle.std.proofs.lemmas.List.Filters.{length-filter_both}
 use Rattle.std.proofs.lemmas.Option.{option_and_then_some}
-use Rattle.iop_exec.specs.Arithmetic.{one_if}
+use Rattle.iop_base.specs.Numbers.{one_if}
 use Rattle.iop_intr.specs.InterruptLines.{line_of, deliverable}
 use Rattle.iop_intr.specs.declared.handler.Handler.{Handler}
 use Rattle.iop_kernel.specs.Deliveries.{Delivered, is_in_slot, may_deliver, delivers_line, delivers_due, delivers_by, delivers}

@@ -1,9 +1,9 @@
 -- The steps of a run, and what they execute, in two parts.
 use Rattle.std.proofs.Common.{◌≡◌, ℕ, zero, suc, ◌+◌, List, [], ◌++◌, ap, sym, ◌∙◌, arith, append-nil, append_assoc, add-zero, add-suc}
+use Rattle.iop_base.specs.Numbers.{one_if}
 use Rattle.iop_base.specs.Piece.{Piece}
 use Rattle.iop_stubs.specs.declared.live_stub.Stub.{Stub}
 use Rattle.iop_machine.specs.Laws.{StepsCompose}
-use Rattle.iop_exec.specs.Arithmetic.{one_if}
 use Rattle.iop_machine.specs.Stepping.{step, steps, executes, executed}
 use Rattle.iop_machine.specs.World.{World}
 use Rattle.iop_machine.specs.Iop.{Transition, and_then}

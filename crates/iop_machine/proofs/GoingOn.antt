@@ -1,9 +1,9 @@
 -- How far runs go on: for as many steps where more is allowed, and from where they have come to.
 use Rattle.std.proofs.Common.{◌≡◌, ℕ, zero, suc, ◌+◌, ◌-◌, ◌<◌, ◌≤◌, Bool, true, false, Option, Some, None, refl, ap, ◌∙◌, arith, subst, nat_lt}
 use Rattle.std.proofs.lemmas.Bool.Decides.{nat_tests}
+use Rattle.iop_base.specs.Numbers.{one_if}
 use Rattle.iop_base.specs.declared.stop.Stop.{Stop}
 use Rattle.iop_machine.specs.Running.{GoesOn, GoesOnFor}
-use Rattle.iop_exec.specs.Arithmetic.{one_if}
 use Rattle.iop_machine.specs.Stepping.{steps, executed, stop_at, stops_by}
 use Rattle.iop_machine.specs.World.{World}
 use Rattle.iop_machine.specs.Iop.{Transition}

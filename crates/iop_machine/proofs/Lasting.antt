@@ -1,11 +1,11 @@
 -- What lasts over whole runs.
 use Rattle.std.proofs.Common.{◌≡◌, ℕ, zero, suc, ◌+◌, ◌-◌, ◌*◌, ◌<◌, ◌≤◌, Bool, true, false, Option, Some, None, List, [], ◌++◌, refl, ap, sym, ◌∙◌, arith, subst, inl, inr}
 use Rattle.std.specs.Prelude.{◌⊎◌}
+use Rattle.iop_base.specs.Numbers.{one_if}
 use Rattle.iop_base.specs.Piece.{Piece}
 use Rattle.iop_base.specs.declared.stop.Stop.{Stop}
 use Rattle.iop_machine.specs.Laws.{IsMachine, RunsCompose, RunsAreDetermined, OverStays, RunsEnd, RunsAreComputed}
 use Rattle.iop_machine.specs.Running.{Ends, GoesOn, GoesOnFor}
-use Rattle.iop_exec.specs.Arithmetic.{one_if}
 use Rattle.iop_machine.specs.Stepping.{step, steps, executes, executed, stop_at, stops_by, Ran, ran_by, run_within, run_of, most_between, most_steps}
 use Rattle.iop_machine.specs.World.{World}
 use Rattle.iop_machine.specs.Iop.{Transition, silent, and_then}

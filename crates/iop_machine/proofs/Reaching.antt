@@ -1,12 +1,12 @@
 -- How a run goes on from step to step.
 use Rattle.std.proofs.Common.{◌≡◌, ℕ, suc, ◌+◌, ◌-◌, Bool, false, Option, Some, None, [], refl, ap, sym, ◌∙◌, arith, subst}
 use borrow.Author.Count.{below_more}
+use Rattle.iop_base.specs.Numbers.{one_if}
 use Rattle.iop_base.specs.Output.{Output, Gives}
 use Rattle.iop_base.proofs.Giving.{gives_none, gives_then}
 use Rattle.iop_base.specs.declared.stop.Stop.{Stop}
 use Rattle.iop_machine.specs.Advancing.{Reached, Advances, Stops}
 use Rattle.iop_machine.specs.Running.{GoesOn}
-use Rattle.iop_exec.specs.Arithmetic.{one_if}
 use Rattle.iop_machine.specs.Stepping.{step, steps, executes, executed, stop_at, stops_by}
 use Rattle.iop_machine.specs.World.{World}
 use Rattle.iop_machine.specs.Iop.{Transition, Takes, silent, and_then}

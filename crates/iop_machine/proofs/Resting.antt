@@ -1,8 +1,8 @@
 -- Each step that executes no instruction leaves fewer such steps.
 use Rattle.std.proofs.Common.{◌≡◌, ℕ, ◌+◌, ◌*◌, ◌<◌, ◌≤◌, min, Bool, true, false, ◌||◌, Option, Some, None, List, [], length, refl, ap, sym, ◌∙◌, arith, subst, inl, inr}
 use Rattle.std.specs.Prelude.{MatchOption, is_some, option_map}
+use Rattle.iop_base.specs.Numbers.{one_if}
 use Rattle.iop_base.specs.declared.stop.Stop.TheVariants.{Quiet}
-use Rattle.iop_exec.specs.Arithmetic.{one_if}
 use Rattle.iop_exec.specs.Row.{row}
 use Rattle.iop_kernel.specs.Deliveries.{Delivered, delivers, may_deliver}
 use Rattle.iop_kernel.specs.Dispatching.{Dispatched, dispatches}

@@ -1,8 +1,8 @@
 -- How many steps execute no instruction at most, if no more instruction is executed.
 use Rattle.std.proofs.Common.{◌≡◌, ℕ, ◌+◌, ◌*◌, ◌<◌, ◌≤◌, Bool, true, false, not, Option, Some, None, length, refl, ap, sym, ◌∙◌, arith, subst}
 use Rattle.std.specs.Prelude.{is_some}
+use Rattle.iop_base.specs.Numbers.{one_if}
 use Rattle.iop_base.specs.declared.stop.Stop.{Stop}
-use Rattle.iop_exec.specs.Arithmetic.{one_if}
 use Rattle.iop_kernel.specs.Deliveries.{delivers}
 use Rattle.iop_kernel.specs.Dispatching.{dispatches}
 use Rattle.iop_kernel.specs.System.{Kernel, in_handler, is_active}

@@ -2,8 +2,8 @@
 -- what comes before 2^63.
 use Rattle.std.proofs.Common.{◌≡◌, ℕ, zero, suc, ◌+◌, ◌-◌, ◌≤◌, ◌^◌, max, Bool, true, false, Option, Some, None, refl, ap, sym, ◌∙◌, arith, subst}
 use Rattle.std.specs.Prelude.{IfSome}
+use Rattle.iop_base.specs.Numbers.{one_if}
 use Rattle.iop_base.specs.declared.stop.Stop.{Stop}
-use Rattle.iop_exec.specs.Arithmetic.{one_if}
 use Rattle.iop_exec.specs.Row.{Row, Goes, Serves, Faults, at_next, row}
 use Rattle.iop_kernel.specs.Deliveries.{Delivered, delivers}
 use Rattle.iop_kernel.specs.Dispatching.{Dispatched, dispatches}

@@ -1,10 +1,10 @@
 -- What one call of `advance` did of a run.
 use Rattle.std.specs.Prelude.{◌≡◌, ℕ, suc, ◌+◌, ◌-◌, ◌*◌, ◌<◌, not, Bool, true, false, ⊤, Option, Some, None, is_some, [], length}
+use Rattle.iop_base.specs.Numbers.{one_if}
 use Rattle.iop_base.specs.Output.{Output, Gives}
 use Rattle.iop_base.specs.declared.stop.Stop.{Stop}
 use Rattle.iop_kernel.specs.Deliveries.{delivers}
 use Rattle.iop_kernel.specs.Dispatching.{dispatches}
-use Rattle.iop_exec.specs.Arithmetic.{one_if}
 use Rattle.iop_time.specs.declared.ticks.TheConstants.{NEVER}
 use Rattle.iop_kernel.specs.declared.kernel.Kernel.{Kernel}
 use Rattle.iop_machine.specs.Looking.{takes_events}

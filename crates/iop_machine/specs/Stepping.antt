@@ -1,9 +1,9 @@
 -- The steps of the machine, and its whole runs: this project's profile.
 use Rattle.std.specs.Prelude.{ℕ, zero, suc, ◌+◌, ◌-◌, ◌*◌, Bool, true, false, Option, Some, None, List, [], ◌∷◌, ◌++◌, length}
+use Rattle.iop_base.specs.Numbers.{one_if}
 use Rattle.iop_base.specs.Piece.{Piece}
 use Rattle.iop_base.specs.declared.stop.Stop.{Stop}
 use Rattle.iop_base.specs.declared.stop.Stop.TheVariants.{Quiet, Budget}
-use Rattle.iop_exec.specs.Arithmetic.{one_if}
 use Rattle.iop_exec.specs.Row.{Row, Goes, Serves, Faults, Storing, at_next, row}
 use Rattle.iop_kernel.specs.Deliveries.{Delivered, delivers}
 use Rattle.iop_kernel.specs.Dispatching.{Dispatched, dispatches}

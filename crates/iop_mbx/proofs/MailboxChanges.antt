@@ -8,10 +8,11 @@ use Rattle.std.proofs.lemmas.List.Kept.{AllPairs-filter}
 use Rattle.std.proofs.lemmas.List.Quantifiers.{all_pairs_push}
 use Rattle.iop_base.specs.declared.code.Code.{Code}
 use Rattle.iop_base.specs.declared.code.TheConstants.Code.{NO_MEMORY}
+use Rattle.iop_base.specs.declared.limits.TheConstants.{LAST_ID}
 use Rattle.iop_objects.specs.Objects.{Object, Objects, object_of, state_of, has_room, creates, deletes, with_state}
 use Rattle.iop_objects.specs.Owners.{queue_of, Replaces}
 use Rattle.iop_objects.specs.declared.objects.Live.{Live}
-use Rattle.iop_objects.specs.declared.objects.TheConstants.{LAST_ID, MOST_OBJECTS}
+use Rattle.iop_objects.specs.declared.objects.TheConstants.{MOST_OBJECTS}
 use Rattle.iop_objects.specs.declared.queued.Queued.{Queued}
 use Rattle.iop_objects.specs.declared.queues.Owned.{Owned}
 use Rattle.iop_objects.proofs.MappedLists.{filter-map}

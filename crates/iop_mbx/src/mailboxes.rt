@@ -181,7 +181,8 @@ impl Mailboxes {
     /// Takes the thread out that is next among those that wait for a mailbox. None exactly where none
     /// waits, or no mailbox of this id is live.
     pub fn pop_waiter(&mut self, id: u32) -> Option<u32>
-        ensures answer { result ≡ option_map (λ waiter. waiter.thread) (takes_waiter self.old id).0 }
+        ensures answer { let taken = takes_waiter self.old id in
+            result ≡ option_map (λ waiter. waiter.thread) taken.0 }
         ensures left { self.new ≡ (takes_waiter self.old id).1 }
     {
         let by_priority = self.by_priority(id);

@@ -8,9 +8,10 @@ use Rattle.std.proofs.lemmas.List.Kept.{AllPairs-filter}
 use Rattle.std.proofs.lemmas.List.Quantifiers.{all_pairs_push}
 use Rattle.std.proofs.lemmas.List.Sums.{length-filter, count_by-le-length}
 use Rattle.std.proofs.lemmas.Grind.{length_at_push}
+use Rattle.iop_base.specs.declared.limits.TheConstants.{LAST_ID}
 use Rattle.iop_objects.specs.Objects.{Object, Objects, AreObjects, object_of, changes, deletes}
 use Rattle.iop_objects.specs.Laws.{IsChangeOf, GivesNoId}
-use Rattle.iop_objects.specs.declared.objects.TheConstants.{LAST_ID, MOST_OBJECTS}
+use Rattle.iop_objects.specs.declared.objects.TheConstants.{MOST_OBJECTS}
 
 module _ {A W : Type 0} where
   abbrev pub TwoIds : Object A W → Object A W → Type 0

@@ -10,12 +10,13 @@ use Rattle.std.proofs.lemmas.List.Quantifiers.{all_pairs_push}
 use Rattle.std.proofs.lemmas.List.Sums.{sum_by-cons, length-filter, count_by-le-length}
 use Rattle.iop_base.specs.declared.code.Code.{Code}
 use Rattle.iop_base.specs.declared.code.TheConstants.Code.{NO_MEMORY}
+use Rattle.iop_base.specs.declared.limits.TheConstants.{LAST_ID}
 use Rattle.iop_objects.specs.Objects.{Object, Objects, AreObjects, state_of, waiters_in, waiters_of, waiting, has_room, creates, deletes, takes}
 use Rattle.iop_objects.specs.Owners.{queue_of}
 use Rattle.iop_objects.specs.Queue.{Choice}
 use Rattle.iop_objects.specs.Standing.{object_in, objects_in, IsTable}
 use Rattle.iop_objects.specs.declared.objects.Live.{Live}
-use Rattle.iop_objects.specs.declared.objects.TheConstants.{LAST_ID, MOST_OBJECTS}
+use Rattle.iop_objects.specs.declared.objects.TheConstants.{MOST_OBJECTS}
 use Rattle.iop_objects.specs.declared.queued.Queued.{Queued}
 use Rattle.iop_objects.specs.declared.queues.Owned.{Owned}
 use Rattle.iop_objects.specs.declared.waiter.Waiter.{Waiter}

@@ -1,9 +1,10 @@
 -- How the program's table stands for the objects: the threads that wait for all of them stand in one list.
 use Rattle.std.specs.Prelude.{◌≡◌, ◌≢◌, ℕ, ◌+◌, ◌<◌, ◌≤◌, List, length, map, All, AllPairs}
+use Rattle.iop_base.specs.declared.limits.TheConstants.{LAST_ID}
 use Rattle.iop_objects.specs.Objects.{Object, Objects, waiting}
 use Rattle.iop_objects.specs.Owners.{queue_of}
 use Rattle.iop_objects.specs.declared.objects.Live.{Live}
-use Rattle.iop_objects.specs.declared.objects.TheConstants.{FIRST_ID, LAST_ID, MOST_OBJECTS}
+use Rattle.iop_objects.specs.declared.objects.TheConstants.{FIRST_ID, MOST_OBJECTS}
 use Rattle.iop_objects.specs.declared.queues.Owned.{Owned}
 use Rattle.iop_objects.specs.declared.waiter.Waiter.{Waiter}
 

@@ -12,7 +12,7 @@ mod waiter;
 mod waiting;
 
 pub use condition::Condition;
-pub use objects::{FIRST_ID, LAST_ID, MOST_OBJECTS, MOST_WAITERS, Objects};
+pub use objects::{FIRST_ID, MOST_OBJECTS, MOST_WAITERS, Objects};
 pub use queued::Queued;
 pub use queues::Queues;
 pub use waiter::Waiter;

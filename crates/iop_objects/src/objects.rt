@@ -6,15 +6,12 @@ use crate::condition::Condition;
 use crate::queued::Queued;
 use crate::queues::Queues;
 use crate::waiter::Waiter;
-use iop_base::Code;
+use iop_base::{Code, LAST_ID};
 use std::alloc::{AllocError, Global};
 use std::marker::Model;
 
 /// The id of the first object.
 pub const FIRST_ID: u32 = 1;
-
-/// The last id that an object can have.
-pub const LAST_ID: u32 = 0x7FFF_FFFF;
 
 /// The most objects of one kind that can be live.
 pub const MOST_OBJECTS: usize = 255;

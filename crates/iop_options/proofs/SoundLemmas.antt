@@ -4,9 +4,9 @@ use Rattle.std.specs.Option.{option_map}
 use Rattle.std.specs.List.{list_all}
 use Rattle.std.proofs.lemmas.List.Elements.{All-nil, All-cons}
 use Rattle.clap.proofs.WalkLemmas.{both}
+use Rattle.iop_base.specs.declared.limits.TheConstants.{MOST_WORKERS}
 use Rattle.iop_options.specs.Values.{budget_of, script_of, workers_of}
 use Rattle.iop_options.specs.Commands.{AreModules, is_module, has_its_modules, if_given}
-use Rattle.iop_generator.specs.declared.source.TheConstants.{MOST_WORKERS}
 use Rattle.iop_options.specs.declared.limits.TheConstants.{MOST_BUDGET, LONGEST_WORD}
 use Rattle.iop_script.specs.declared.statements.TheConstants.{MOST_MODULES}
 use Rattle.iop_options.proofs.NumberLemmas.{number_between}

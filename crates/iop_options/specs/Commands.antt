@@ -1,9 +1,9 @@
 -- Which words are a command, and what they choose: this project's own profile.
 use Rattle.std.specs.Prelude.{◌≡◌, ℕ, ◌≤◌, ◌==◌, nat_le, Bool, ◌&&◌, if◌then◌else◌, Option, Some, None, option_map, option_and_then, IfSome, MatchOption, All, codes, List, [], length}
 use Rattle.std.specs.List.{list_all}
+use Rattle.iop_base.specs.declared.limits.TheConstants.{MOST_WORKERS}
 use Rattle.iop_options.specs.Parts.{Part, parts_from, unless_repeated, value_of, files_of}
 use Rattle.iop_options.specs.Values.{DumpRange, budget_of, script_of, workers_of, dump_of}
-use Rattle.iop_generator.specs.declared.source.TheConstants.{MOST_WORKERS}
 use Rattle.iop_options.specs.declared.limits.TheConstants.{MOST_BUDGET, LONGEST_WORD}
 use Rattle.iop_script.specs.declared.statements.TheConstants.{MOST_MODULES}
 

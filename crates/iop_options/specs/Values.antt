@@ -2,8 +2,8 @@
 use Rattle.std.specs.Prelude.{◌≡◌, ℕ, ◌≤◌, true, ◌-◌, ◌^◌, ◌==◌, nat_le, Bool, ◌&&◌, if◌then◌else◌, Option, Some, None, option_and_then, is_some, List, length}
 use Rattle.std.specs.List.{before_first, after_first}
 use Rattle.iop_base.specs.Places.{range_at}
+use Rattle.iop_base.specs.declared.limits.TheConstants.{MOST_WORKERS}
 use Rattle.iop_options.specs.Numbers.{number_of}
-use Rattle.iop_generator.specs.declared.source.TheConstants.{MOST_WORKERS}
 use Rattle.iop_options.specs.declared.limits.TheConstants.{MEMORY_SIZE, DEFAULT_BUDGET, MOST_BUDGET, LONGEST_DUMP, MOST_HEX_DIGITS}
 
 -- a range of the guest's memory

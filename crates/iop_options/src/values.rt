@@ -8,7 +8,7 @@ ghost use Rattle.iop_options.specs.Commands.{if_given};
 use crate::dump_range::DumpRange;
 use crate::limits::{DEFAULT_BUDGET, LONGEST_DUMP, MEMORY_SIZE, MOST_BUDGET, MOST_HEX_DIGITS};
 use crate::numbers::number_of;
-use iop_generator::MOST_WORKERS;
+use iop_base::MOST_WORKERS;
 use iop_ram::physical;
 
 /// Reads how many instructions a run may execute: decimal, at most `MOST_BUDGET`.

@@ -106,8 +106,8 @@ fn append_number(text: &mut Text, conversion: &Conversion, notation: Notation, n
 /// Appends the string at an address as a conversion prints it: at most as many bytes as its
 /// precision. Without one no more is read than can show or count for the width.
 fn append_string(text: &mut Text, ram: &Ram, conversion: &Conversion, at: u32)
-    ensures { text.new.items ≡ take LONGEST (text.old.items
-        ++ padded conversion.now (string_front conversion.now.precision (string_or_null ram.now at))) }
+    ensures { let shown = string_front conversion.now.precision (string_or_null ram.now at) in
+        text.new.items ≡ take LONGEST (text.old.items ++ padded conversion.now shown) }
 {
     let shown = conversion.width.max(LONGEST as u32);
     let most = conversion.precision.unwrap_or(shown);

@@ -91,7 +91,8 @@ impl Ram {
 
     /// The place of an access of this width.
     fn access(&self, at: u32, width: Width) -> Result<usize, Bad>
-        ensures place { result ≡ ok_or (access_at (length self.now) at (width_bytes width)) (record {}) }
+        ensures place { let place = access_at (length self.now) at (width_bytes width) in
+            result ≡ ok_or place (record {}) }
         ensures inside { IfOk result (λ p. p + width_bytes width ≤ length self.now) }
         ensures sized { IsRamSize (length self.now) }
     {

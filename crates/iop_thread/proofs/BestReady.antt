@@ -5,10 +5,10 @@ use Rattle.std.proofs.lemmas.List.Elements.{All-append, All-cons, All-head, All-
 use Rattle.iop_base.specs.Choosing.{better, best}
 use Rattle.iop_base.specs.Laws.{IsFirstOfLeast}
 use Rattle.iop_base.proofs.ChoosingLemmas.{best_is_first}
+use Rattle.iop_base.specs.Numbers.{one_if}
 use Rattle.iop_thread.specs.declared.thread.Thread.{Thread}
 use Rattle.iop_thread.specs.States.{is_ready}
 use Rattle.iop_thread.specs.ThreadTable.{ThreadTable, thread_of, priority_of, best_ready}
-use Rattle.iop_exec.specs.Arithmetic.{one_if}
 use Rattle.iop_thread.specs.Placing.{IsPlaced, is_in_state}
 use Rattle.iop_thread.specs.Laws.{IsBest}
 use Rattle.iop_thread.proofs.LiveThreads.{changed, thread_of_changed, thread_of_id}

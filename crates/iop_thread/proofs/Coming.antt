@@ -6,15 +6,16 @@ use Rattle.std.proofs.lemmas.Option.{same_Some}
 use Rattle.std.proofs.lemmas.List.{length-set}
 use Rattle.std.proofs.lemmas.List.Elements.{All-nil}
 use Rattle.std.specs.List.{position}
+use Rattle.iop_base.specs.Numbers.{one_if}
+use Rattle.iop_base.specs.declared.limits.TheConstants.{LAST_ID}
 use Rattle.iop_ready.specs.declared.slot.TheConstants.{MOST_THREADS}
 use Rattle.iop_ready.specs.declared.entry.Entry.{Entry}
 use Rattle.iop_ready.specs.ReadyList.{entry_of}
 use Rattle.iop_thread.specs.declared.thread.Thread.{Thread}
-use Rattle.iop_thread.specs.declared.thread.TheConstants.{LAST_ID, LOADER, LOADER_STACK}
+use Rattle.iop_thread.specs.declared.thread.TheConstants.{LOADER, LOADER_STACK}
 use Rattle.iop_thread.specs.declared.threads.Threads.{Threads}
 use Rattle.iop_thread.specs.Operations.{dormant_thread, loader_param, opening}
 use Rattle.iop_thread.specs.ThreadTable.{ThreadTable, thread_of, has_room}
-use Rattle.iop_exec.specs.Arithmetic.{one_if}
 use Rattle.iop_thread.specs.ThreadPlaces.{thread_at, HasAlone}
 use Rattle.iop_thread.specs.Moves.{IsIn, HasNotId}
 use Rattle.iop_thread.specs.Standing.{Holds, entry_in}

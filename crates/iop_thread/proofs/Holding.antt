@@ -6,13 +6,13 @@ use Rattle.std.proofs.lemmas.Bool.{eqb-true, eqb-false}
 use Rattle.std.proofs.lemmas.Option.{same_Some}
 use Rattle.std.proofs.lemmas.List.{length-set}
 use Rattle.std.proofs.lemmas.List.Elements.{All-weaker}
+use Rattle.iop_base.specs.Numbers.{one_if}
 use Rattle.iop_ready.specs.declared.entry.Entry.{Entry}
 use Rattle.iop_ready.specs.ReadyList.{entry_of}
 use Rattle.iop_thread.specs.declared.found.Found.{Found}
 use Rattle.iop_thread.specs.declared.thread.Thread.{Thread}
 use Rattle.iop_thread.specs.declared.threads.Threads.{Threads}
 use Rattle.iop_thread.specs.ThreadTable.{ThreadTable, thread_of, priority_of, with_thread}
-use Rattle.iop_exec.specs.Arithmetic.{one_if}
 use Rattle.iop_thread.specs.ThreadPlaces.{thread_at, place_of}
 use Rattle.iop_thread.specs.Moves.{IsIn, IsThere, HasNotId, CanBecome}
 use Rattle.iop_thread.specs.Standing.{Holds, entry_in}

@@ -1,13 +1,13 @@
 -- A thread leaves where it is, is in hand, and arrives elsewhere: then all are placed again.
 use Rattle.std.proofs.Common.{◌≡◌, ℕ, ◌<◌, ◌==◌, Bool, true, false, if◌then◌else◌, option_map, unwrap_or, Option, Some, None, List, [], ◌∷◌, ◌++◌, All, refl, ap, ◌∙◌, arith}
 use Rattle.std.proofs.lemmas.Bool.Decides.{nat_tests}
+use Rattle.iop_base.specs.Numbers.{one_if}
 use Rattle.iop_exec.specs.declared.cpu.Cpu.{Cpu}
 use Rattle.iop_thread.specs.declared.state.State.{State}
 use Rattle.iop_thread.specs.declared.state.State.TheVariants.{Dormant, Running, Ready, Waiting, Suspended, WaitingSuspended}
 use Rattle.iop_thread.specs.declared.thread.Thread.{Thread}
 use Rattle.iop_thread.specs.States.{is_ready, is_running}
 use Rattle.iop_thread.specs.ThreadTable.{ThreadTable, thread_of, is_it, in_state, with_thread, without, ready_last, ready_first, leaves, runs}
-use Rattle.iop_exec.specs.Arithmetic.{one_if}
 use Rattle.iop_thread.specs.Placing.{IsPlaced, times, is_in_state}
 use Rattle.iop_thread.proofs.LiveThreads.{changed, HaveOwnIds, thread_of_changed, own_ids_changed, given_changed}
 use Rattle.iop_thread.proofs.ReadyIds.{times_first, times_last, times_without}

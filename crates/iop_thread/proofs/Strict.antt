@@ -4,13 +4,13 @@ use Rattle.std.proofs.Common.{◌≡◌, ℕ, ◌<◌, ◌≤◌, nat_lt, Bool, 
 use Rattle.std.proofs.lemmas.Bool.{ltb-true, ltb-false}
 use Rattle.std.proofs.lemmas.List.Elements.{All-nil, All-weaker}
 use Rattle.std.proofs.lemmas.Option.{cond_some, same_Some}
+use Rattle.iop_base.specs.Numbers.{one_if}
 use Rattle.iop_exec.specs.declared.cpu.Cpu.{Cpu}
 use Rattle.iop_thread.specs.declared.state.State.TheVariants.{Ready}
 use Rattle.iop_thread.specs.declared.thread.Thread.{Thread}
 use Rattle.iop_thread.specs.States.{is_ready}
 use Rattle.iop_thread.specs.ThreadTable.{ThreadTable, thread_of, priority_of, ready_first, runs, running_thread, best_ready, without}
 use Rattle.iop_thread.specs.Operations.{Dispatch, ready_registers, dispatches_it, dispatches_by, dispatches}
-use Rattle.iop_exec.specs.Arithmetic.{one_if}
 use Rattle.iop_thread.specs.Placing.{IsPlaced, times, is_in_state}
 use Rattle.iop_thread.specs.Laws.{IsBest, IsDispatched, IsSettled, DispatchIsStrict}
 use Rattle.iop_thread.proofs.BestReady.{is_best, best_is_least, none_ready}

@@ -1,6 +1,6 @@
 -- Where threads stand, at all times (ps2sdk: thread.h): a law of the operations.
 use Rattle.std.specs.Prelude.{◌≡◌, ◌≢◌, ℕ, ◌<◌, ◌==◌, Bool, false, option_map, unwrap_or, List, length, filter, All, AllPairs}
-use Rattle.iop_exec.specs.Arithmetic.{one_if}
+use Rattle.iop_base.specs.Numbers.{one_if}
 use Rattle.iop_thread.specs.declared.state.State.{State}
 use Rattle.iop_thread.specs.declared.thread.Thread.{Thread}
 use Rattle.iop_thread.specs.States.{is_ready, is_running}

@@ -17,8 +17,8 @@ mod wait;
 pub use param::Param;
 pub use state::State;
 pub use thread::{
-    LAST_ID, LOADER, LOADER_ATTRIBUTE, LOADER_PRIORITY, LOADER_STACK, LOADER_STACK_SIZE,
-    MOST_WAKEUPS, THREAD_RETURN, Thread, registers_at,
+    LOADER, LOADER_ATTRIBUTE, LOADER_PRIORITY, LOADER_STACK, LOADER_STACK_SIZE, MOST_WAKEUPS,
+    THREAD_RETURN, Thread, registers_at,
 };
 pub use threads::Threads;
 pub use wait::Wait;

@@ -11,9 +11,6 @@ use iop_ready::Priority;
 /// The id of the loader's thread.
 pub const LOADER: u32 = 1;
 
-/// The greatest id of a thread.
-pub const LAST_ID: u32 = 0x7FFF_FFFF;
-
 /// The most wakeups that a thread can have.
 pub const MOST_WAKEUPS: u32 = 0x7FFF_FFFF;
 

@@ -10,9 +10,9 @@ use crate::found::Found;
 use crate::param::Param;
 use crate::places::Places;
 use crate::state::State;
-use crate::thread::{LAST_ID, LOADER, Thread};
+use crate::thread::{LOADER, Thread};
 use crate::wait::Wait;
-use iop_base::Code;
+use iop_base::{Code, LAST_ID};
 use iop_exec::Cpu;
 use iop_ready::{Priority, Ready, Slot};
 use std::alloc::{AllocError, Global};
@@ -234,7 +234,8 @@ impl<R: Ready> Threads<R> {
         requires sound { IsSound R.stands self.old }
         requires there { IsThere self.old.places found.now }
         ensures { (s : ThreadTable) → Stands R.stands self.old s
-            → Leaves R.stands (resumes_in s found.now.thread found.now.thread.state) result self.new }
+            → let thread = found.now.thread in
+            Leaves R.stands (resumes_in s thread thread.state) result self.new }
     {
         match found.thread.state {
             State::Suspended(own) => {

@@ -127,7 +127,8 @@ impl<'a> Irx<'a> {
 #[tactic(auto, unfolding(crate::specs::Rules::segment_rules))]
 fn find_parts<'a>(file: &IrxFile<'a>) -> Result<(Info<'a>, Segment), Illegal>
     ensures unmet { TellsUnmet (segment_rules file.now.bytes.now) result }
-    ensures info { IfOk result (λ parts. information_of parts.0 ≡ module_information file.now.bytes.now) }
+    ensures info { IfOk result (λ parts.
+        information_of parts.0 ≡ module_information file.now.bytes.now) }
     ensures image { IfOk result (λ parts. parts.1 ≡ image_segment file.now.bytes.now) }
 {
     let part = file

@@ -21,7 +21,8 @@ pub(crate) struct SectionTable<'a> {
 impl<'a> SectionTable<'a> {
     /// Takes the section headers of a file. `None` exactly where they do not lie in it.
     pub fn new(file: &IrxFile<'a>) -> Option<Self>
-        ensures inside { is_some result ≡ has_sections file.now.bytes.now (file_header file.now.bytes.now) }
+        ensures inside { let bytes = file.now.bytes.now in
+            is_some result ≡ has_sections bytes (file_header bytes) }
         ensures file { IfSome result (λ table. table.file ≡ file.now) }
     {
         if file.header.has_sections(file.bytes) {

@@ -38,7 +38,8 @@ impl<'a> Model for Checked<'a> {
       sections = all_entries checked.relocations;
     } };
 
-    ghost invariant = { λ checked. misfit checked.image_length (all_entries checked.relocations) ≡ None };
+    ghost invariant = { λ checked.
+        misfit checked.image_length (all_entries checked.relocations) ≡ None };
 }
 
 impl<'a> Checked<'a> {
@@ -125,9 +126,10 @@ fn misfit(length: u32, relocations: &Relocations<'_>) -> Option<Illegal>
 /// supplement, the rules this project's profile. It costs one look at each entry, and one more in
 /// search of the LO16 entries, however many HI16 there are.
 pub fn check<'a>(length: u32, relocations: Relocations<'a>) -> Result<Checked<'a>, Illegal>
-    ensures checked { IfOk result (λ checked. checked ≡ fitting_entries length (all_entries relocations.entry)) }
-    ensures misfit { MatchResult result (λ checked. misfit length (all_entries relocations.entry) ≡ None)
-        (λ illegal. misfit length (all_entries relocations.entry) ≡ Some illegal) }
+    ensures checked { IfOk result (λ checked.
+        checked ≡ fitting_entries length (all_entries relocations.entry)) }
+    ensures misfit { let found = misfit length (all_entries relocations.entry) in
+        MatchResult result (λ checked. found ≡ None) (λ illegal. found ≡ Some illegal) }
 {
     match misfit(length, &relocations) {
         Some(illegal) => Err(illegal),

@@ -47,7 +47,8 @@ fn apply(image: &mut [u8], entry: Entry, low: u16, base: u32)
 /// Reads the low half of the word at the site of the LO16 entry of an index; 0 past the entries.
 fn low_half(image: &[u8], section: &[u8], index: usize) -> u16
     requires fits { section_misfit (length image.now) (entries_of section.now) ≡ None }
-    requires low { index < length (entries_of section.now) → is_low_at (entries_of section.now) index ≡ true }
+    requires low { let entries = entries_of section.now in
+        index < length entries → is_low_at entries index ≡ true }
     ensures { result ≡ half_of image.now (slice_get (entries_of section.now) index) }
 {
     if index < Entry::count(section) {

@@ -20,7 +20,8 @@ pub(crate) struct ImportTable<'a> {
     text: &'a Text,
     /// What the table says, and where it stands.
     pub import: Import,
-    ghost stands: { option_map import_of (table_at text.now.ram text.now.size import.at) ≡ Some import },
+    ghost stands: { let table = table_at text.now.ram text.now.size import.at in
+        option_map import_of table ≡ Some import },
     ghost aligned: { import.at % 4 ≡ 0 },
 }
 

@@ -1,5 +1,5 @@
 use Rattle.std.proofs.Common.{◌≡◌, false, ap, sym, ◌∙◌}
-use Rattle.iop_exec.specs.Arithmetic.{one_if}
+use Rattle.iop_base.specs.Numbers.{one_if}
 use Rattle.iop_kernel.specs.Interrupts.{suspended_code}
 use Rattle.iop_kernel.specs.Standing.{board}
 use Rattle.iop_kernel.proofs.InterruptCalls.{number_is, suspends_there}
