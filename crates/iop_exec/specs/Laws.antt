@@ -1,5 +1,5 @@
 -- What the laws on rows say.
-use Rattle.std.specs.Prelude.{◌≡◌, ℕ, List}
+use Rattle.std.specs.Prelude.{◌≡◌, ℕ, List, length, slice_index}
 use Rattle.iop_exec.specs.declared.cpu.Cpu.{Cpu}
 use Rattle.iop_exec.specs.Processors.{IsStraight}
 use Rattle.iop_exec.specs.Row.{Row, Goes, Serves, Faults, at_next, row}
@@ -22,3 +22,15 @@ RowsGoToNext = (memory : List ℕ) (c : Cpu) → GoesToNext c (row memory c)
 abbrev pub RowsStayStraight : Type 0
 RowsStayStraight =
     (memory : List ℕ) (c : Cpu) → IsStraight c → IsStraight (cpu_after c (row memory c))
+
+-- what holds of a processor at all times
+pub record IsSteady (c : Cpu) : Type 0 where
+  -- outside a delay slot the next instruction is the one behind
+  pub straight : IsStraight c
+  pub registers : length c.regs ≡ 32
+  -- what is written to register 0 is dropped
+  pub zero : slice_index c.regs 0 ≡ 0
+
+abbrev pub RowsStaySteady : Type 0
+RowsStaySteady =
+    (memory : List ℕ) (c : Cpu) → IsSteady c → IsSteady (cpu_after c (row memory c))

@@ -177,128 +177,116 @@ failed_sink : (piece : Piece) (old new : Output) → FailsAt piece old new
 failed_sink (Traced bytes) old new f = inl f.0
 failed_sink (Told bytes) old new f = inr f.0
 
-module _ {script : Option NamedFile} {files : List NamedFile} {status : Status} {old new : Output}
-  where
-    -- a refusal writes nothing to the console
-    pub ended_console : Ended script files status old new → IsRefusalCode (status_code status)
-        → ConsoleSame old new
-    ended_console (without_memory e h) r = record {
-      taken = ap (λ (s : Output). s.console) h;
-      faults = ap (λ (s : Output). s.console_faults) h;
+-- a run's status is below those of the other answers, but for that of a run that was cut
+pub not_ran : (n : ℕ) → 20 ≤ n → n ≢ 24 → IsRanCode n → ⊥
+not_ran n high other r = elim r [
+  | inl run ↦ elim run [
+    | inl e ↦ omega (arith, e, high)
+    | inr f ↦ elim f [ inl e ↦ omega (arith, e, high) | inr e ↦ omega (arith, e, high) ]
+  ]
+  | inr cut ↦ other cut
+]
+
+-- what the answer shows
+pub record Shows (script : Option NamedFile) (files : List NamedFile) (status : Status)
+    (old new : Output) : Type 0 where
+  -- there is no other status, and 20 and 22 have other causes
+  pub exit : IsExitCode (status_code status)
+  pub not_twenty : status_code status ≡ 20 → ⊥
+  pub not_twenty_two : status_code status ≡ 22 → ⊥
+  pub ran : IsRanCode (status_code status) → IsRun script files
+  -- 21 and 23, and their lines
+  pub bad : status_code status ≡ 21 → IsBad script old new
+  pub too_long : status_code status ≡ 23 → IsLong script files old new
+  -- 24, and the counts of the sinks
+  pub cut : status_code status ≡ 24
+      → HasCause old.trace_faults new.trace_faults
+      ⊎ HasCause old.console_faults new.console_faults
+  pub cut_shows : new.trace_faults ≢ old.trace_faults → IsCutCode (status_code status)
+  pub console_shows : new.console_faults ≢ old.console_faults → status_code status ≡ 24
+  -- a refusal writes nothing to the console, and 30 nothing at all
+  pub console : IsRefusalCode (status_code status) → ConsoleSame old new
+  pub memory : status_code status ≡ 30 → new ≡ old
+
+pub shows : {script : Option NamedFile} {files : List NamedFile} {status : Status}
+    {old new : Output} → Ended script files status old new → Shows script files status old new
+shows {status = status} (without_memory e h) =
+    let code : status_code status ≡ 30 = ap status_code e in
+    record {
+      exit = inr (inr (inr code));
+      not_twenty = λ s. omega (arith, s, code);
+      not_twenty_two = λ s. omega (arith, s, code);
+      ran = λ r. absurd (not_ran _ (omega arith) (λ s. omega (arith, s, code)) r);
+      bad = λ s. absurd (omega (arith, s, code));
+      too_long = λ s. absurd (omega (arith, s, code));
+      cut = λ s. absurd (omega (arith, s, code));
+      cut_shows = λ other. absurd (other (ap (λ (s : Output). s.trace_faults) h));
+      console_shows = λ other. absurd (other (ap (λ (s : Output). s.console_faults) h));
+      console = λ r. record {
+        taken = ap (λ (s : Output). s.console) h;
+        faults = ap (λ (s : Output). s.console_faults) h;
+      };
+      memory = λ s. h;
     }
-    ended_console (as_too_long long is e h) r =
-        refusal_console (too_long_line long.name) old new h
-    ended_console (as_bad_script named number is e h) r =
-        refusal_console (bad_script_line number) old new h
-    ended_console (by_run fit good stop e h) r =
-        let range = refusal_range r in absurd (omega (arith, range.0, run_low stop e))
-    ended_console (by_cut fit good pieces e h) r =
-        let range = refusal_range r in absurd (omega (arith, range.1, ap status_code e))
-
-    -- neither 20 nor 22
-    other_code : (n : ℕ) → Ended script files status old new → 20 ≤ n → n < 23 → n ≢ 21
-        → status_code status ≡ n → ⊥
-    other_code n (without_memory e h) low high other s = omega (arith, high, s, ap status_code e)
-    other_code n (as_too_long long is e h) low high other s =
-        omega (arith, high, s, ap status_code e)
-    other_code n (as_bad_script named number is e h) low high other s =
-        other (sym s ∙ ap status_code e)
-    other_code n (by_run fit good stop e h) low high other s = omega (arith, low, s, run_low stop e)
-    other_code n (by_cut fit good pieces e h) low high other s = omega (arith, high, s, ap status_code e)
-
-    pub not_twenty : Ended script files status old new → status_code status ≡ 20 → ⊥
-    not_twenty e s = other_code 20 e (omega arith) (omega arith) (λ f. omega (arith, f)) s
-
-    pub not_twenty_two : Ended script files status old new → status_code status ≡ 22 → ⊥
-    not_twenty_two e s = other_code 22 e (omega arith) (omega arith) (λ f. omega (arith, f)) s
-
-    -- a run's status comes only there
-    ended_run : Ended script files status old new → IsRunCode (status_code status)
-        → IsRun script files
-    ended_run (without_memory e h) r = absurd (omega (arith, low_code r, ap status_code e))
-    ended_run (as_too_long long is e h) r = absurd (omega (arith, low_code r, ap status_code e))
-    ended_run (as_bad_script named number is e h) r =
-        absurd (omega (arith, low_code r, ap status_code e))
-    ended_run (by_run fit good stop e h) r = record { fit = fit; good = good }
-    ended_run (by_cut fit good pieces e h) r = absurd (omega (arith, low_code r, ap status_code e))
-
-    -- and so does that of a run that was cut
-    ended_cut_run : Ended script files status old new → status_code status ≡ 24
-        → IsRun script files
-    ended_cut_run (without_memory e h) s = absurd (omega (arith, ap status_code e, s))
-    ended_cut_run (as_too_long long is e h) s = absurd (omega (arith, ap status_code e, s))
-    ended_cut_run (as_bad_script named number is e h) s =
-        absurd (omega (arith, ap status_code e, s))
-    ended_cut_run (by_run fit good stop e h) s = record { fit = fit; good = good }
-    ended_cut_run (by_cut fit good pieces e h) s = record { fit = fit; good = good }
-
-    pub ended_ran : Ended script files status old new → IsRanCode (status_code status)
-        → IsRun script files
-    ended_ran e r = elim r [ inl run ↦ ended_run e run | inr cut ↦ ended_cut_run e cut ]
-
-    -- 23, and its line
-    pub ended_too_long : Ended script files status old new → status_code status ≡ 23
-        → IsLong script files old new
-    ended_too_long (without_memory e h) s = absurd (omega (arith, ap status_code e, s))
-    ended_too_long (as_too_long long is e h) s = record { long = long; is_first = is; line = h }
-    ended_too_long (as_bad_script named number is e h) s =
-        absurd (omega (arith, ap status_code e, s))
-    ended_too_long (by_run fit good stop e h) s = absurd (omega (arith, run_low stop e, s))
-    ended_too_long (by_cut fit good pieces e h) s = absurd (omega (arith, ap status_code e, s))
-
-    -- 21, and its line
-    pub ended_bad : Ended script files status old new → status_code status ≡ 21
-        → IsBad script old new
-    ended_bad (without_memory e h) s = absurd (omega (arith, ap status_code e, s))
-    ended_bad (as_too_long long is e h) s = absurd (omega (arith, ap status_code e, s))
-    ended_bad (as_bad_script named number is e h) s =
-        record { named = named; number = number; is_bad = is; line = h }
-    ended_bad (by_run fit good stop e h) s = absurd (omega (arith, run_low stop e, s))
-    ended_bad (by_cut fit good pieces e h) s = absurd (omega (arith, ap status_code e, s))
-
-    -- 24, and the counts of the sinks
-    pub ended_cut : Ended script files status old new → status_code status ≡ 24
-        → HasCause old.trace_faults new.trace_faults
-        ⊎ HasCause old.console_faults new.console_faults
-    ended_cut (without_memory e h) s = absurd (omega (arith, ap status_code e, s))
-    ended_cut (as_too_long long is e h) s = absurd (omega (arith, ap status_code e, s))
-    ended_cut (as_bad_script named number is e h) s = absurd (omega (arith, ap status_code e, s))
-    ended_cut (by_run fit good stop e h) s = absurd (omega (arith, run_low stop e, s))
-    ended_cut (by_cut fit good pieces e h) s = failed_sink h.piece old new h.fails
-
-    pub ended_cut_shows : Ended script files status old new → new.trace_faults ≢ old.trace_faults
-        → IsCutCode (status_code status)
-    ended_cut_shows (without_memory e h) ne = absurd (ne (ap (λ (s : Output). s.trace_faults) h))
-    ended_cut_shows (as_too_long long is e h) ne = inr (inr (inr (inr (ap status_code e))))
-    ended_cut_shows (as_bad_script named number is e h) ne = inr (inr (inl (ap status_code e)))
-    ended_cut_shows (by_run fit good stop e h) ne = absurd (ne h.trace)
-    ended_cut_shows (by_cut fit good pieces e h) ne = inl (ap status_code e)
-
-    pub ended_console_shows : Ended script files status old new
-        → new.console_faults ≢ old.console_faults
-        → status_code status ≡ 24
-    ended_console_shows (without_memory e h) ne =
-        absurd (ne (ap (λ (s : Output). s.console_faults) h))
-    ended_console_shows (as_too_long long is e h) ne =
-        absurd (ne (refusal_console (too_long_line long.name) old new h).faults)
-    ended_console_shows (as_bad_script named number is e h) ne =
-        absurd (ne (refusal_console (bad_script_line number) old new h).faults)
-    ended_console_shows (by_run fit good stop e h) ne = absurd (ne h.console)
-    ended_console_shows (by_cut fit good pieces e h) ne = ap status_code e
-
-    -- there is no other status
-    pub ended_code : Ended script files status old new → IsExitCode (status_code status)
-    ended_code (without_memory e h) = inr (inr (inr (ap status_code e)))
-    ended_code (as_too_long long is e h) = inr (inl (inr (inr (inr (ap status_code e)))))
-    ended_code (as_bad_script named number is e h) = inr (inl (inr (inl (ap status_code e))))
-    ended_code (by_run fit good stop e h) =
-        inl (subst (λ (s : Status). IsRunCode (status_code s)) (sym e) (run_code stop))
-    ended_code (by_cut fit good pieces e h) = inr (inr (inl (ap status_code e)))
-
-    -- 30: no memory, and nothing written
-    pub ended_memory : Ended script files status old new → status_code status ≡ 30 → new ≡ old
-    ended_memory (without_memory e h) s = h
-    ended_memory (as_too_long long is e h) s = absurd (omega (arith, ap status_code e, s))
-    ended_memory (as_bad_script named number is e h) s = absurd (omega (arith, ap status_code e, s))
-    ended_memory (by_run fit good stop e h) s = absurd (omega (arith, run_low stop e, s))
-    ended_memory (by_cut fit good pieces e h) s = absurd (omega (arith, ap status_code e, s))
+shows {status = status} {old = old} {new = new} (as_too_long long is e h) =
+    let code : status_code status ≡ 23 = ap status_code e in
+    let same = refusal_console (too_long_line long.name) old new h in
+    record {
+      exit = inr (inl (inr (inr (inr code))));
+      not_twenty = λ s. omega (arith, s, code);
+      not_twenty_two = λ s. omega (arith, s, code);
+      ran = λ r. absurd (not_ran _ (omega arith) (λ s. omega (arith, s, code)) r);
+      bad = λ s. absurd (omega (arith, s, code));
+      too_long = λ s. record { long = long; is_first = is; line = h };
+      cut = λ s. absurd (omega (arith, s, code));
+      cut_shows = λ other. inr (inr (inr (inr code)));
+      console_shows = λ other. absurd (other same.faults);
+      console = λ r. same;
+      memory = λ s. absurd (omega (arith, s, code));
+    }
+shows {status = status} {old = old} {new = new} (as_bad_script named number is e h) =
+    let code : status_code status ≡ 21 = ap status_code e in
+    let same = refusal_console (bad_script_line number) old new h in
+    record {
+      exit = inr (inl (inr (inl code)));
+      not_twenty = λ s. omega (arith, s, code);
+      not_twenty_two = λ s. omega (arith, s, code);
+      ran = λ r. absurd (not_ran _ (omega arith) (λ s. omega (arith, s, code)) r);
+      bad = λ s. record { named = named; number = number; is_bad = is; line = h };
+      too_long = λ s. absurd (omega (arith, s, code));
+      cut = λ s. absurd (omega (arith, s, code));
+      cut_shows = λ other. inr (inr (inl code));
+      console_shows = λ other. absurd (other same.faults);
+      console = λ r. same;
+      memory = λ s. absurd (omega (arith, s, code));
+    }
+shows {status = status} (by_run fit good stop e h) =
+    let low = run_low stop e in
+    record {
+      exit = inl (subst (λ (s : Status). IsRunCode (status_code s)) (sym e) (run_code stop));
+      not_twenty = λ s. omega (arith, s, low);
+      not_twenty_two = λ s. omega (arith, s, low);
+      ran = λ r. record { fit = fit; good = good };
+      bad = λ s. absurd (omega (arith, s, low));
+      too_long = λ s. absurd (omega (arith, s, low));
+      cut = λ s. absurd (omega (arith, s, low));
+      cut_shows = λ other. absurd (other h.trace);
+      console_shows = λ other. absurd (other h.console);
+      console = λ r. let range = refusal_range r in absurd (omega (arith, range.0, low));
+      memory = λ s. absurd (omega (arith, s, low));
+    }
+shows {status = status} {old = old} {new = new} (by_cut fit good pieces e h) =
+    let code : status_code status ≡ 24 = ap status_code e in
+    record {
+      exit = inr (inr (inl code));
+      not_twenty = λ s. omega (arith, s, code);
+      not_twenty_two = λ s. omega (arith, s, code);
+      ran = λ r. record { fit = fit; good = good };
+      bad = λ s. absurd (omega (arith, s, code));
+      too_long = λ s. absurd (omega (arith, s, code));
+      cut = λ s. failed_sink h.piece old new h.fails;
+      cut_shows = λ other. inl code;
+      console_shows = λ other. code;
+      console = λ r. let range = refusal_range r in absurd (omega (arith, range.1, code));
+      memory = λ s. absurd (omega (arith, s, code));
+    }

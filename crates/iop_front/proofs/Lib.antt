@@ -14,6 +14,5 @@ pub mod FrontLemmas
 pub mod ConsoleLemmas
 pub mod Endings
 pub mod BadLemmas
-pub mod CauseLemmas
-pub mod RanLemmas
-pub mod CompleteLemmas
+pub mod FilesAnswered
+pub mod Promising

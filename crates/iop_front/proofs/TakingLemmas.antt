@@ -1,7 +1,6 @@
 -- From the reading of one file to that of many.
 use Rattle.std.proofs.Common.{◌≡◌, ℕ, suc, ◌+◌, ◌<◌, ◌≤◌, nat_lt, true, cond, Option, Some, None, Ok, Err, List}
-use Rattle.std.proofs.Common.{[], ◌∷◌, ◌++◌, All, get_or, length, map, take, drop, refl, ap, sym, ◌∙◌, subst}
-use Rattle.std.proofs.Common.{arith}
+use Rattle.std.proofs.Common.{[], ◌∷◌, ◌++◌, All, get_or, length, map, take, drop, refl, ap, sym, ◌∙◌, subst, arith}
 use Rattle.std.specs.Option.{option_or}
 use Rattle.std.proofs.lemmas.Bool.{lt-ltb}
 use Rattle.std.proofs.lemmas.Bool.Decides.{nat_tests}
@@ -213,12 +212,7 @@ module _ (kind : FileKind) (name : List ℕ) (room faults : ℕ) (limit : room �
   file_unread failed bytes (Some files) new h =
       opened_alone files
       (opened_with name h.0 faults (left_after name h.0 h.1 files) files) new
-      (record {
-        opens = h.0;
-        taken = h.1;
-        within = omega (arith, limit, h.2);
-        files = refl;
-      }) h.3
+      (record { opens = h.0; taken = h.1; within = omega (arith, limit, h.2); files = refl }) h.3
 
 -- it was read whole, as far as there was room
 pub takes_one : (kind : FileKind) (name bytes : List ℕ) (room len : ℕ) (old new : Seen)
@@ -287,8 +281,7 @@ module _ {S : Type 0} (bytes : S → List ℕ) (texts : List S) (index : ℕ) (t
       let front = take index texts in
       let back = drop (suc index) texts in
       let cut : drop index texts ≡ text ∷ back =
-      drop-cons texts index text within
-      ∙ ap (λ t. t ∷ back) (sym is_item) in
+      drop-cons texts index text within ∙ ap (λ t. t ∷ back) (sym is_item) in
       ap (map bytes) (sym (take-append-drop index texts) ∙ ap (λ t. front ++ t) cut)
       ∙ map-append bytes front (text ∷ back)
       ∙ ap (λ n. map bytes front ++ n ∷ map bytes back) (sym is)

@@ -111,44 +111,40 @@ pub data Answers : Option Command → Status → Outside → Outside → Type 0 
 
 -- the command ran on files of all its names: what was written and answered is their outcome. Where the
 -- files tell, these are the first bytes of what they have
-pub record HasRun (command : Command) (code : ℕ) (told : Option FilesTold) (old new : Output)
-    : Type 0 where
+pub record HasRun (command : Command) (code : ℕ) (before after : Outside) : Type 0 where
   pub script : Option NamedFile
   pub modules : List NamedFile
   pub has_script : is_some script ≡ is_some command.script
-  pub are_files : AreFilesOf (files_of command) (option_to_list script ++ modules) told
-  pub outcome : MeetsCode (outcome_of_inputs command script modules) code old new
+  pub are_files : AreFilesOf (files_of command) (option_to_list script ++ modules) before.told
+  pub outcome : MeetsCode (outcome_of_inputs command script modules) code before.sinks after.sinks
 
 -- 21: the script has a bad line, whose line was written, and no file but the script's was opened.
 -- Where the files tell, it is the first bad line of that file
-pub record HasBadScript (command : Command) (faults : ℕ) (before after : Option FilesTold)
-    (old new : Output) : Type 0 where
+pub record HasBadScript (command : Command) (before after : Outside) : Type 0 where
   pub name : List ℕ
   pub named : command.script ≡ Some name
   pub number : ℕ
-  pub line : Refuses (bad_script_line number) old new
-  pub read : FilesRead AsScript (name ∷ []) faults before after
-  pub asked : IfSome after (IsNameAsked name faults)
-  pub bad : IfSome before (λ files. script_of (file_named files name) ≡ Err number)
+  pub line : Refuses (bad_script_line number) before.sinks after.sinks
+  pub read : FilesRead AsScript (name ∷ []) before.faults before.told after.told
+  pub asked : IfSome after.told (IsNameAsked name before.faults)
+  pub bad : IfSome before.told (λ files. script_of (file_named files name) ≡ Err number)
 
 -- 22: a file that is named was not read. Its line was written, and where the files tell, its name is
 -- the one last asked for, or there is no such file; and before its opening no call had failed
-pub record IsUnread (names : List (List ℕ)) (faults : ℕ) (told : Option FilesTold)
-    (old new : Output) : Type 0 where
+pub record IsUnread (names : List (List ℕ)) (before after : Outside) : Type 0 where
   pub name : List ℕ
   pub named : Contains names name
-  pub line : Refuses (cannot_read_line name) old new
-  pub asked : IfSome told (IsNameAsked name faults)
+  pub line : Refuses (cannot_read_line name) before.sinks after.sinks
+  pub asked : IfSome after.told (IsNameAsked name before.faults)
 
 -- 23: a file that is named is too long, and its line was written. Where the files tell, its name is
 -- the one last asked for, or there is no such file; and it has more bytes than a file may have
-pub record IsTooLong (names : List (List ℕ)) (faults : ℕ) (before after : Option FilesTold)
-    (old new : Output) : Type 0 where
+pub record IsTooLong (names : List (List ℕ)) (before after : Outside) : Type 0 where
   pub name : List ℕ
   pub named : Contains names name
-  pub line : Refuses (too_long_line name) old new
-  pub asked : IfSome after (IsNameAsked name faults)
-  pub long : IfSome before (λ files. LONGEST_FILE < length (file_named files name))
+  pub line : Refuses (too_long_line name) before.sinks after.sinks
+  pub asked : IfSome after.told (IsNameAsked name before.faults)
+  pub long : IfSome before.told (λ files. LONGEST_FILE < length (file_named files name))
 
 -- no file of a command is too long, and its script has no bad line
 pub record AreGoodFiles (command : Command) (files : FilesTold) : Type 0 where
@@ -156,8 +152,8 @@ pub record AreGoodFiles (command : Command) (files : FilesTold) : Type 0 where
   pub script : IfSome command.script (λ name. is_ok (script_of (file_named files name)) ≡ true)
 
 -- the first of a command's files were opened in order, and no other file
-pub record OpensFirst (command : Command) (faults : ℕ) (old new : Option FilesTold) : Type 0 where
+pub record OpensFirst (command : Command) (before after : Outside) : Type 0 where
   pub opened : List (List ℕ)
   pub left : List (List ℕ)
   pub are_first : files_of command ≡ opened ++ left
-  pub files : FilesRead (first_kind command) opened faults old new
+  pub files : FilesRead (first_kind command) opened before.faults before.told after.told

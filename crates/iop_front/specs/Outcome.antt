@@ -23,7 +23,7 @@ use Rattle.iop_options.specs.declared.limits.TheConstants.{MEMORY_SIZE}
 use Rattle.iop_options.specs.Values.{DumpRange}
 use Rattle.iop_front.specs.declared.status.Status.{Status}
 use Rattle.iop_front.specs.declared.status.Status.TheVariants.{BadWords, BadScript, TooLong, SinkFault, NoMemory}
-use Rattle.iop_options.specs.Commands.{Command, command_of}
+use Rattle.iop_options.specs.Commands.{Command}
 use Rattle.iop_front.specs.Named.{FileKind, AsScript, AsModule}
 use Rattle.iop_front.specs.Reading.{file_named, opened_with, left_after}
 use Rattle.iop_front.specs.Statuses.{status_code, status_of}
@@ -131,15 +131,12 @@ outcome_of_inputs command script files = outcome_behind command (script_by scrip
 abbrev pub named_file : FilesTold → List ℕ → NamedFile
 named_file told name = record { name = name; file = file_named told name }
 
+-- the outcome of a command, by what the words are
 abbrev pub outcome_named : FilesTold → Option Command → Outcome
 outcome_named told None = refusal BadWords bad_words_line
 outcome_named told (Some command) =
     outcome_of_inputs command (option_map (named_file told) command.script)
     (map (named_file told) command.modules)
-
--- the outcome of a command
-abbrev pub outcome_of : List (List ℕ) → FilesTold → Outcome
-outcome_of words told = outcome_named told (command_of words)
 
 -- the pieces are on the trace, or stop short where a write failed, by whether all are whole
 abbrev pub TraceLeaves : Bool → SinkTold → SinkTold → List Piece → Type 0

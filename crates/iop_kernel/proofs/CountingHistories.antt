@@ -8,7 +8,8 @@ use Rattle.iop_objects.specs.Objects.{Object, Objects, state_of}
 use Rattle.iop_sema.specs.Semaphores.{Semaphores}
 use Rattle.iop_sema.specs.declared.semaphore.Semaphore.{Semaphore}
 use Rattle.iop_kernel.specs.Histories.{Called, signals, takes, signals_in, takes_in, AreCounted}
-use Rattle.iop_kernel.proofs.CountingTables.{CountsBy, signals_of, takes_of}
+use Rattle.iop_kernel.proofs.CountingTables.{counts, signals_of, takes_of}
+use Rattle.iop_kernel.proofs.Telling.{TellsBy}
 
 -- all counts are those of a history, which has no call for a semaphore that is still to be made
 pub record IsHistory (s : Semaphores) (history : List Called) : Type 0 where
@@ -52,7 +53,7 @@ module _ (history : List Called) (call : Option Called) where
       last None = refl
       last (Some c) = omega arith
 
-  module _ (old new : Semaphores) (given : AreGiven old) (by : CountsBy old new call)
+  module _ (old new : Semaphores) (given : AreGiven old) (by : TellsBy counts old new call)
       (h : IsHistory old history) where
     -- each semaphore that is live then is counted, by whether it was live before
     counted_by : (id : ℕ) (y : Semaphore) → state_of new id ≡ Some y → (o : Option Semaphore)
@@ -64,7 +65,7 @@ module _ (history : List Called) (call : Option Called) where
         let before = h.fresh id made.0 in
         let given : signals id longer ≡ 0 = omega (arith, signals_longer id, before.0, none.0) in
         let taken : takes id longer ≡ 0 = omega (arith, takes_longer id, before.1, none.1) in
-        (omega (arith, made.1, given, taken), made.2)
+        (omega (arith, made.1.0, given, taken), made.1.1)
     counted_by id y live (Some x) was =
         let kept = by.kept id x y was live in
         let before = h.counted id x was in (

@@ -4,33 +4,31 @@ use Rattle.std.specs.Prelude.{option_and_then}
 use Rattle.std.proofs.lemmas.Bool.Decides.{nat_tests}
 use Rattle.iop_base.specs.Numbers.{one_if}
 use Rattle.iop_base.specs.declared.code.TheConstants.Code.{OBJECT_DELETED}
-use Rattle.iop_mbx.specs.Mailboxes.{waiters_by_priority}
-use Rattle.iop_objects.specs.Objects.{Object, Objects, object_of, deletes}
-use Rattle.iop_objects.specs.Queue.{in_order}
-use Rattle.iop_sema.specs.Semaphores.{by_priority}
+use Rattle.iop_objects.specs.Objects.{object_of, deletes}
 use Rattle.iop_thread.specs.Operations.{wakes_in, wakes_it, wakes}
 use Rattle.iop_thread.specs.Placing as threads_placing
 use Rattle.iop_thread.specs.Placing.{times}
 use Rattle.iop_thread.specs.States.{wait_in, with_answer}
 use Rattle.iop_thread.specs.ThreadTable.{ThreadTable, thread_of, in_state}
 use Rattle.iop_thread.specs.Waits.{wait_of}
+use Rattle.iop_thread.specs.declared.kind.Kind.{Kind}
 use Rattle.iop_thread.specs.declared.state.State.{State}
 use Rattle.iop_thread.specs.declared.state.State.TheVariants.{Dormant, Running, Ready, Waiting, Suspended, WaitingSuspended}
 use Rattle.iop_thread.specs.declared.thread.Thread.{Thread}
 use Rattle.iop_thread.specs.declared.wait.Wait.{Wait}
-use Rattle.iop_thread.specs.declared.wait.Wait.TheVariants.{Semaphore, EventFlag, Mailbox}
+use Rattle.iop_thread.specs.declared.wait.Wait.TheVariants.{Object}
 use Rattle.iop_thread.proofs.LiveThreads.{thread_of_changed, thread_of_id}
 use Rattle.iop_thread.proofs.ReadyIds.{times_first}
-use Rattle.iop_kernel.specs.EventFlags.{deletes_flag}
+use Rattle.iop_kernel.specs.ObjectServices.{threads_in_order, deletes_object, delete_object}
+use Rattle.iop_kernel.specs.Kinds.{Live, Table, table, waits_by_priority}
 use Rattle.iop_kernel.specs.WakingLaws.{state_in, WakesAll, DeletionsWakeAll}
-use Rattle.iop_kernel.specs.Mailboxes.{deletes_mbx}
-use Rattle.iop_kernel.specs.Placing.{AreWaited}
-use Rattle.iop_kernel.specs.Semaphores.{deletes_sema}
-use Rattle.iop_kernel.specs.System.{Core, Left, code_word}
-use Rattle.iop_kernel.specs.Waits.{threads_of, wakes_all}
+use Rattle.iop_kernel.specs.Placing.{AreWaited, is_for}
+use Rattle.iop_kernel.specs.System.{Core, Left, with_threads, code_word}
+use Rattle.iop_kernel.specs.Waits.{wakes_all}
+use Rattle.iop_kernel.proofs.KindTables.{own_table, for_object, own_object}
 use Rattle.iop_kernel.proofs.PlacingEndings.{all_in_order}
 use Rattle.iop_kernel.proofs.PlacingObjects.{object_of_id, object_of_without}
-use Rattle.iop_kernel.proofs.PlacingThreads.{all_woken, for_semaphore, for_event_flag, for_mailbox}
+use Rattle.iop_kernel.proofs.PlacingThreads.{all_woken}
 
 -- an id is itself
 itself : (id : ℕ) → (id == id) ≡ true
@@ -156,26 +154,31 @@ wait_there s t = by (thread_of s.live t)
     by (Some u) = refl
 
 -- all that wait for an object are woken, and it is deleted
-module _ {A W : Type 0} {is_for : ℕ → Option Wait → Bool} (s : Objects A W) (threads : ThreadTable)
-    (h : AreWaited s is_for threads) (placed : threads_placing.IsPlaced threads) (o : Object A W)
-    (live : object_of s.live o.id ≡ Some o) (ordered : Bool) (wait : Wait)
-    (its : is_for o.id (Some wait) ≡ true)
-    (only : (old : Option Wait) → is_for o.id old ≡ true → old ≡ Some wait) where
+module _ (kind : Kind) (s : Table kind) (threads : ThreadTable)
+    (h : AreWaited kind s threads) (placed : threads_placing.IsPlaced threads) (o : Live kind)
+    (live : object_of s.live o.id ≡ Some o) where
+  abbrev wait : Wait
+  wait = Object kind o.id
+
   abbrev word : ℕ
   word = code_word OBJECT_DELETED
 
   abbrev ids : List ℕ
-  ids = threads_of (in_order ordered o.waiters)
+  ids = threads_in_order kind o
 
   abbrev left : ThreadTable
   left = wakes_all threads ids word
 
   abbrev asks : ℕ → Bool
-  asks t = is_for o.id (wait_of threads t)
+  asks t = is_for kind o.id (wait_of threads t)
+
+  -- its own wait does
+  its : is_for kind o.id (Some wait) ≡ true
+  its = own_object kind o.id o.id ∙ itself o.id
 
   -- a thread is once among them where it waited for it
   often : (t : ℕ) → times t ids ≡ one_if (asks t)
-  often t = all_in_order s o live ordered t ∙ h.waiters o.id t
+  often t = all_in_order s o live (waits_by_priority kind o.state) t ∙ h.waiters o.id t
 
   -- a thread is woken where it waited for it
   state_now : (t : ℕ) → state_in left t ≡ woken_if word (asks t) (state_in threads t)
@@ -192,7 +195,7 @@ module _ {A W : Type 0} {is_for : ℕ → Option Wait → Bool} (s : Objects A W
       → state_in left t ≡ Some (woken word state)
   asked t state was waits =
       let there = wait_there threads t ∙ ap (option_and_then wait_in) was ∙ waits in
-      let is : asks t ≡ true = ap (is_for o.id) there ∙ its in
+      let is : asks t ≡ true = ap (is_for kind o.id) there ∙ its in
       state_now t ∙ ap (λ b. woken_if word b (state_in threads t)) is
       ∙ ap (option_map (woken word)) was
 
@@ -202,7 +205,7 @@ module _ {A W : Type 0} {is_for : ℕ → Option Wait → Bool} (s : Objects A W
     where
       by : (b : Bool) → asks t ≡ b
           → woken_if word b (state_in threads t) ≡ state_in threads t
-      by true is = absurd (other (only (wait_of threads t) is))
+      by true is = absurd (other (for_object kind o.id (wait_of threads t) is))
       by false is = refl
 
   -- none waits for it any more
@@ -224,7 +227,7 @@ module _ {A W : Type 0} {is_for : ℕ → Option Wait → Bool} (s : Objects A W
           → wait_of left t ≡ (if b then None else wait_of threads t) → wait_of left t ≢ Some wait
       by true is now still = let none = sym now ∙ still in absurd (cc none)
       by false is now still =
-          let yes : asks t ≡ true = ap (is_for o.id) (sym now ∙ still) ∙ its in
+          let yes : asks t ≡ true = ap (is_for kind o.id) (sym now ∙ still) ∙ its in
           let no = sym yes ∙ is in
           absurd (cc no)
 
@@ -240,38 +243,18 @@ module _ {A W : Type 0} {is_for : ℕ → Option Wait → Bool} (s : Objects A W
 
 -- of each kind
 pub deletions_wake_all : DeletionsWakeAll
-deletions_wake_all = record {
-  semaphores = λ c id o h lives.
-      let k = c.kernel in
-      let same = object_of_id k.semaphores.live id o lives in
-      let own = ap (object_of k.semaphores.live) same ∙ lives in
-      let all = all_wake k.semaphores k.threads h.semaphores h.threads o own
-      (by_priority o.state) (Semaphore o.id) (itself o.id) (for_semaphore o.id) in
-      let left = deletes_sema c (object_of k.semaphores.live id) in
-      subst (λ n. WakesAll n (Semaphore n) k.threads left.state.kernel.threads
-      left.state.kernel.semaphores) same
-      (subst (λ (d : Left Core). WakesAll o.id (Semaphore o.id) k.threads d.state.kernel.threads
-      d.state.kernel.semaphores) (ap (deletes_sema c) (sym lives)) all);
-  event_flags = λ c id o h lives.
-      let k = c.kernel in
-      let same = object_of_id k.event_flags.live id o lives in
-      let own = ap (object_of k.event_flags.live) same ∙ lives in
-      let all = all_wake k.event_flags k.threads h.event_flags h.threads o own
-      false (EventFlag o.id) (itself o.id) (for_event_flag o.id) in
-      let left = deletes_flag c (object_of k.event_flags.live id) in
-      subst (λ n. WakesAll n (EventFlag n) k.threads left.state.kernel.threads
-      left.state.kernel.event_flags) same
-      (subst (λ (d : Left Core). WakesAll o.id (EventFlag o.id) k.threads d.state.kernel.threads
-      d.state.kernel.event_flags) (ap (deletes_flag c) (sym lives)) all);
-  mailboxes = λ c id o h lives.
-      let k = c.kernel in
-      let same = object_of_id k.mailboxes.live id o lives in
-      let own = ap (object_of k.mailboxes.live) same ∙ lives in
-      let all = all_wake k.mailboxes k.threads h.mailboxes h.threads o own
-      (waiters_by_priority o.state.attr) (Mailbox o.id) (itself o.id) (for_mailbox o.id) in
-      let left = deletes_mbx c (object_of k.mailboxes.live id) in
-      subst (λ n. WakesAll n (Mailbox n) k.threads left.state.kernel.threads
-      left.state.kernel.mailboxes) same
-      (subst (λ (d : Left Core). WakesAll o.id (Mailbox o.id) k.threads d.state.kernel.threads
-      d.state.kernel.mailboxes) (ap (deletes_mbx c) (sym lives)) all);
-}
+deletions_wake_all kind c id o h lives =
+    let k = c.kernel in
+    let t = table kind k in
+    let same = object_of_id t.live id o lives in
+    let own = ap (object_of t.live) same ∙ lives in
+    let all = all_wake kind t k.threads (h.objects kind) h.threads o own in
+    let woken = wakes_all k.threads (threads_in_order kind o) (code_word OBJECT_DELETED) in
+    let gone = deletes t o.id in
+    let left = delete_object kind c id in
+    subst (λ n. WakesAll n (Object kind n) k.threads left.state.kernel.threads
+    (table kind left.state.kernel)) same
+    (subst (λ (d : Left Core). WakesAll o.id (Object kind o.id) k.threads d.state.kernel.threads
+    (table kind d.state.kernel)) (ap (deletes_object kind c) (sym lives))
+    (subst (λ u. WakesAll o.id (Object kind o.id) k.threads woken u)
+    (sym (own_table kind (with_threads c woken).kernel gone)) all))

@@ -1,11 +1,11 @@
--- Where nothing is delivered: no line can be, and no alarm and no delay has come, nor does one
--- before the next look.
-use Rattle.std.proofs.Common.{◌≡◌, ℕ, suc, zero, ◌+◌, ◌<◌, ◌≤◌, ◌==◌, ◌||◌, not, nat_le, Bool, true, false, cond, if◌then◌else◌, Option, Some, None, option_map, IfSome, MatchOption, List, [], ◌∷◌, length, get_or, refl, sym, ap, subst, ◌∙◌, arith}
+-- Whether something is delivered. Where nothing is, no line can be, and no alarm and no delay has
+-- come, nor does one before the next look.
+use Rattle.std.proofs.Common.{◌≡◌, ℕ, suc, zero, ◌+◌, ◌<◌, ◌≤◌, ◌==◌, ◌||◌, not, nat_le, Bool, true, false, cond, if◌then◌else◌, Option, Some, None, is_some, ◌&&◌, option_map, IfSome, MatchOption, List, [], ◌∷◌, length, get_or, refl, sym, ap, subst, ◌∙◌, arith}
 use Rattle.std.specs.List.{find}
 use Rattle.std.specs.Option.{option_or, option_and_then}
-use Rattle.std.specs.Prelude.{IsSome}
+use Rattle.std.proofs.Math.Bool.{and-false}
 use Rattle.std.proofs.Math.ListN.{get_or-eq_default}
-use Rattle.std.proofs.lemmas.Bool.{cases_lt, cond_both}
+use Rattle.std.proofs.lemmas.Bool.{cases_lt}
 use Rattle.std.proofs.lemmas.Bool.Decides.{nat_tests}
 use mathlib.Core.Logic.{inl, inr}
 use Rattle.iop_exec.specs.declared.cpu.Cpu.{Cpu}
@@ -13,7 +13,8 @@ use Rattle.iop_intr.specs.InterruptLines.{IrqLine, idle, line_of, deliverable}
 use Rattle.iop_intr.specs.Laws.{CanBeDelivered, IsLowest}
 use Rattle.iop_intr.specs.declared.handler.Handler.{Handler}
 use Rattle.iop_intr.proofs.Keeping.{deliverable-lowest}
-use Rattle.iop_time.specs.Laws.{Stands, NoneHasCome, IsNext, DueIsNext}
+use Rattle.iop_time.proofs.Nexts.{due_is_next}
+use Rattle.iop_time.specs.Laws.{Stands, NoneHasCome, IsNext}
 use Rattle.iop_time.specs.Taking.{timer_of, takes_due}
 use Rattle.iop_time.specs.Timers.{Timers}
 use Rattle.iop_time.specs.Turns.{number_if_due, first_turn, due, next_moment}
@@ -22,7 +23,7 @@ use Rattle.iop_time.specs.declared.delay.Delay.{Delay}
 use Rattle.iop_time.specs.declared.due.Due.{Due}
 use Rattle.iop_time.specs.declared.due.Due.TheVariants as due_variants
 use Rattle.iop_time.specs.declared.turn.Turn.{Turn}
-use Rattle.iop_kernel.specs.Deliveries.{Delivered, is_in_slot, may_deliver, delivers_line, delivers_due, delivers_by, delivers, next_look}
+use Rattle.iop_kernel.specs.Deliveries.{is_in_slot, may_deliver, delivers_line, delivers_due, delivers_by, delivers, next_look}
 use Rattle.iop_kernel.specs.DeliveryLaws.{NoLineComes, at_moment}
 use Rattle.iop_kernel.specs.Overdue.{NoMomentHasCome}
 use Rattle.iop_kernel.specs.System.{Kernel, Core, in_handler}
@@ -35,38 +36,24 @@ no_line_past k n past can =
     cc (raised, can.raised)
 
 -- of the lines that there are, none can be delivered
-abbrev pub NoneCanBe : Kernel → Type 0
-NoneCanBe k = (n : ℕ) → n < length k.irqs → CanBeDelivered (line_of k.irqs n) → ⊥
+abbrev pub NoneCanBe : List IrqLine → Type 0
+NoneCanBe irqs = (n : ℕ) → n < length irqs → CanBeDelivered (line_of irqs n) → ⊥
 
 -- what is found where the lowest line is looked for
-abbrev pub FindsLowest : Kernel → Option ℕ → Type 0
-FindsLowest k o = MatchOption o (NoneCanBe k) (IsLowest k.irqs)
+abbrev pub FindsLowest : List IrqLine → Option ℕ → Type 0
+FindsLowest irqs o = MatchOption o (NoneCanBe irqs) (IsLowest irqs)
+
+-- by what is found
+pub lowest_is : (irqs : List IrqLine) (o : Option ℕ) → deliverable irqs ≡ o → FindsLowest irqs o
+lowest_is irqs o found = subst (FindsLowest irqs) found (deliverable-lowest irqs)
 
 -- where none is found, none can be delivered
-pub no_line_comes : (k : Kernel) → NoneCanBe k → NoLineComes k
+pub no_line_comes : (k : Kernel) → NoneCanBe k.irqs → NoLineComes k
 no_line_comes k none n can =
     elim (cases_lt n (length k.irqs)) [
       | inl below ↦ none n below can
       | inr past ↦ no_line_past k n past can
     ]
-
--- a line that has a handler is delivered
-line_delivered : (c : Core) (line : ℕ) (o : Option Handler) → IsSome o
-    → delivers_line c line o ≡ None → ⊥
-line_delivered c line None some none = cc some
-line_delivered c line (Some handler) some none = cc none
-
--- so no line was found where none is delivered
-none_found : (c : Core) (o : Option ℕ) → FindsLowest c.kernel o → delivers_by c o ≡ None → o ≡ None
-none_found c None lowest none = refl
-none_found c (Some line) lowest none =
-    absurd (line_delivered c line (line_of c.kernel.irqs line).handler lowest.can.handler none)
-
--- nor is an alarm or a delay taken
-none_taken : (c : Core) (p : Option Due × Timers) → delivers_due c p ≡ None → p.0 ≡ None
-none_taken c (None, left) none = refl
-none_taken c (Some (due_variants.Alarm alarm), left) none = absurd (cc none)
-none_taken c (Some (due_variants.Delay delay), left) none = absurd (cc none)
 
 module _ {X : Type 0} (p : X → Bool) where
   -- what passes is found
@@ -108,45 +95,88 @@ timer_found timers moment number (inr (k, delay, below, at, has)) none =
     find-passes (λ (d : Delay). d.number == number) timers.delays k delay below at
     (grind (arith, nat_tests, same)) (neither _ _ none).1
 
--- where none is taken, none has come
-none_came_by : (timers : Timers) (t : ℕ) (o : Option ℕ)
+-- what is due is taken
+taken_by : (timers : Timers) (t : ℕ) (o : Option ℕ)
     → MatchOption o (NoneHasCome timers t) (λ number. (moment : ℕ) × IsNext timers t moment number)
-    → option_and_then (timer_of timers) o ≡ None → NoneHasCome timers t
-none_came_by timers t None next none = next
-none_came_by timers t (Some number) (moment, next) none =
-    absurd (timer_found timers moment number next.come.0 none)
+    → is_some (option_and_then (timer_of timers) o) ≡ is_some o
+taken_by timers t None none = refl
+taken_by timers t (Some number) (moment, next) = by (timer_of timers number) refl
+  where
+    by : (o : Option Due) → timer_of timers number ≡ o → is_some o ≡ true
+    by None none = absurd (timer_found timers moment number next.come.0 none)
+    by (Some x) found = refl
 
--- at any moment
-none_came : DueIsNext → (timers : Timers) (t : ℕ) → (takes_due timers t).0 ≡ None
-    → NoneHasCome timers t
-none_came next timers t none = none_came_by timers t (due timers t) (next timers t) none
+-- whether something is due at this moment
+abbrev pub comes : Core → Bool
+comes c = is_some (due c.kernel.timers c.kernel.clock)
 
-module _ (c : Core) (none : delivers c ≡ None) where
-  -- where something may be delivered, it is looked for
-  none_by : may_deliver c ≡ true → delivers_by c (deliverable c.kernel.irqs) ≡ None
+module _ (c : Core) where
+  -- the handler of a line begins, if it has one
+  line_comes : (line : ℕ) (o : Option Handler) → is_some o ≡ true
+      → is_some (delivers_line c line o) ≡ true
+  line_comes line None some = cc some
+  line_comes line (Some handler) some = refl
+
+  -- what is taken is delivered
+  due_comes : (o : Option Due) (left : Timers) → is_some (delivers_due c (o, left)) ≡ is_some o
+  due_comes None left = refl
+  due_comes (Some (due_variants.Alarm alarm)) left = refl
+  due_comes (Some (due_variants.Delay delay)) left = refl
+
+  -- by the line that is delivered
+  some_by : (o : Option ℕ) → FindsLowest c.kernel.irqs o
+      → is_some (delivers_by c o) ≡ (is_some o || comes c)
+  some_by (Some line) lowest =
+      line_comes line (line_of c.kernel.irqs line).handler lowest.can.handler
+  some_by None none =
+      let k = c.kernel in
+      due_comes (takes_due k.timers k.clock).0 (takes_due k.timers k.clock).1
+      ∙ taken_by k.timers k.clock (due k.timers k.clock) (due_is_next k.timers k.clock)
+
+  -- by whether something may be delivered
+  some_if : (may : Bool)
+      → is_some (if may then delivers_by c (deliverable c.kernel.irqs) else None)
+      ≡ (may && (is_some (deliverable c.kernel.irqs) || comes c))
+  some_if true = some_by (deliverable c.kernel.irqs) (deliverable-lowest c.kernel.irqs)
+  some_if false = refl
+
+  -- something is delivered where it may be, and a line is deliverable or a timer is due
+  pub delivers_some : is_some (delivers c)
+      ≡ (may_deliver c && (is_some (deliverable c.kernel.irqs) || comes c))
   unfolding delivers
-  none_by may =
-      let e : (if may_deliver c then delivers_by c (deliverable c.kernel.irqs) else None) ≡ None =
-      none in
-      rw may at e
+  delivers_some = some_if (may_deliver c)
 
-  -- so no line is found
-  no_line_found : may_deliver c ≡ true → deliverable c.kernel.irqs ≡ None
-  no_line_found may =
-      none_found c (deliverable c.kernel.irqs) (deliverable-lowest c.kernel.irqs) (none_by may)
+-- what is not there is none
+none_of : {A : Type 0} (o : Option A) → is_some o ≡ false → o ≡ None
+none_of None none = refl
+none_of (Some x) none = absurd (cc none)
 
-  -- and none can be delivered
-  pub no_line : may_deliver c ≡ true → NoLineComes c.kernel
-  no_line may =
-      no_line_comes c.kernel
-      (subst (FindsLowest c.kernel) (no_line_found may) (deliverable-lowest c.kernel.irqs))
+-- of two that are not there each is none
+neither_of : {A B : Type 0} (o : Option A) (p : Option B) → (is_some o || is_some p) ≡ false
+    → (o ≡ None) × (p ≡ None)
+neither_of None p none = (refl, none_of p none)
+neither_of (Some x) p none = absurd (cc none)
+
+module _ (c : Core) (none : delivers c ≡ None) (may : may_deliver c ≡ true) where
+  abbrev k : Kernel
+  k = c.kernel
+
+  -- no line is found, and nothing is due
+  none_found : (deliverable k.irqs ≡ None) × (due k.timers k.clock ≡ None)
+  none_found =
+      neither_of (deliverable k.irqs) (due k.timers k.clock)
+      (sym (delivers_some c ∙ rw may refl) ∙ ap is_some none)
+
+  -- no line can be delivered
+  pub no_line : NoLineComes k
+  no_line = no_line_comes k (lowest_is k.irqs None none_found.0)
 
   -- no alarm and no delay has come
-  pub no_moment : DueIsNext → may_deliver c ≡ true → NoMomentHasCome c.kernel
-  no_moment next may =
-      let due_none : delivers_due c (takes_due c.kernel.timers c.kernel.clock) ≡ None =
-      subst (λ (o : Option ℕ). delivers_by c o ≡ None) (no_line_found may) (none_by may) in
-      none_came next c.kernel.timers c.kernel.clock (none_taken c _ due_none)
+  pub no_moment : NoMomentHasCome k
+  no_moment =
+      subst (λ (o : Option ℕ). MatchOption o (NoneHasCome k.timers k.clock)
+      (λ number. (moment : ℕ) × IsNext k.timers k.clock moment number)) none_found.1
+      (due_is_next k.timers k.clock)
 
 -- before the first turn none is due
 none_before : (first : Option Turn) (moment : ℕ)
@@ -164,23 +194,14 @@ module _ (c : Core) (moment : ℕ) (cpu : Cpu) where
 
   -- where nothing may be delivered, nothing is
   closed_then : may_deliver later ≡ false → delivers later ≡ None
-  unfolding delivers
-  closed_then closed = rw closed refl
+  closed_then closed = none_of (delivers later) (delivers_some later ∙ rw closed refl)
 
   -- nor where no line can be, and nothing is due
-  none_due : deliverable c.kernel.irqs ≡ None → due c.kernel.timers moment ≡ None
-      → delivers_by later (deliverable c.kernel.irqs) ≡ None
-  none_due no_line not_due = rw (no_line, not_due) refl
-
-  -- nor before the next moment
-  none_then : deliverable c.kernel.irqs ≡ None
-      → IfSome (next_moment c.kernel.timers) (λ look. moment < look) → delivers later ≡ None
-  unfolding delivers
-  none_then no_line before =
-      let timers = c.kernel.timers in
-      let first = first_turn timers.alarms timers.delays in
-      cond_both (may_deliver later) _ _ (λ (o : Option Delivered). o ≡ None)
-      (λ may. none_due no_line (none_before first moment before)) (λ closed. refl)
+  none_then : deliverable c.kernel.irqs ≡ None → due c.kernel.timers moment ≡ None
+      → delivers later ≡ None
+  none_then no_line not_due =
+      none_of (delivers later)
+      (delivers_some later ∙ rw (no_line, not_due) (and-false (may_deliver later)))
 
   -- at the same moment, with the same processor, nothing has changed
   same_then : moment ≡ c.kernel.clock → cpu ≡ c.cpu → later ≡ c
@@ -201,7 +222,9 @@ module _ (c : Core) (moment : ℕ) (cpu : Cpu) where
       subst (λ (d : Core). delivers d ≡ None) (sym (same_then now (same now))) none
   look_by none after same false false is_open in_slot before =
       let may : may_deliver c ≡ true = grind (arith, nat_tests, is_open, in_slot) in
-      none_then (no_line_found c none may) before
+      let timers = c.kernel.timers in
+      none_then (none_found c none may).0
+      (none_before (first_turn timers.alarms timers.delays) moment before)
 
   -- where nothing is delivered now, nothing is before the next look
   pub none_before_look : delivers c ≡ None → c.kernel.clock ≤ moment

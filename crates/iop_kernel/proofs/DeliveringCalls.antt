@@ -1,20 +1,17 @@
 -- What a call sends to a mailbox and receives from it, and what that does to the messages.
-use Rattle.std.proofs.Common.{◌≡◌, ℕ, ◌+◌, ◌<◌, ◌==◌, ◌&&◌, not, Bool, true, false, Option, Some, List, [], ◌∷◌, ◌++◌, length, map, append-nil, refl, ap, sym, ◌∙◌, subst, arith}
+use Rattle.std.proofs.Common.{◌≡◌, ℕ, ◌+◌, ◌==◌, ◌&&◌, Bool, true, false, Option, Some, List, [], ◌∷◌, ◌++◌, map, append-nil, refl, ap, sym, ◌∙◌, subst, arith}
 use Rattle.std.proofs.lemmas.Bool.{and_left, and_right}
-use Rattle.std.proofs.lemmas.Bool.Decides.{nat_tests}
-use Rattle.std.proofs.lemmas.List.{get_or-set_same, map-append}
+use Rattle.std.proofs.lemmas.List.{map-append}
 use Rattle.std.proofs.lemmas.Option.{same_Some}
-use Rattle.iop_exec.specs.Row.{reg, with_reg}
-use Rattle.iop_exec.specs.declared.cpu.Cpu.{Cpu}
 use Rattle.iop_mbx.specs.Mailboxes.{Mailbox, messages_by_priority, next_message, with_messages}
 use Rattle.iop_objects.specs.Queue.{Choice, chooses}
 use Rattle.iop_objects.specs.declared.queued.Queued.{Queued}
-use Rattle.iop_objects.specs.declared.waiter.Waiter.{Waiter}
 use Rattle.iop_objects.proofs.QueuesChosen.{queues_chosen}
 use Rattle.iop_thread.specs.Placing.{times}
 use Rattle.iop_thread.proofs.ReadyIds.{times_first}
 use Rattle.iop_kernel.specs.Histories.{Called, is_send, is_receive, succeeds, list_if, sent_in, received_in, queued}
-use Rattle.iop_kernel.proofs.DeliveringTables.{Keeps, DeliversNothing, sent_of, received_of}
+use Rattle.iop_kernel.proofs.DeliveringTables.{Keeps, DeliversNothing, kept_alone, sent_of, received_of}
+use Rattle.iop_kernel.proofs.Telling.{Tells}
 
 -- nothing is listed
 none_listed : (a b : Bool) (m n : ℕ) → a ≡ false → b ≡ false → list_if a m ++ list_if b n ≡ []
@@ -49,9 +46,7 @@ module _ (id : ℕ) (c : Called) where
 
   -- or is one of another service
   pub other_delivers : sends ≡ false → receives ≡ false → DeliversNothing id (Some c)
-  other_delivers no_send no_receipt =
-      nothing_by (and_left _ (succeeds c) (and_left sends to_it no_send))
-      (and_left _ (succeeds c) (and_left receives from_it no_receipt))
+  other_delivers no_send no_receipt = (rw no_send refl, rw (no_send, no_receipt) refl)
 
   -- or sends to another mailbox
   pub sent_elsewhere : receives ≡ false → to_it ≡ false → DeliversNothing id (Some c)
@@ -90,17 +85,6 @@ module _ (id : ℕ) (c : Called) where
     -- and its message is received
     pub receipt_received : received_in id c ≡ c.message ∷ []
     receipt_received = rw (no_send, receipt, it, did) refl
-
--- what is written to a register is read there
-pub answer_read : (c : Cpu) → 2 < length c.regs → (word : ℕ) → reg (with_reg c 2 word) 2 ≡ word
-answer_read c registers word = get_or-set_same c.regs 2 word 0 registers
-
--- a thread waits where one is chosen
-pub one_waits : {W : Type 0} (by_priority : Bool) (queue : List (Queued (Waiter W)))
-    (c : Choice (Waiter W)) → chooses by_priority queue ≡ Some c → not (length queue == 0) ≡ true
-one_waits true [] c is = cc
-one_waits false [] c is = cc
-one_waits by_priority (x ∷ xs) c is = grind (arith, nat_tests)
 
 module _ (m : ℕ) where
   -- how often a message is among some and others
@@ -179,3 +163,14 @@ module _ (id : ℕ) (call : Option Called) (x : Mailbox) where
         (append-nil (queued x) ∙ first_chosen x.messages one
         (subst (λ (b : Bool). chooses b x.messages ≡ Some one) first next)),
   )
+
+-- the messages of mailboxes are delivered; one that is made has none
+abbrev pub delivers : Tells Mailbox
+delivers = record {
+  Keeps = Keeps;
+  Nothing = DeliversNothing;
+  First = λ x. queued x ≡ [];
+  alone = kept_alone;
+  none = λ id. (refl, refl);
+  fails = refused_delivers;
+}

@@ -6,8 +6,9 @@ use Rattle.iop_objects.specs.Objects.{state_of}
 use Rattle.iop_thread.specs.Placing.{times}
 use Rattle.iop_kernel.specs.Histories.{Called, sent, received, sent_in, received_in, queued, IsDelivered, AreDelivered}
 use Rattle.iop_kernel.proofs.CountingHistories.{AreGiven, longer, none_there}
-use Rattle.iop_kernel.proofs.DeliveringTables.{DeliversBy, Keeps, sent_of, received_of}
-use Rattle.iop_kernel.proofs.DeliveringCalls.{times_append}
+use Rattle.iop_kernel.proofs.DeliveringTables.{Keeps, sent_of, received_of}
+use Rattle.iop_kernel.proofs.DeliveringCalls.{delivers, times_append}
+use Rattle.iop_kernel.proofs.Telling.{TellsBy}
 
 -- all messages are those of a history, which has no call for a mailbox that is still to be made
 pub record IsDeliveryHistory (s : Mailboxes) (history : List Called) : Type 0 where
@@ -69,7 +70,7 @@ module _ (history : List Called) (call : Option Called) where
     delivered_longer : IsDelivered y (sent id with_call) (received id with_call)
     delivered_longer = record { all = all_longer; order = in_order_longer }
 
-  module _ (old new : Mailboxes) (given : AreGiven old) (by : DeliversBy old new call)
+  module _ (old new : Mailboxes) (given : AreGiven old) (by : TellsBy delivers old new call)
       (h : IsDeliveryHistory old history) where
     -- nothing was sent to a mailbox that was not live, if its id was still to be given
     nothing_longer : (id : ℕ) → old.next ≤ id → state_of old id ≡ None

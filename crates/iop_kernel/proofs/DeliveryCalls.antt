@@ -1,6 +1,6 @@
 -- Whether something is delivered, and what a delivery makes of the kernel.
 use mathlib.Core.Logic.{◌⊎◌, inl, inr}
-use Rattle.std.proofs.Common.{◌≡◌, ◌||◌, ◌&&◌, ℕ, ◌<◌, ◌≤◌, Bool, true, false, if◌then◌else◌, Option, None, Some, is_some, MatchOption, List, [], ◌∷◌, length, refl, ap, sym, subst, ◌∙◌, arith}
+use Rattle.std.proofs.Common.{◌≡◌, ◌||◌, ◌&&◌, ℕ, ◌<◌, ◌≤◌, Bool, true, false, Option, None, Some, is_some, List, [], ◌∷◌, length, refl, ap, sym, subst, ◌∙◌, arith}
 use Rattle.std.proofs.Math.Bool.{or-true, or-false}
 use Rattle.std.proofs.Math.ListN.{length-set, get_or-eq_default}
 use Rattle.std.proofs.lemmas.Bool.{cases_lt, and_parts, true≢false}
@@ -14,19 +14,15 @@ use Rattle.iop_base.specs.declared.line.Line.TheVariants as lines
 use Rattle.iop_exec.specs.declared.cpu.Cpu.{Cpu}
 use Rattle.iop_intr.proofs.Keeping.{deliverable-lowest}
 use Rattle.iop_intr.specs.InterruptLines.{IrqLine, idle, line_of, is_ready, is_deliverable, deliverable, raising, delivering}
-use Rattle.iop_intr.specs.Laws.{CanBeDelivered, IsLowest}
+use Rattle.iop_intr.specs.Laws.{CanBeDelivered}
 use Rattle.iop_intr.specs.declared.handler.Handler.{Handler}
 use Rattle.iop_ready.specs.declared.entry.Entry.{Entry}
-use Rattle.iop_time.proofs.Nexts.{due_is_next}
-use Rattle.iop_time.proofs.Results.{taken_is_next}
-use Rattle.iop_time.specs.Laws.{NoneHasCome, IsNext, moment_of, number_of}
 use Rattle.iop_time.specs.Taking.{takes_due}
-use Rattle.iop_time.specs.Timers.{Timers, AreTimers}
-use Rattle.iop_time.specs.Turns.{due}
+use Rattle.iop_time.specs.Timers.{Timers}
 use Rattle.iop_time.specs.declared.delay.Delay.{Delay}
 use Rattle.iop_time.specs.declared.due.Due.{Due}
 use Rattle.iop_time.specs.declared.due.Due.TheVariants as due_variants
-use Rattle.iop_kernel.specs.Deliveries.{Delivered, raises, may_deliver, delivers_line, delivers_due, delivers_by, delivers}
+use Rattle.iop_kernel.specs.Deliveries.{Delivered, raises, may_deliver, delivers_line, delivers_due, delivers}
 use Rattle.iop_kernel.specs.Handlers.{begins_handler, handler_registers}
 use Rattle.iop_kernel.specs.Placing.{IsPlaced}
 use Rattle.iop_kernel.specs.Standing.{Holds, Delivers, core}
@@ -34,88 +30,16 @@ use Rattle.iop_kernel.specs.System.{Kernel, Core, with_irqs, with_timers}
 use Rattle.iop_kernel.specs.Waits.{wakes_with}
 use Rattle.iop_kernel.specs.declared.active_handler.Cause.TheVariants as causes
 use Rattle.iop_kernel.specs.declared.kernel.Kernel.{Kernel as Program}
-use Rattle.iop_kernel.proofs.PlacingDeliveries.{due_delivered_places}
-
--- a line that is delivered has a handler
-has_handler : (all : List IrqLine) (n : ℕ) → deliverable all ≡ Some n
-    → is_some (line_of all n).handler ≡ true
-has_handler all n found =
-    let lowest : IsLowest all n = subst (λ (o : Option ℕ). MatchOption o
-    ((k : ℕ) → k < length all → CanBeDelivered (line_of all k) → ⊥) (IsLowest all)) found
-    (deliverable-lowest all) in
-    lowest.can.handler
-
-module _ (c : Core) where
-  -- it begins
-  line_comes : (line : ℕ) (o : Option Handler) → is_some o ≡ true
-      → is_some (delivers_line c line o) ≡ true
-  line_comes line None some = cc some
-  line_comes line (Some handler) some = refl
-
-  -- what is taken is delivered
-  due_comes : (o : Option Due) (left : Timers) → is_some (delivers_due c (o, left)) ≡ is_some o
-  due_comes None left = refl
-  due_comes (Some (due_variants.Alarm alarm)) left = refl
-  due_comes (Some (due_variants.Delay delay)) left = refl
+use Rattle.iop_kernel.proofs.DeliveriesNone.{FindsLowest, comes, delivers_some}
+use Rattle.iop_kernel.proofs.PlacingSteps.{due_delivered_places}
 
 -- what is taken now, and what is left
 abbrev taken_now : Core → Option Due × Timers
 taken_now c = takes_due c.kernel.timers c.kernel.clock
 
--- by what comes next and what is taken
-taken_by : (timers : Timers) (t : ℕ) (next : Option ℕ)
-    → MatchOption next (NoneHasCome timers t) (λ n. (m : ℕ) × IsNext timers t m n)
-    → (taken : Option Due)
-    → MatchOption taken (NoneHasCome timers t)
-    (λ x. IsNext timers t (moment_of x) (number_of x))
-    → is_some taken ≡ is_some next
-taken_by timers t None none None also = refl
-taken_by timers t None none (Some x) come = absurd (none (moment_of x) (number_of x) come.come)
-taken_by timers t (Some n) (m, come) None none = absurd (none m n come.come)
-taken_by timers t (Some n) come (Some x) also = refl
-
--- what comes next is taken
-taken_some : (timers : Timers) (t : ℕ) → AreTimers timers
-    → is_some (takes_due timers t).0 ≡ is_some (due timers t)
-taken_some timers t h =
-    taken_by timers t (due timers t) (due_is_next timers t) (takes_due timers t).0
-    (taken_is_next timers h t)
-
-module _ (c : Core) (kept : AreTimers c.kernel.timers) where
-  -- by the line that is delivered
-  some_by : (o : Option ℕ) → deliverable c.kernel.irqs ≡ o
-      → is_some (delivers_by c o) ≡ (is_some o || is_some (due c.kernel.timers c.kernel.clock))
-  some_by (Some line) found =
-      line_comes c line (line_of c.kernel.irqs line).handler (has_handler c.kernel.irqs line found)
-  some_by None found =
-      due_comes c (taken_now c).0 (taken_now c).1
-      ∙ taken_some c.kernel.timers c.kernel.clock kept
-
-  -- by whether something may be delivered
-  some_if : (may : Bool) → is_some (if may then delivers_by c (deliverable c.kernel.irqs) else None)
-      ≡ (may && (is_some (deliverable c.kernel.irqs)
-      || is_some (due c.kernel.timers c.kernel.clock)))
-  some_if true = some_by (deliverable c.kernel.irqs) refl
-  some_if false = refl
-
-  -- something is delivered where it may be, and a line is deliverable or a timer is due
-  pub delivers_some : (may line come : Bool) → may_deliver c ≡ may
-      → is_some (deliverable c.kernel.irqs) ≡ line
-      → is_some (due c.kernel.timers c.kernel.clock) ≡ come
-      → is_some (delivers c) ≡ (may && (line || come))
-  unfolding delivers
-  delivers_some may line come is_may is_line is_come =
-      some_if (may_deliver c)
-      ∙ ap (λ b. b && (is_some (deliverable c.kernel.irqs)
-      || is_some (due c.kernel.timers c.kernel.clock))) is_may
-      ∙ ap (λ b. may && (b || is_some (due c.kernel.timers c.kernel.clock))) is_line
-      ∙ ap (λ b. may && (line || b)) is_come
-
 -- some line can be delivered
 deliverable_by : (all : List IrqLine) (k : ℕ) → k < length all → CanBeDelivered (line_of all k)
-    → (o : Option ℕ)
-    → MatchOption o ((k : ℕ) → k < length all → CanBeDelivered (line_of all k) → ⊥) (IsLowest all)
-    → is_some o ≡ true
+    → (o : Option ℕ) → FindsLowest all o → is_some o ≡ true
 deliverable_by all k within can None none = absurd (none k within can)
 deliverable_by all k within can (Some n) lowest = refl
 
@@ -179,19 +103,17 @@ raised_or true false false true = refl
 raised_or true false false false = refl
 
 -- whether something is delivered once a line is raised
-pub raised_delivers : (k : Kernel) (cpu : Cpu) (n : ℕ) → AreTimers k.timers
+pub raised_delivers : (k : Kernel) (cpu : Cpu) (n : ℕ)
     → is_some (delivers (core (raises k n) cpu))
     ≡ (is_some (delivers (core k cpu)) || (is_ready (line_of k.irqs n) && may_deliver (core k cpu)))
-raised_delivers k cpu n kept =
+raised_delivers k cpu n =
     let may = may_deliver (core k cpu) in
-    let line = is_some (deliverable k.irqs) in
+    let come = comes (core k cpu) in
     let ready = is_ready (line_of k.irqs n) in
-    let come = is_some (due k.timers k.clock) in
-    delivers_some (core (raises k n) cpu) kept may (line || ready) come refl
-    (raised_by k.irqs n ready refl) refl
-    ∙ raised_or may line ready come
-    ∙ ap (λ b. b || (ready && may))
-    (sym (delivers_some (core k cpu) kept may line come refl refl refl))
+    delivers_some (core (raises k n) cpu)
+    ∙ ap (λ b. may && (b || come)) (raised_by k.irqs n ready refl)
+    ∙ raised_or may (is_some (deliverable k.irqs)) ready come
+    ∙ ap (λ b. b || (ready && may)) (sym (delivers_some (core k cpu)))
 
 -- a delay is taken
 delay_is : (c : Core) (did : Option Due × Timers) (delay : Delay)
@@ -222,9 +144,7 @@ module _ {R : Type 0} (stands_for : R → List Entry → Type 0) (c : Core) (pla
       holds = holds;
       placed = record {
         threads = placed.threads;
-        semaphores = placed.semaphores;
-        event_flags = placed.event_flags;
-        mailboxes = placed.mailboxes;
+        objects = placed.objects;
         delays = placed.delays;
       };
     },

@@ -13,7 +13,7 @@ use Rattle.iop_kernel.specs.Dispatching.{dispatched, dispatches}
 use Rattle.iop_kernel.specs.Standing.{Stands, Dispatches}
 use Rattle.iop_kernel.specs.System.{Core, may_dispatch}
 use Rattle.iop_kernel.specs.declared.kernel.Kernel.{Kernel as Program}
-use Rattle.iop_kernel.proofs.PlacingServices.{dispatches_place}
+use Rattle.iop_kernel.proofs.PlacingSteps.{placed_steps}
 use Rattle.iop_kernel.proofs.Standing.{holds_with}
 
 -- another thread may run where both are on
@@ -42,7 +42,7 @@ module _ {R : Type 0} (stands_for : R → List Entry → Type 0) (c : Core) (p :
         refl,
         record {
           holds = holds_with stands_for h.holds did.1;
-          placed = dispatches_place c (dispatched c.kernel d) h.placed made;
+          placed = (placed_steps c h.placed).dispatches d e;
         },
         did.2,
         rw (h.holds.clock, same) gives,

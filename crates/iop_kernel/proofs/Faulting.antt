@@ -28,17 +28,18 @@ module _ (s : System) where
       stores = λ d given place bytes inside h. tt;
       goes_on = λ d given word h kind e. absurd (cc e);
       faults = λ kind other e. (refl, refl);
+      prints = λ text. tt;
     };
     cores = λ c same. tt;
-    takes = λ size stack blocks c same is. tt;
+    takes = λ mode size at stack blocks c same is. tt;
     frees = λ stack c same. tt;
+    registers = λ libraries. tt;
     switches = λ d h kind e. absurd (cc e);
     returns = λ word kind e. absurd (cc e);
   })
 
   calls_so : CallMoves Nothing (IsAlone s) ⊤ s
   calls_so = record {
-    row = λ library number. tt;
     unlisted = λ library number. tt;
     handler = λ handler is kind e. absurd (cc e);
   }

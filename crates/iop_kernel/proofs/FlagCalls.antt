@@ -3,20 +3,22 @@ use Rattle.std.proofs.Common.{◌≡◌, ◌+◌, ℕ, Bool, true, false, Option
 use Rattle.std.specs.Prelude.{◌==◌, if◌then◌else◌, option_map, Result, Ok, Err}
 use Rattle.iop_base.specs.Numbers.{word_at}
 use Rattle.iop_base.specs.declared.code.Code.{Code}
-use Rattle.iop_base.specs.declared.code.TheConstants.Code.{EMPTY_PATTERN, SECOND_WAITER, FLAG_CONDITION, CANNOT_WAIT, UNKNOWN_EVENT_FLAG}
+use Rattle.iop_base.specs.declared.code.TheConstants.Code.{EMPTY_PATTERN, SECOND_WAITER, FLAG_CONDITION, CANNOT_WAIT}
 use Rattle.iop_event.specs.EventFlags as flags
 use Rattle.iop_event.specs.EventFlags.{EventFlags, is_taken, with_pattern}
 use Rattle.iop_event.specs.Waiting.{holds, pattern_after}
 use Rattle.iop_event.specs.declared.event_flag.EventFlag.{EventFlag}
 use Rattle.iop_event.specs.declared.met.Met.{Met}
 use Rattle.iop_event.specs.declared.wanted.Wanted.{Wanted}
-use Rattle.iop_objects.specs.Objects.{object_of, state_of, waiters_in, waiters_of, with_state}
+use Rattle.iop_objects.specs.Objects.{state_of, waiters_in, waiters_of, with_state}
 use Rattle.iop_stubs.specs.Stubs.{Memory}
+use Rattle.iop_thread.specs.declared.kind.Kind.TheVariants as kinds
 use Rattle.iop_kernel.specs.Boards.{Board, writes, quiet, optional_place}
-use Rattle.iop_kernel.specs.EventFlags.{LiveFlag, creates_flag_at, create_event_flag, refers_flag_to, refers_flag_at, refer_event_flag_status, met_place, waits_for_bits, polls_by, tests_or_waits, waits_flag_at, wait_event_flag, polls_flag_at, poll_event_flag}
+use Rattle.iop_kernel.specs.EventFlags.{LiveFlag, creates_flag_at, create_event_flag, flag_words, refer_event_flag_status, met_place, waits_for_bits, polls_by, tests_or_waits, waits_flag_at, wait_event_flag, polls_flag_at, poll_event_flag}
 use Rattle.iop_kernel.specs.System.{Core, caller, may_switch, with_event_flags, answers, answers_result, words_place}
 use Rattle.iop_kernel.specs.Waits.{is_code}
 use Rattle.iop_kernel.specs.declared.event_flags.TheConstants.{FLAG_WORDS, FLAG_STATUS_WORDS}
+use Rattle.iop_kernel.proofs.StatusCalls.{told_live}
 
 -- an event flag is made of the words at a place
 pub flag_made_there : (c : Core) (memory : Memory) (at place attr option first : ℕ)
@@ -30,16 +32,6 @@ unfolding word_at
 flag_made_there c memory at place attr option first stands a o f =
     sym (ap (creates_flag_at c memory) stands) ∙ rw (a, o, f, add-zero) refl
 
--- by the event flag of the id
-refers_for : (b : Board) (place : ℕ) (o : Option LiveFlag) (x : EventFlag) (count : ℕ)
-    → Some x ≡ option_map (λ p. p.state) o → count ≡ length (waiters_in o)
-    → refers_flag_to b place o
-    ≡ writes b.memory (Some place)
-    (x.attr ∷ x.option ∷ x.first ∷ x.pattern ∷ count ∷ []) b.core
-refers_for b place None x count e long = cc
-refers_for b place (Some o) x count e long =
-    let same : x ≡ o.state = cc in rw (same, long) refl
-
 -- the status of an event flag is written as these words
 pub flag_told : (b : Board) (id at place : ℕ) (x : EventFlag) (count : ℕ)
     → Some place ≡ words_place b.memory at FLAG_STATUS_WORDS
@@ -49,23 +41,11 @@ pub flag_told : (b : Board) (id at place : ℕ) (x : EventFlag) (count : ℕ)
     ≡ writes b.memory (Some place)
     (x.attr ∷ x.option ∷ x.first ∷ x.pattern ∷ count ∷ []) b.core
 flag_told b id at place x count stands e long =
-    sym (ap (refers_flag_at b id) stands)
-    ∙ refers_for b place (object_of b.core.kernel.event_flags.live id) x count e long
-
--- by the event flag of the id
-untold_for : (b : Board) (place : ℕ) (o : Option LiveFlag) → None ≡ option_map (λ p. p.state) o
-    → refers_flag_to b place o ≡ quiet b.memory (answers b.core UNKNOWN_EVENT_FLAG)
-untold_for b place None e = refl
-untold_for b place (Some o) e = cc
-
--- there is none
-pub flag_untold : (b : Board) (id at place : ℕ)
-    → Some place ≡ words_place b.memory at FLAG_STATUS_WORDS
-    → None ≡ state_of b.core.kernel.event_flags id
-    → refer_event_flag_status b id at ≡ quiet b.memory (answers b.core UNKNOWN_EVENT_FLAG)
-flag_untold b id at place stands e =
-    sym (ap (refers_flag_at b id) stands)
-    ∙ untold_for b place (object_of b.core.kernel.event_flags.live id) e
+    told_live kinds.EventFlag flag_words b FLAG_STATUS_WORDS id at place stands x e
+    (x.attr ∷ x.option ∷ x.first ∷ x.pattern ∷ count ∷ [])
+    (λ o found same. let all : count ≡ length o.waiters = long
+    ∙ ap (λ (o : Option LiveFlag). length (waiters_in o)) found in
+    rw (same, all) refl)
 
 -- a test, by whether no bit is asked for, no other thread may wait, and the condition holds
 abbrev tested : (s left : EventFlags) (pattern : ℕ) (empty taken met : Bool)

@@ -1,17 +1,10 @@
 -- What the services keep of the blocks of memory.
-use Rattle.std.proofs.Common.{◌≡◌, ℕ, ◌==◌, Bool, true, false, if◌then◌else◌, Option, Some, None, List, refl, ◌∙◌}
+use Rattle.std.proofs.Common.{◌≡◌, ℕ, ◌==◌, Bool, true, false, if◌then◌else◌, Option, Some, None, refl}
 use Rattle.iop_base.specs.BlockSizes.{block_len}
-use Rattle.iop_base.specs.declared.code.TheConstants.Code.{ILLEGAL_CONTEXT}
-use Rattle.iop_libs.specs.Calls.{Sight, serves, answers, code_value, calls_row, argument}
-use Rattle.iop_registry.specs.declared.registry.Entry.{Entry}
-use Rattle.iop_services.specs.Table.{allows}
-use Rattle.iop_services.specs.declared.row.Row.{Row}
-use Rattle.iop_services.specs.declared.service.Service.{Service}
-use Rattle.iop_services.specs.declared.service.Service.TheVariants as service
+use Rattle.iop_kernel.specs.Laws.{AreKept}
+use Rattle.iop_sysmem.proofs.Keeping.{allocating-blocks, freeing-blocks}
 use Rattle.iop_sysmem.specs.Allocating.{allocating, allocating_at, place_for}
 use Rattle.iop_sysmem.specs.BlockMap.{BlockMap, freeing_of, freeing, index_to_free}
-use Rattle.iop_sysmem.proofs.Keeping.{allocating-blocks, freeing-blocks}
-use Rattle.iop_kernel.specs.Laws.{AreKept}
 
 -- a block that is placed leaves memory as large as it was
 size_placed : (map : BlockMap) (len : ℕ) (o : Option ℕ) → (allocating_at map len o).1.size ≡ map.size
@@ -56,24 +49,3 @@ freeing_keeps map at = record {
   are_blocks = λ h. freeing-blocks map h at;
   size = size_freed map (index_to_free map at);
 }
-
-module _ (s : Sight) (map : BlockMap) (libraries : List Entry) where
-  -- a service of the libraries keeps them
-  service_keeps : (x : Service) → AreKept map (serves s map libraries x).blocks
-  service_keeps service.AllocSysMemory =
-      allocating_keeps map (argument s 0) (argument s 1) (argument s 2)
-  service_keeps service.FreeSysMemory = freeing_keeps map (argument s 0)
-  service_keeps other = same_blocks map
-
-  -- by whether it may be called
-  allowed_keeps : (row : Row) (allowed : Bool) → AreKept map (if allowed
-      then serves s map libraries row.service
-      else answers s map libraries (code_value ILLEGAL_CONTEXT)).blocks
-  allowed_keeps row true = service_keeps row.service
-  allowed_keeps row false = same_blocks map
-
-  -- a call of a row keeps them
-  pub row_keeps : (in_handler : Bool) (o : Option Row)
-      → AreKept map (calls_row s map libraries in_handler o).blocks
-  row_keeps in_handler None = same_blocks map
-  row_keeps in_handler (Some row) = allowed_keeps row (allows row.context in_handler)

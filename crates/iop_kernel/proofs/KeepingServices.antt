@@ -4,10 +4,12 @@ use Rattle.std.proofs.Common.{◌≡◌, ℕ, true}
 use Rattle.iop_kernel.specs.Laws.{ServicesKeep}
 use Rattle.iop_kernel.specs.Serving.{services}
 use Rattle.iop_kernel.specs.System.{System, is_active}
-use Rattle.iop_kernel.proofs.KeepingCore.{holds_alone, waits_of, holds_whole}
-use Rattle.iop_kernel.proofs.KeepingMoves.{Went, kept_moves, kept_calls}
+use Rattle.iop_kernel.proofs.KeepingCore.{alone_of, holds_whole}
+use Rattle.iop_kernel.proofs.KeepingGoes.{Went}
+use Rattle.iop_kernel.proofs.KeepingMoves.{kept_moves, kept_calls}
 use Rattle.iop_kernel.proofs.KeepingStores.{services_store, has_written}
-use Rattle.iop_kernel.proofs.WaitsHolding.{waits_served}
+use Rattle.iop_kernel.proofs.OverdueServices.{services_overdue}
+use Rattle.iop_kernel.proofs.PlacingServices.{services_place}
 use Rattle.iop_kernel.proofs.Walking.{services_go, asked_active}
 
 -- what each does with the kernel, its processor and its caller
@@ -26,9 +28,10 @@ services_keep s code active =
       follows = λ one placed is. h.follows one placed.threads is;
       handler_follows = h.handler_follows;
       numbers = h.numbers;
-      core = λ whole.
-          holds_whole (waits_served s code (waits_of whole)) (h.core (holds_alone whole));
-      clock = h.clock;
+      core = λ core.
+          holds_whole (services_place s code core.placed) (services_overdue s code core.overdue)
+          (h.alone core.placed.threads (alone_of core));
+      clock = stored.clock;
       memory = has_written s _ _ stored;
       blocks = stored.blocks;
     }

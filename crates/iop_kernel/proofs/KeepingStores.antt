@@ -3,20 +3,18 @@ use Rattle.std.proofs.Common.{◌≡◌, ℕ, ◌+◌, ◌≤◌, List, [], ◌+
 use Rattle.std.proofs.lemmas.List.Elements.{Contains-append_left, Contains-append_right, Contains-append_cases}
 use Rattle.std.specs.Prelude.{⊤, Some, Contains}
 use Rattle.iop_base.specs.Piece.{Piece}
-use Rattle.iop_services.specs.Table.{row_of}
 use Rattle.iop_stubs.specs.Stubs.{after_store, store_lines}
 use Rattle.iop_kernel.specs.Laws.{AreKept, Writes}
 use Rattle.iop_kernel.specs.Serving.{services}
-use Rattle.iop_kernel.specs.System.{Kernel, System, in_handler, stores, storing_lines}
+use Rattle.iop_kernel.specs.System.{Kernel, System, stores, storing_lines}
 use Rattle.iop_kernel.specs.declared.after.After.{After}
-use Rattle.iop_kernel.proofs.KeepingBlocks.{same_blocks, allocating_keeps, freeing_keeps, row_keeps}
-use Rattle.iop_kernel.specs.declared.creating.TheConstants.{FROM_ABOVE}
+use Rattle.iop_kernel.proofs.KeepingBlocks.{same_blocks, allocating_keeps, freeing_keeps}
 use Rattle.iop_kernel.proofs.KeepingHandlers.{gives_to}
 use Rattle.iop_kernel.proofs.KeepingMeetings.{stored_then}
 use Rattle.iop_kernel.proofs.KeepingMemory.{Stored, none_stored, one_stored}
 use Rattle.iop_kernel.proofs.Moves.{Moves, CallMoves}
 use Rattle.iop_kernel.proofs.MovesAside.{looks_aside}
-use Rattle.iop_kernel.proofs.Walking.{sight, services_go, asked_not}
+use Rattle.iop_kernel.proofs.Walking.{services_go, asked_not}
 
 -- more is told behind both
 contains_more : (lines given more : List Piece)
@@ -84,20 +82,20 @@ module _ (s : System) where
         blocks = h.blocks;
       };
       faults = λ kind. none s [] refl refl (same_blocks s.blocks);
+      prints = λ text. none s _ refl refl (same_blocks s.blocks);
     };
     cores = λ c same. none _ [] same refl (same_blocks s.blocks);
-    takes = λ size stack blocks c same is.
+    takes = λ mode size at stack blocks c same is.
         none _ [] same refl (subst (AreKept s.blocks) (ap (λ r. r.1) is)
-        (allocating_keeps s.blocks FROM_ABOVE size 0));
+        (allocating_keeps s.blocks mode size at));
     frees = λ stack c same. none _ [] same refl (freeing_keeps s.blocks stack);
+    registers = λ libraries. none _ [] refl refl (same_blocks s.blocks);
     switches = λ d h. h;
     returns = λ word. none _ [] refl refl (same_blocks s.blocks);
   })
 
   stored_calls : CallMoves HasStored Left ⊤ s
   stored_calls = record {
-    row = λ library number. none _ _ refl refl (row_keeps (sight s) s.blocks s.libraries
-        (in_handler s.core.kernel) (row_of library number));
     unlisted = λ library number. none _ _ refl refl (same_blocks s.blocks);
     handler = λ handler is.
         none _ [] (ap (λ (k : Kernel). k.clock) (gives_to s.core.kernel handler.cause _).is) refl

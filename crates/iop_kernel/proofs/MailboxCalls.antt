@@ -3,40 +3,21 @@ use Rattle.std.proofs.Common.{◌≡◌, ◌+◌, ℕ, true, false, Option, Some
 use Rattle.std.specs.Prelude.{option_map, option_and_then, unwrap_or, Result, Ok, Err}
 use Rattle.iop_base.specs.Numbers.{word_at}
 use Rattle.iop_base.specs.declared.code.Code.{Code}
-use Rattle.iop_base.specs.declared.code.TheConstants.Code.{OK, NO_MESSAGE, UNKNOWN_MAILBOX}
+use Rattle.iop_base.specs.declared.code.TheConstants.Code.{OK, NO_MESSAGE}
 use Rattle.iop_mbx.specs.Mailboxes as mailboxes
 use Rattle.iop_mbx.specs.Mailboxes.{Mailbox, Mailboxes, without_messages, messages_of, next_message, takes_waiter, takes_waiter_of, waiter_for}
 use Rattle.iop_mbx.specs.declared.mailbox.Mailbox as declared
 use Rattle.iop_objects.specs.Objects.{object_of, state_of, waiters_in, waiters_of, takes}
 use Rattle.iop_objects.specs.Queue.{Choice, chooses}
 use Rattle.iop_objects.specs.declared.waiter.Waiter.{Waiter}
-use Rattle.iop_ready.specs.declared.entry.Entry.{Entry}
 use Rattle.iop_stubs.specs.Stubs.{Memory}
+use Rattle.iop_thread.specs.declared.kind.Kind.TheVariants as kinds
 use Rattle.iop_kernel.specs.Boards.{Board, quiet, writes}
-use Rattle.iop_kernel.specs.Mailboxes.{LiveMailbox, create_mbx, creates_mbx_at, waits_for_message, queues_message, sends_by, receives_by, receives_or_waits, waits_mbx_at, receive_mbx, polls_mbx_at, poll_mbx, refers_mbx_to, refers_mbx_at, refer_mbx_status}
-use Rattle.iop_kernel.specs.Standing.{Holds}
-use Rattle.iop_kernel.specs.System.{Kernel, Core, caller, may_switch, with_mailboxes, answers, answers_result, words_place}
+use Rattle.iop_kernel.specs.Mailboxes.{LiveMailbox, create_mbx, creates_mbx_at, waits_for_message, queues_message, sends_by, receives_by, receives_or_waits, waits_mbx_at, receive_mbx, polls_mbx_at, poll_mbx, mailbox_words, refer_mbx_status}
+use Rattle.iop_kernel.specs.ObjectServices.{refers_to, refers_at}
+use Rattle.iop_kernel.specs.System.{Core, caller, may_switch, with_mailboxes, answers, answers_result, words_place}
 use Rattle.iop_kernel.specs.Waits.{is_code, wakes_with}
-use Rattle.iop_kernel.specs.declared.kernel.Kernel.{Kernel as Program}
 use Rattle.iop_kernel.specs.declared.mailboxes.TheConstants.{MAILBOX_WORDS, MAILBOX_STATUS_WORDS}
-
--- the kernel has other mailboxes
-pub holds_mailboxes : {R : Type 0} (stands_for : R → List Entry → Type 0) {p : Program R}
-    {k : Kernel} {t s : Mailboxes} → Holds stands_for p k → s ≡ t
-    → Holds stands_for (record p { mailboxes = t }) (record k { mailboxes = s })
-holds_mailboxes stands_for h now = record {
-  clock = h.clock;
-  interrupts = h.interrupts;
-  dispatching = h.dispatching;
-  handler = h.handler;
-  cause = h.cause;
-  threads = h.threads;
-  semaphores = h.semaphores;
-  event_flags = h.event_flags;
-  mailboxes = now;
-  timers = h.timers;
-  irqs = h.irqs;
-}
 
 -- a mailbox is made of the words at a place
 pub creates_there : (c : Core) (memory : Memory) (at place attr option : ℕ)
@@ -178,21 +159,6 @@ abbrev pub next_of : Option Mailbox → ℕ
 next_of o =
     unwrap_or (option_and_then (λ p. option_map (λ c. c.one.item) (next_message p)) o) 0
 
--- by the mailbox of the id
-refers_for : (b : Board) (place : ℕ) (o : Option LiveMailbox) (x : declared.Mailbox)
-    (waiters messages next : ℕ)
-    → Some x ≡ option_map without_messages (option_map (λ p. p.state) o)
-    → waiters ≡ length (waiters_in o)
-    → messages ≡ length (unwrap_or (option_map (λ p. p.messages) (option_map (λ p. p.state) o)) [])
-    → next ≡ next_of (option_map (λ p. p.state) o)
-    → refers_mbx_to b place o
-    ≡ writes b.memory (Some place) (status_of x waiters messages next) b.core
-refers_for b place None x waiters messages next e w m n = cc
-refers_for b place (Some o) x waiters messages next e w m n =
-    let attr : x.attr ≡ o.state.attr = cc in
-    let option : x.option ≡ o.state.option = cc in
-    rw (attr, option, w, m, n) refl
-
 -- the status of a mailbox is written as these words
 pub refers_live : (b : Board) (s : Mailboxes) (id at place : ℕ) (x : declared.Mailbox)
     (waiters messages next : ℕ) → b.core.kernel.mailboxes ≡ s
@@ -202,22 +168,29 @@ pub refers_live : (b : Board) (s : Mailboxes) (id at place : ℕ) (x : declared.
     → refer_mbx_status b id at
     ≡ writes b.memory (Some place) (status_of x waiters messages next) b.core
 refers_live b s id at place x waiters messages next is stands e w m n =
-    sym (ap (refers_mbx_at b id) stands)
-    ∙ ap (λ s. refers_mbx_to b place (object_of s.live id)) is
-    ∙ refers_for b place (object_of s.live id) x waiters messages next e w m n
-
--- by the mailbox of the id
-untold_for : (b : Board) (place : ℕ) (o : Option LiveMailbox)
-    → None ≡ option_map without_messages (option_map (λ p. p.state) o)
-    → refers_mbx_to b place o ≡ quiet b.memory (answers b.core UNKNOWN_MAILBOX)
-untold_for b place None e = refl
-untold_for b place (Some o) e = cc
+    sym (ap (refers_at kinds.Mailbox mailbox_words b id) stands)
+    ∙ ap (λ s. refers_to kinds.Mailbox mailbox_words b place (object_of s.live id)) is
+    ∙ by (object_of s.live id) e w m n
+  where
+    by : (o : Option LiveMailbox)
+        → Some x ≡ option_map without_messages (option_map (λ p. p.state) o)
+        → waiters ≡ length (waiters_in o)
+        → messages ≡ length (unwrap_or (option_map (λ p. p.messages)
+        (option_map (λ p. p.state) o)) [])
+        → next ≡ next_of (option_map (λ p. p.state) o)
+        → refers_to kinds.Mailbox mailbox_words b place o
+        ≡ writes b.memory (Some place) (status_of x waiters messages next) b.core
+    by None e w m n = cc
+    by (Some o) e w m n =
+        let attr : x.attr ≡ o.state.attr = cc in
+        let option : x.option ≡ o.state.option = cc in
+        rw (attr, option, w, m, n) refl
 
 -- there is none
-pub refers_none : (b : Board) (id at place : ℕ)
-    → Some place ≡ words_place b.memory at MAILBOX_STATUS_WORDS
-    → None ≡ option_map without_messages (state_of b.core.kernel.mailboxes id)
-    → refer_mbx_status b id at ≡ quiet b.memory (answers b.core UNKNOWN_MAILBOX)
-refers_none b id at place stands e =
-    sym (ap (refers_mbx_at b id) stands)
-    ∙ untold_for b place (object_of b.core.kernel.mailboxes.live id) e
+pub no_mailbox : (s : Mailboxes) (id : ℕ) → None ≡ option_map without_messages (state_of s id)
+    → state_of s id ≡ None
+no_mailbox s id e = by (state_of s id) e
+  where
+    by : (o : Option Mailbox) → None ≡ option_map without_messages o → o ≡ None
+    by None e = refl
+    by (Some x) e = cc

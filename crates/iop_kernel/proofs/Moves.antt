@@ -1,61 +1,52 @@
--- What holds after each service, if it lasts over each small change that one can make. A premise is
--- what is known where a service makes the change. All changes are told of the state in which the
--- service was called: a service makes one of them, then stores, and then answers.
-use Rattle.std.proofs.Common.{◌≡◌, ℕ, ◌+◌, ◌-◌, ◌≤◌, ◌==◌, nat_le, nat_lt, Bool, true, false, not, ◌&&◌, Option, Some, None, Ok, List, [], ◌∷◌, ◌++◌, length}
-use Rattle.std.specs.Prelude.{⊤, bit_and}
-use Rattle.iop_base.specs.Piece.{Piece, Traced}
+-- What holds after each service, if it lasts over each small change that one can make: a law gives its
+-- two properties and an instance of `Moves`, and `Walking` does the rest. A premise is what is known
+-- where a service makes the change. All changes are told of the state in which the service was
+-- called: a service makes one of them, then stores, and then answers.
+use Rattle.std.proofs.Common.{◌≡◌, ℕ, ◌+◌, ◌≤◌, ◌==◌, Bool, true, false, not, ◌&&◌, Option, Some, None, Ok, List, [], ◌∷◌, ◌++◌, length}
+use Rattle.iop_base.specs.Piece.{Piece, Told, Traced}
 use Rattle.iop_base.specs.Text.{line_bytes}
 use Rattle.iop_base.specs.declared.code.TheConstants.Code.{OK, OBJECT_DELETED, WAIT_RELEASED}
 use Rattle.iop_base.specs.declared.guest_fault.GuestFault.{GuestFault}
 use Rattle.iop_base.specs.declared.line.Line.TheVariants as lines
-use Rattle.iop_event.specs.EventFlags as flags
-use Rattle.iop_event.specs.EventFlags.{EventFlags, with_pattern}
-use Rattle.iop_event.specs.Waiting.{holds, pattern_after}
-use Rattle.iop_event.specs.declared.event_flag.EventFlag as declared_flag
-use Rattle.iop_event.specs.declared.wanted.Wanted.{Wanted}
 use Rattle.iop_exec.specs.Row.{reg}
 use Rattle.iop_exec.specs.declared.cpu.Cpu.{Cpu}
 use Rattle.iop_intr.specs.InterruptLines.{IrqLine}
-use Rattle.iop_libs.specs.Calls.{Sight, calls_row, row_pieces}
-use Rattle.iop_mbx.specs.Mailboxes as mailboxes
-use Rattle.iop_mbx.specs.Mailboxes.{Mailbox, Mailboxes, is_by_priority, waiters_by_priority, next_message, with_messages}
-use Rattle.iop_objects.specs.Objects as objects
 use Rattle.iop_objects.specs.Objects.{object_of, state_of, waiters_of, with_state, with_waiters}
-use Rattle.iop_objects.specs.Queue.{Choice, chooses, in_order}
-use Rattle.iop_objects.specs.declared.queued.Queued.{Queued}
+use Rattle.iop_objects.specs.Objects as objects
+use Rattle.iop_objects.specs.Queue.{Choice, chooses}
 use Rattle.iop_objects.specs.declared.waiter.Waiter.{Waiter}
-use Rattle.iop_sema.specs.Semaphores as semaphores
-use Rattle.iop_sema.specs.Semaphores.{Semaphores, by_priority, with_count}
-use Rattle.iop_sema.specs.declared.semaphore.Semaphore as declared
-use Rattle.iop_services.specs.Table.{row_of}
+use Rattle.iop_registry.specs.declared.registry.Entry.{Entry}
+use Rattle.iop_services.specs.declared.codes.TheConstants.{LOADCORE, SYSMEM, INTRMAN, THBASE, THEVENT}
 use Rattle.iop_sysmem.specs.Allocating.{allocating}
 use Rattle.iop_sysmem.specs.BlockMap.{BlockMap, freeing}
 use Rattle.iop_thread.specs.Operations as threads
 use Rattle.iop_thread.specs.States.{wait_in}
 use Rattle.iop_thread.specs.ThreadTable.{ThreadTable, thread_of, priority_of, is_it, has_priority, running_thread}
+use Rattle.iop_thread.specs.declared.kind.Kind.{Kind}
+use Rattle.iop_thread.specs.declared.kind.Kind.TheVariants.{EventFlag}
 use Rattle.iop_thread.specs.declared.param.Param.{Param}
-use Rattle.iop_thread.specs.declared.thread.Thread.{Thread}
 use Rattle.iop_thread.specs.declared.thread.TheConstants.{LOADER}
+use Rattle.iop_thread.specs.declared.thread.Thread.{Thread}
 use Rattle.iop_thread.specs.declared.wait.Wait.{Wait}
-use Rattle.iop_thread.specs.declared.wait.Wait.TheVariants.{Sleep, Delay, Semaphore, EventFlag}
-use Rattle.iop_thread.specs.declared.wait.Wait.TheVariants.{Mailbox as MailboxOf}
+use Rattle.iop_thread.specs.declared.wait.Wait.TheVariants.{Sleep, Delay, Object}
 use Rattle.iop_time.specs.Timers.{sets_alarm, cancels, delays}
 use Rattle.iop_kernel.specs.Boards.{Board}
 use Rattle.iop_kernel.specs.Deleting.{Owner}
 use Rattle.iop_kernel.specs.EventFlags.{LiveFlag}
 use Rattle.iop_kernel.specs.Handlers.{handler_returned}
-use Rattle.iop_kernel.specs.Mailboxes.{LiveMailbox}
+use Rattle.iop_kernel.specs.Kinds.{State, Wants, Live, Table, library_of, waits_by_priority, with_objects}
+use Rattle.iop_kernel.specs.Kinds
 use Rattle.iop_kernel.specs.Naming.{is_nobody_else}
+use Rattle.iop_kernel.specs.ObjectServices.{threads_in_order}
 use Rattle.iop_kernel.specs.Running.{ended}
-use Rattle.iop_kernel.specs.Semaphores.{LiveSemaphore}
-use Rattle.iop_kernel.specs.System.{Core, Left, System, Done, Served, in_handler, may_switch, caller, running_registers, with_threads, with_semaphores, with_event_flags, with_mailboxes, with_timers, with_irqs, with_interrupts, opened, answered, code_word, stores, storing_lines}
+use Rattle.iop_kernel.specs.System.{Core, Left, System, Done, Served, may_switch, caller, running_registers, with_threads, with_event_flags, with_timers, with_irqs, with_interrupts, opened, answered, code_word, stores, storing_lines}
 use Rattle.iop_kernel.specs.Waiting.{waits}
-use Rattle.iop_kernel.specs.Waits.{threads_of, wakes_with, wakes_all, core_leaves, core_requeues}
+use Rattle.iop_kernel.specs.Waits.{wakes_with, wakes_all, core_leaves, core_requeues}
 use Rattle.iop_kernel.specs.declared.active_handler.ActiveHandler.{ActiveHandler}
 use Rattle.iop_kernel.specs.declared.after.After.{After}
 use Rattle.iop_kernel.specs.declared.after.After.TheVariants.{Resume, Switch, ModuleReturned, Fault}
-use Rattle.iop_kernel.specs.declared.call.TheConstants.{INTRMAN, THBASE, THSEMAP, THEVENT, THMSGBX}
 use Rattle.iop_kernel.specs.declared.creating.TheConstants.{FROM_ABOVE}
+use Rattle.iop_kernel.proofs.Changing.{IsFirst, Changes, HasToWait}
 use Rattle.iop_kernel.proofs.KeepingMeetings.{met_of, set_flags, threads_met}
 
 -- what a call leaves and gives, and what becomes of its caller, is such
@@ -74,13 +65,6 @@ module _ (Q : After → System → List Piece → Type 0) (s : System) where
   abbrev pub BoardEnds : Done Board → Type 0
   BoardEnds d =
       Q d.left.after (record s { core = d.left.state.core; memory = d.left.state.memory }) d.pieces
-
--- the threads that wait for an object, in the order in which they are woken when it is deleted
-abbrev pub sema_waiters : LiveSemaphore → List ℕ
-sema_waiters o = threads_of (in_order (semaphores.by_priority o.state) o.waiters)
-
-abbrev pub mbx_waiters : LiveMailbox → List ℕ
-mbx_waiters o = threads_of (in_order (waiters_by_priority o.state.attr) o.waiters)
 
 -- P holds of what a service has left and given so far, Q of what it leaves in the end, by what
 -- becomes of its caller; Asks is what is known where a service asks for a thread that calls it
@@ -106,19 +90,23 @@ module _ (P : System → List Piece → Type 0) (Q : After → System → List P
   abbrev registers : Cpu
   registers = running_registers s.core
 
-  abbrev semas : Semaphores
-  semas = s.core.kernel.semaphores
-
-  abbrev those : EventFlags
-  those = s.core.kernel.event_flags
-
-  abbrev boxes : Mailboxes
-  boxes = s.core.kernel.mailboxes
+  abbrev those : (kind : Kind) → Table kind
+  those kind = Kinds.table kind s.core.kernel
 
   -- the ready threads of a priority are rotated, once 0 is answered
   abbrev rotated : ℕ → Core
   rotated priority =
       with_threads now (threads.rotates table priority (running_registers (answered now 0)))
+
+  -- the registered libraries
+  pub record RegistryMoves : Type 0 where
+    pub registers : (libraries : List Entry) → P (record s { libraries = libraries }) []
+
+  -- blocks of memory
+  pub record BlockMoves : Type 0 where
+    pub takes : (mode size at : ℕ)
+        → P (record s { blocks = (allocating s.blocks mode size at).1 }) []
+    pub frees : (at : ℕ) → P (record s { blocks = (freeing s.blocks at).1 }) []
 
   -- interrupts, and their lines
   pub record InterruptMoves : Type 0 where
@@ -197,88 +185,37 @@ module _ (P : System → List Piece → Type 0) (Q : After → System → List P
     pub delays : (moment thread : ℕ) → caller now ≡ Some thread → may_switch now.kernel ≡ true
         → Leaves (waits (with_timers now (delays now.kernel.timers moment thread)) Delay).state
 
-  -- semaphores, with the threads that are woken or wait
-  pub record SemaphoreMoves : Type 0 where
-    pub makes : (attr option initial max : ℕ) → semaphores.is_attribute attr ≡ true
-        → nat_lt max initial ≡ false
-        → Lasts (with_semaphores now (objects.creates semas
-        (record { attr = attr; option = option; initial = initial; max = max; count = initial })).1)
+  -- objects of a kind, with the threads that are woken or wait
+  pub record ObjectMoves (kind : Kind) : Type 0 where
+    pub makes : (x : State kind) → IsFirst kind x
+        → Lasts (with_objects kind now (objects.creates (those kind) x).1)
     -- those that wait are woken
-    pub deletes : (o : LiveSemaphore) → object_of semas.live o.id ≡ Some o
-        → Lasts (with_semaphores (with_threads now
-        (wakes_all table (sema_waiters o) (code_word OBJECT_DELETED)))
-        (objects.deletes semas o.id))
-    pub counts : (id : ℕ) (x : declared.Semaphore) → state_of semas id ≡ Some x
-        → chooses (by_priority x) (waiters_of semas id) ≡ None → nat_le x.max x.count ≡ false
-        → Lasts (with_semaphores now (with_state semas id (with_count x (x.count + 1))))
-    pub wakes : (id : ℕ) (x : declared.Semaphore) (one : Choice (Waiter ⊤))
-        → state_of semas id ≡ Some x
-        → chooses (by_priority x) (waiters_of semas id) ≡ Some one
-        → Lasts (wakes_with (with_semaphores now (with_waiters semas id one.others))
+    pub deletes : (o : Live kind) → object_of (those kind).live o.id ≡ Some o
+        → Lasts (with_objects kind (with_threads now
+        (wakes_all table (threads_in_order kind o) (code_word OBJECT_DELETED)))
+        (objects.deletes (those kind) o.id))
+    pub changes : (id : ℕ) (x y : State kind) → state_of (those kind) id ≡ Some x
+        → Changes kind (those kind) id x y
+        → Lasts (with_objects kind now (with_state (those kind) id y))
+    pub wakes : (id : ℕ) (x : State kind) (one : Choice (Waiter (Wants kind)))
+        → state_of (those kind) id ≡ Some x
+        → chooses (waits_by_priority kind x) (waiters_of (those kind) id) ≡ Some one
+        → Lasts (wakes_with (with_objects kind now (with_waiters (those kind) id one.others))
         one.one.item.thread OK)
-    pub takes : (id : ℕ) (x : declared.Semaphore) → state_of semas id ≡ Some x
-        → (x.count == 0) ≡ false
-        → Lasts (with_semaphores now (with_state semas id (with_count x (x.count - 1))))
-    pub waits : (id thread : ℕ) (x : declared.Semaphore) → caller now ≡ Some thread
-        → may_switch now.kernel ≡ true → state_of semas id ≡ Some x → (x.count == 0) ≡ true
+    pub waits : (id thread : ℕ) (x : State kind) (wants : Wants kind)
+        → caller now ≡ Some thread → may_switch now.kernel ≡ true
+        → state_of (those kind) id ≡ Some x → HasToWait kind (those kind) id x wants
         → let priority = priority_of table.live thread in
-        Leaves (waits (with_semaphores now (semaphores.waits semas id thread priority))
-        (Semaphore id)).state
+        Leaves (waits (with_objects kind now (objects.waits (those kind) id
+        (record { priority = priority; item = record { thread = thread; wants = wants } })))
+        (Object kind id)).state
 
-  -- event flags
-  pub record FlagMoves : Type 0 where
-    pub makes : (attr option first : ℕ) → flags.is_attribute attr ≡ true
-        → Lasts (with_event_flags now (objects.creates those
-        (record { attr = attr; option = option; first = first; pattern = first })).1)
-    pub deletes : (o : LiveFlag) → object_of those.live o.id ≡ Some o
-        → Lasts (with_event_flags (with_threads now
-        (wakes_all table (threads_of o.waiters) (code_word OBJECT_DELETED)))
-        (objects.deletes those o.id))
-    -- bits are set, and those are woken whose conditions then hold
-    pub sets : (bits : ℕ) (o : LiveFlag) → object_of those.live o.id ≡ Some o
-        → Lasts (with_threads (with_event_flags now (set_flags now o bits))
-        (wakes_all table (threads_met (met_of o bits)) (code_word OK)))
-    pub clears : (id mask : ℕ) (x : declared_flag.EventFlag) → state_of those id ≡ Some x
-        → Lasts (with_event_flags now
-        (with_state those id (with_pattern x (bit_and x.pattern mask))))
-    pub tests : (id : ℕ) (wanted : Wanted) (x : declared_flag.EventFlag)
-        → state_of those id ≡ Some x → holds wanted.bits wanted.mode x.pattern ≡ true
-        → Lasts (with_event_flags now
-        (with_state those id (with_pattern x (pattern_after wanted.mode x.pattern))))
-    pub waits : (id : ℕ) (wanted : Wanted) (thread : ℕ) (x : declared_flag.EventFlag)
-        → caller now ≡ Some thread → may_switch now.kernel ≡ true → state_of those id ≡ Some x
-        → (wanted.bits == 0) ≡ false → flags.is_taken those id x ≡ false
-        → holds wanted.bits wanted.mode x.pattern ≡ false
-        → let priority = priority_of table.live thread in
-        Leaves (waits (with_event_flags now (flags.waits those id thread priority wanted))
-        (EventFlag id)).state
-
-  -- mailboxes
-  pub record MailboxMoves : Type 0 where
-    pub makes : (attr option : ℕ) → mailboxes.is_attribute attr ≡ true
-        → Lasts (with_mailboxes now (objects.creates boxes
-        (record { attr = attr; option = option; messages = [] })).1)
-    pub deletes : (o : LiveMailbox) → object_of boxes.live o.id ≡ Some o
-        → Lasts (with_mailboxes (with_threads now
-        (wakes_all table (mbx_waiters o) (code_word OBJECT_DELETED)))
-        (objects.deletes boxes o.id))
-    pub puts : (id : ℕ) (message : Queued ℕ) (x : Mailbox) → state_of boxes id ≡ Some x
-        → chooses (is_by_priority boxes id) (waiters_of boxes id) ≡ None
-        → mailboxes.has_room boxes ≡ true
-        → Lasts (with_mailboxes now
-        (with_state boxes id (with_messages x (x.messages ++ message ∷ []))))
-    pub wakes : (id : ℕ) (x : Mailbox) (one : Choice (Waiter ℕ)) → state_of boxes id ≡ Some x
-        → chooses (is_by_priority boxes id) (waiters_of boxes id) ≡ Some one
-        → Lasts (wakes_with (with_mailboxes now (with_waiters boxes id one.others))
-        one.one.item.thread OK)
-    pub gets : (id : ℕ) (x : Mailbox) (one : Choice ℕ) → state_of boxes id ≡ Some x
-        → next_message x ≡ Some one
-        → Lasts (with_mailboxes now (with_state boxes id (with_messages x one.others)))
-    pub waits : (id place thread : ℕ) (x : Mailbox) → caller now ≡ Some thread
-        → may_switch now.kernel ≡ true → state_of boxes id ≡ Some x → next_message x ≡ None
-        → let priority = priority_of table.live thread in
-        Leaves (waits (with_mailboxes now (mailboxes.waits boxes id thread priority place))
-        (MailboxOf id)).state
+  -- bits of an event flag are set, and those are woken whose conditions then hold
+  abbrev pub Sets : Type 0
+  Sets =
+      (bits : ℕ) (o : LiveFlag) → object_of (those EventFlag).live o.id ≡ Some o
+      → Lasts (with_threads (with_event_flags now (set_flags now o bits))
+      (wakes_all table (threads_met (met_of o bits)) (code_word OK)))
 
   -- what every service may do, and how one ends
   pub record EachMoves : Type 0 where
@@ -292,33 +229,27 @@ module _ (P : System → List Piece → Type 0) (Q : After → System → List P
     pub goes_on : (d : System) (given : List Piece) (word : ℕ) → P d given
         → Q Resume (record d { core = answered d.core word }) given
     pub faults : (kind : GuestFault) → Q (Fault kind) s []
+    -- a text is printed
+    pub prints : (text : List ℕ) → P s (Told text ∷ [])
 
   -- the services of a library make its own moves alone
   pub record Moves (library : ℕ) : Type 0 where
     pub each : EachMoves
+    pub registry : library ≡ LOADCORE → RegistryMoves
+    pub blocks : library ≡ SYSMEM → BlockMoves
     pub interrupts : library ≡ INTRMAN → InterruptMoves
     pub alarms : library ≡ THBASE → AlarmMoves
     pub threads : library ≡ THBASE → ThreadMoves
-    pub semaphores : library ≡ THSEMAP → SemaphoreMoves
-    pub event_flags : library ≡ THEVENT → FlagMoves
-    pub mailboxes : library ≡ THMSGBX → MailboxMoves
+    pub objects : (kind : Kind) → library ≡ library_of kind → ObjectMoves kind
+    pub sets : library ≡ THEVENT → Sets
 
-  -- a call of a library that iop_libs answers, or whose number is not listed
-  abbrev pub RowLasts : (library number : ℕ) → Type 0
-  RowLasts library number =
-      let sight : Sight = record { memory = s.memory; cpu = s.core.cpu } in
-      let inside = in_handler s.core.kernel in
-      let called = calls_row sight s.blocks s.libraries inside (row_of library number) in
-      P (record s { blocks = called.blocks; libraries = called.libraries })
-      (row_pieces sight inside (row_of library number))
-
+  -- a call of a number that is not listed
   abbrev pub UnlistedLasts : (library number : ℕ) → Type 0
   UnlistedLasts library number =
       P s (Traced (line_bytes s.core.kernel.clock (lines.Unlisted library number)) ∷ [])
 
   -- all of them, and the return of a handler
   pub record CallMoves : Type 0 where
-    pub row : (library number : ℕ) → RowLasts library number
     pub unlisted : (library number : ℕ) → UnlistedLasts library number
     pub handler : (handler : ActiveHandler) → s.core.kernel.handler ≡ Some handler
         → Leaves (handler_returned now handler (reg now.cpu 2))

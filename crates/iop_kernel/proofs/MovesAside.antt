@@ -3,10 +3,11 @@
 use Rattle.std.proofs.Common.{◌≡◌, ℕ, Option, Some, List, [], refl}
 use Rattle.iop_base.specs.Piece.{Piece}
 use Rattle.iop_base.specs.declared.code.TheConstants.Code.{WAIT_RELEASED}
+use Rattle.iop_registry.specs.declared.registry.Entry.{Entry}
 use Rattle.iop_sysmem.specs.Allocating.{allocating}
 use Rattle.iop_sysmem.specs.BlockMap.{BlockMap, freeing}
 use Rattle.iop_thread.specs.declared.wait.Wait.{Wait}
-use Rattle.iop_thread.specs.declared.wait.Wait.TheVariants.{Delay, Semaphore, EventFlag, Mailbox}
+use Rattle.iop_thread.specs.declared.wait.Wait.TheVariants.{Delay, Object}
 use Rattle.iop_kernel.specs.System.{Core, System, with_threads, opened}
 use Rattle.iop_kernel.specs.Waits.{core_leaves, core_requeues, wakes_with}
 use Rattle.iop_kernel.specs.declared.after.After.{After}
@@ -18,17 +19,13 @@ use Rattle.iop_kernel.proofs.Moves.{EachMoves, Moves}
 leaves_clock : (c : Core) (thread : ℕ) (wait : Option Wait)
     → (core_leaves c thread wait).kernel.clock ≡ c.kernel.clock
 leaves_clock c thread (Some Delay) = refl
-leaves_clock c thread (Some (Semaphore id)) = refl
-leaves_clock c thread (Some (EventFlag id)) = refl
-leaves_clock c thread (Some (Mailbox id)) = refl
+leaves_clock c thread (Some (Object kind id)) = refl
 leaves_clock c thread other = refl
 
 -- so does one of another priority
 requeues_clock : (c : Core) (thread priority : ℕ) (wait : Option Wait)
     → (core_requeues c thread priority wait).kernel.clock ≡ c.kernel.clock
-requeues_clock c thread priority (Some (Semaphore id)) = refl
-requeues_clock c thread priority (Some (EventFlag id)) = refl
-requeues_clock c thread priority (Some (Mailbox id)) = refl
+requeues_clock c thread priority (Some (Object kind id)) = refl
 requeues_clock c thread priority other = refl
 
 module _ (P : System → List Piece → Type 0) (Q : After → System → List Piece → Type 0)
@@ -42,11 +39,12 @@ module _ (P : System → List Piece → Type 0) (Q : After → System → List P
     -- the kernel and its processor change
     pub cores : (c : Core) → IsNow c → P (record s { core = c }) []
     -- and a block is taken or freed
-    pub takes : (size stack : ℕ) (blocks : BlockMap) (c : Core) → IsNow c
-        → allocating s.blocks FROM_ABOVE size 0 ≡ (stack, blocks)
+    pub takes : (mode size at stack : ℕ) (blocks : BlockMap) (c : Core) → IsNow c
+        → allocating s.blocks mode size at ≡ (stack, blocks)
         → P (record s { core = c; blocks = blocks }) []
     pub frees : (stack : ℕ) (c : Core) → IsNow c
         → P (record s { core = c; blocks = (freeing s.blocks stack).1 }) []
+    pub registers : (libraries : List Entry) → P (record s { libraries = libraries }) []
     -- the caller does not go on
     pub switches : (d : System) → P d [] → Q Switch d []
     pub returns : (word : ℕ) → Q (ModuleReturned word) (record s { core = opened s.core }) []
@@ -54,6 +52,12 @@ module _ (P : System → List Piece → Type 0) (Q : After → System → List P
   pub looks_aside : LooksAside → (library : ℕ) → Moves P Q Asks s library
   looks_aside h library = record {
     each = h.each;
+    registry = λ own_library. record { registers = h.registers };
+    blocks = λ own_library. record {
+      takes = λ mode size at. let r = allocating s.blocks mode size at in
+          h.takes mode size at r.0 r.1 s.core refl refl;
+      frees = λ at. h.frees at s.core refl;
+    };
     interrupts =
         λ own_library. record { lines = λ left. h.cores _ refl; turns = λ on. h.cores _ refl };
     alarms = λ own_library. record {
@@ -62,7 +66,7 @@ module _ (P : System → List Piece → Type 0) (Q : After → System → List P
     };
     threads = λ own_library. record {
       dispatch = λ enabled on asks. h.cores _ refl;
-      creates = λ size param stack blocks is. h.takes size stack blocks _ refl is;
+      creates = λ size param stack blocks is. h.takes FROM_ABOVE size 0 stack blocks _ refl is;
       deletes = λ id stack left is. h.frees stack _ refl;
       starts = λ id argument. h.cores _ refl;
       ends = λ id is other. h.switches _ (h.cores _ refl);
@@ -87,28 +91,12 @@ module _ (P : System → List Piece → Type 0) (Q : After → System → List P
       resumes = λ id other. h.cores _ refl;
       delays = λ moment thread is may. h.switches _ (h.cores _ refl);
     };
-    semaphores = λ own_library. record {
-      makes = λ attr option initial max legal fits. h.cores _ refl;
+    objects = λ kind own_library. record {
+      makes = λ x legal. h.cores _ refl;
       deletes = λ o found. h.cores _ refl;
-      counts = λ id x known none fits. h.cores _ refl;
+      changes = λ id x y known how. h.cores _ refl;
       wakes = λ id x one known chosen. h.cores _ refl;
-      takes = λ id x known some. h.cores _ refl;
-      waits = λ id thread x is may known zero. h.switches _ (h.cores _ refl);
+      waits = λ id thread x wants is may known must. h.switches _ (h.cores _ refl);
     };
-    event_flags = λ own_library. record {
-      makes = λ attr option first legal. h.cores _ refl;
-      deletes = λ o found. h.cores _ refl;
-      sets = λ bits o found. h.cores _ refl;
-      clears = λ id mask x known. h.cores _ refl;
-      tests = λ id wanted x known met. h.cores _ refl;
-      waits = λ id wanted thread x is may known some free unmet. h.switches _ (h.cores _ refl);
-    };
-    mailboxes = λ own_library. record {
-      makes = λ attr option legal. h.cores _ refl;
-      deletes = λ o found. h.cores _ refl;
-      puts = λ id message x known none room. h.cores _ refl;
-      wakes = λ id x one known chosen. h.cores _ refl;
-      gets = λ id x one known next. h.cores _ refl;
-      waits = λ id place thread x is may known none. h.switches _ (h.cores _ refl);
-    };
+    sets = λ own_library bits o found. h.cores _ refl;
   }

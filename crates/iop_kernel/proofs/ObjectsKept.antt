@@ -1,28 +1,28 @@
 -- What a change of those that wait for an object keeps of the objects of its kind.
-use Rattle.std.proofs.Common.{◌≡◌, ◌==◌, ℕ, Bool, true, false, if◌then◌else◌, cond, option_map, Option, Some, None, List, [], ◌∷◌, map, filter, refl, ap, ◌∙◌, arith}
+use Rattle.std.proofs.Common.{◌≡◌, ◌==◌, ℕ, Bool, true, false, if◌then◌else◌, option_map, Option, Some, None, List, [], ◌∷◌, map, filter, refl, subst, arith}
 use Rattle.std.specs.List.{All, Contains}
 use Rattle.std.specs.Prelude.{not}
 use Rattle.std.proofs.lemmas.Bool.Decides.{nat_tests}
 use Rattle.std.proofs.lemmas.List.{length-map, get_or-map}
-use Rattle.std.proofs.lemmas.List.Elements.{All-append, All-weaker, All-map, All-filter, All-contains}
-use Rattle.iop_objects.specs.Objects.{Object, Objects, object_of, state_of, waiters_in, waiters_of, with_waiters, drops, requeues}
+use Rattle.std.proofs.lemmas.List.Elements.{All-head, All-append, All-weaker, All-map, All-filter, All-contains}
+use Rattle.iop_objects.specs.Objects.{Object, Objects, object_of, waiters_in, waiters_of, with_waiters, drops, requeues}
 use Rattle.iop_objects.specs.Waiting.{is_thread, without, with_priority, requeued}
 use Rattle.iop_objects.specs.declared.queued.Queued.{Queued}
 use Rattle.iop_objects.specs.declared.waiter.Waiter.{Waiter}
-use Rattle.iop_objects.proofs.Changes.{object_of-changed}
 use Rattle.iop_kernel.specs.Laws.{KeepsObjects}
+use Rattle.iop_kernel.proofs.PlacingObjects.{waiters_other, waiters_own, waiters_leave_states}
 
 module _ {W : Type 0} where
   -- those that wait, without the priorities by which they are queued
-  abbrev items : List (Queued (Waiter W)) → List (Waiter W)
+  abbrev pub items : List (Queued (Waiter W)) → List (Waiter W)
   items waiters = map (λ x. x.item) waiters
 
   -- a waiter is one of these, whatever its priority
-  abbrev IsAmong : List (Queued (Waiter W)) → Queued (Waiter W) → Type 0
+  abbrev pub IsAmong : List (Queued (Waiter W)) → Queued (Waiter W) → Type 0
   IsAmong old x = Contains (items old) x.item
 
   -- there are no other waiters
-  abbrev NoOthers : (old new : List (Queued (Waiter W))) → Type 0
+  abbrev pub NoOthers : (old new : List (Queued (Waiter W))) → Type 0
   NoOthers old new = All (IsAmong old) new
 
   -- each is among all
@@ -71,6 +71,22 @@ module _ {W : Type 0} where
       All-contains (Contains (items old)) (items new) w
       (All-map (Contains (items old)) (λ (x : Queued (Waiter W)). x.item) new none) h
 
+  -- there is none where there was none
+  pub none_new : (old new : List (Queued (Waiter W))) → NoOthers old new → old ≡ [] → new ≡ []
+  none_new old [] none empty = refl
+  none_new old (x ∷ xs) none empty =
+      let there = subst (λ old. Contains (items old) x.item) empty
+      (All-head (IsAmong old) x xs none) in
+      absurd (omega (arith, there.1))
+
+  -- what holds of each old one holds of each new one, where it is not about priorities
+  pub all_others : (Holds : Waiter W → Type 0) (old new : List (Queued (Waiter W)))
+      → NoOthers old new → All (λ x. Holds x.item) old → All (λ x. Holds x.item) new
+  all_others Holds old new none all =
+      All-weaker (IsAmong old) (λ x. Holds x.item)
+      (λ x there. All-contains Holds (items old) x.item
+      (All-map Holds (λ (x : Queued (Waiter W)). x.item) old all) there) new none
+
 module _ {A W : Type 0} where
   -- nothing changes
   pub same_objects : (s : Objects A W) → KeepsObjects s s
@@ -82,63 +98,27 @@ module _ {A W : Type 0} where
     abbrev to_new : Object A W → Object A W
     to_new o = record o { waiters = new }
 
-    abbrev changed : Object A W → Object A W
-    changed o = if o.id == id then to_new o else o
-
-    -- another object is found as it was
-    others_stay : (other : ℕ) → (other == id) ≡ false → (live : List (Object A W))
-        → object_of (map changed live) other ≡ object_of live other
-    others_stay other apart [] = refl
-    others_stay other apart (o ∷ live) =
-        either (o.id == id) refl (others_stay other apart live)
-      where
-        either : (b : Bool) → (o.id == id) ≡ b
-            → object_of (map changed live) other ≡ object_of live other
-            → object_of ((if b then to_new o else o) ∷ map changed live) other
-            ≡ object_of (o ∷ live) other
-        either true is later =
-            let away : (o.id == other) ≡ false = grind (arith, nat_tests, is, apart) in
-            rw away later
-        either false is later = ap (λ found. cond (o.id == other) (Some o) found) later
-
-    -- the object itself has the state that it had
-    own_state : (o : Option (Object A W))
-        → option_map (λ (o : Object A W). o.state) (option_map to_new o)
-        ≡ option_map (λ (o : Object A W). o.state) o
-    own_state None = refl
-    own_state (Some o) = refl
-
-    -- and no other waiters
+    -- there are no other waiters
     own_waiters : (o : Option (Object A W)) → NoOthers (waiters_in o) new → (w : Waiter W)
         → Contains (items (waiters_in (option_map to_new o))) w
         → Contains (items (waiters_in o)) w
     own_waiters None fewer w h = h
     own_waiters (Some o) fewer w h = among o.waiters new fewer w h
 
-    -- both by whether it is the object
-    states_stay : (other : ℕ) (b : Bool) → (other == id) ≡ b
-        → state_of (with_waiters s id new) other ≡ state_of s other
-    states_stay other true is =
-        let same : other ≡ id = grind (arith, nat_tests, is) in
-        rw same (ap (option_map (λ (o : Object A W). o.state))
-        (object_of-changed id to_new (λ o. refl) s.live)
-        ∙ own_state (object_of s.live id))
-    states_stay other false is =
-        ap (option_map (λ (o : Object A W). o.state)) (others_stay other is s.live)
-
+    -- by whether it is the object
     waiters_leave : (other : ℕ) (w : Waiter W) (b : Bool) → (other == id) ≡ b
         → Contains (items (waiters_of (with_waiters s id new) other)) w
         → Contains (items (waiters_of s other)) w
     waiters_leave other w true is =
         let same : other ≡ id = grind (arith, nat_tests, is) in
         rw same (λ h. own_waiters (object_of s.live id) none w
-        (rw (object_of-changed id to_new (λ o. refl) s.live) at h))
-    waiters_leave other w false is = rw (others_stay other is s.live) (λ h. h)
+        (rw (waiters_own id to_new (λ o. refl) s) at h))
+    waiters_leave other w false is = rw (waiters_other id to_new (λ o. refl) s other is) (λ h. h)
 
     -- the objects are kept
     pub waiters_change : KeepsObjects s (with_waiters s id new)
     waiters_change = record {
-      states = λ other. states_stay other (other == id) refl;
+      states = waiters_leave_states id new s;
       waiters = λ other w. waiters_leave other w (other == id) refl;
       next = refl;
     }

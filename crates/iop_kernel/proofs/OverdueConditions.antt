@@ -1,17 +1,16 @@
 -- That the conditions of threads which wait for an event flag do not hold: after bits are set and
 -- cleared, and on whatever pattern a thread that is met leaves.
-use Rattle.std.proofs.Common.{◌≡◌, ◌≢◌, ℕ, ◌==◌, Bool, true, false, not, if◌then◌else◌, List, [], ◌∷◌, All, refl, ap, sym, ◌∙◌, arith}
+use Rattle.std.proofs.Common.{◌≡◌, ◌≢◌, ℕ, ◌==◌, Bool, true, false, not, if◌then◌else◌, List, [], ◌∷◌, refl, ap, sym, ◌∙◌, arith}
 use Rattle.std.specs.Prelude.{bit_and}
 use Rattle.std.proofs.lemmas.Bool.{cond_both}
 use Rattle.std.proofs.lemmas.Bool.Decides.{nat_tests}
-use Rattle.std.proofs.lemmas.List.Elements.{All-nil, All-cons, All-head, All-tail, All-map, All-weaker}
+use Rattle.std.proofs.lemmas.List.Elements.{All-nil, All-cons, All-head, All-tail}
 use Rattle.std.proofs.lemmas.Nat.{and_assoc, and_comm}
 use Rattle.std.specs.Int.Bits.{and_self}
 use Rattle.iop_event.specs.Laws.{AskBits, NoneOverdue}
 use Rattle.iop_event.specs.Waiting.{Settled, settles, is_met, has_bit, pattern_after, met_by, meets, stays}
 use Rattle.iop_event.specs.declared.wanted.TheConstants.{EITHER, CLEAR}
 use Rattle.iop_event.specs.declared.wanted.Wanted.{Wanted}
-use Rattle.iop_objects.specs.Waiting.{in_place, is_thread, with_priority}
 use Rattle.iop_objects.specs.declared.queued.Queued.{Queued}
 use Rattle.iop_objects.specs.declared.waiter.Waiter.{Waiter}
 
@@ -143,20 +142,3 @@ unmet_cleared pattern mask x = either (has_bit x.item.wants.mode EITHER)
         let none : (bit_and pattern bits == 0) ≡ true = grind (arith, nat_tests, unmet) in
         ap not (some_free none)
     either false unmet = all_free _ refl unmet
-
-module _ (P : Waiter Wanted → Type 0) where
-  -- what holds of each waiter holds when one has another priority
-  pub All-in_place : (thread priority : ℕ) (ws : Waiters) → All (λ x. P x.item) ws
-      → All (λ x. P x.item) (in_place thread priority ws)
-  All-in_place thread priority ws all =
-      All-map (λ x. P x.item) placed ws
-      (All-weaker (λ x. P x.item) (λ x. P (placed x).item)
-      (λ x is. either x (is_thread thread x) is) ws all)
-    where
-      placed : Queued (Waiter Wanted) → Queued (Waiter Wanted)
-      placed x = if is_thread thread x then with_priority priority x else x
-
-      either : (x : Queued (Waiter Wanted)) (b : Bool) → P x.item
-          → P (if b then with_priority priority x else x).item
-      either x true is = is
-      either x false is = is

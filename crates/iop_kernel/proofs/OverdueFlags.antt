@@ -9,12 +9,14 @@ use Rattle.iop_event.specs.Laws.{AskBits, NoneOverdue}
 use Rattle.iop_event.specs.Waiting.{is_met}
 use Rattle.iop_event.specs.declared.event_flag.EventFlag.{EventFlag}
 use Rattle.iop_event.specs.declared.wanted.Wanted.{Wanted}
-use Rattle.iop_objects.specs.Objects.{Object, object_of, state_of, waiters_in, waiters_of, has_room, creates, deletes, changes, with_state, with_waiters, waits, drops, requeues}
-use Rattle.iop_objects.specs.Waiting.{without, in_place, is_thread}
+use Rattle.iop_objects.specs.Objects.{Object, object_of, state_of, waiters_in, waiters_of, has_room, creates, deletes, changes, with_state, with_waiters, waits}
+use Rattle.iop_objects.specs.Queue.{Choice, chooses}
 use Rattle.iop_objects.specs.declared.queued.Queued.{Queued}
 use Rattle.iop_objects.specs.declared.waiter.Waiter.{Waiter}
-use Rattle.iop_kernel.specs.Overdue.{NoConditionHolds}
-use Rattle.iop_kernel.proofs.OverdueConditions.{Waiters, Asks, IsUnmet, All-in_place}
+use Rattle.iop_thread.specs.declared.kind.Kind.TheVariants as kinds
+use Rattle.iop_kernel.specs.Overdue.{AreIdle}
+use Rattle.iop_kernel.proofs.OverdueConditions.{Waiters, Asks, IsUnmet}
+use Rattle.iop_kernel.proofs.ObjectsKept.{NoOthers, all_others}
 use Rattle.iop_kernel.proofs.OverdueObjects.{each_changes, each_with_waiters, each_with_state, each_creates, each_deletes}
 
 abbrev Flag : Type 0
@@ -30,7 +32,7 @@ NoneHolds x ws = NoneOverdue x.pattern ws
 
 -- all event flags are so
 pub record InTime (s : EventFlags) : Type 0 where
-  pub none : NoConditionHolds s
+  pub none : AreIdle kinds.EventFlag s
   pub asks : AskForBits s
 
 module _ (s : EventFlags) (h : InTime s) where
@@ -64,6 +66,19 @@ module _ (s : EventFlags) (h : InTime s) where
     none = each_with_waiters NoneHolds s h.none n ws (λ x is. now x);
     asks = ask_on n (λ o. record o { waiters = ws }) (λ o is. ask);
   }
+
+  -- a thread is chosen
+  pub flags_chosen : (n : ℕ) (one : Choice (Waiter Wanted))
+      → chooses false (waiters_of s n) ≡ Some one → InTime (with_waiters s n one.others)
+  flags_chosen n one chosen =
+      flags_with_waiters n one.others (rest Asks (waiters_of s n) chosen (waiters_ask n))
+      (λ x. rest (IsUnmet x.pattern) (waiters_of s n) chosen)
+    where
+      rest : (Each : Queued (Waiter Wanted) → Type 0) (ws : Waiters) → chooses false ws ≡ Some one
+          → All Each ws → All Each one.others
+      rest Each [] is all = cc
+      rest Each (x ∷ xs) is all =
+          let same : xs ≡ one.others = cc in subst (All Each) same (All-tail Each x xs all)
 
   -- a flag has another pattern
   pub flags_with_state : (n : ℕ) (state : EventFlag)
@@ -99,19 +114,13 @@ module _ (s : EventFlags) (h : InTime s) where
         (λ o is. All-push Asks (waiters_of s n) w (waiters_ask n) ask);
   }
 
-  -- a thread waits no more
-  pub flags_drop : (n thread : ℕ) → InTime (drops s n thread)
-  flags_drop n thread =
-      flags_with_waiters n (without thread (waiters_of s n))
-      (All-filter (λ x. not (is_thread thread x)) Asks (waiters_of s n) (waiters_ask n))
-      (λ x. All-filter (λ x. not (is_thread thread x)) (IsUnmet x.pattern) (waiters_of s n))
-
-  -- a thread has another priority
-  pub flags_requeue : (n thread priority : ℕ) → InTime (requeues s n false thread priority)
-  flags_requeue n thread priority =
-      flags_with_waiters n (in_place thread priority (waiters_of s n))
-      (All-in_place (λ w. w.wants.bits ≢ 0) thread priority (waiters_of s n) (waiters_ask n))
-      (λ x. All-in_place (λ w. is_met x.pattern w ≡ false) thread priority (waiters_of s n))
+  -- none waits that did not
+  pub flags_others : (n : ℕ) (new : Waiters) → NoOthers (waiters_of s n) new
+      → InTime (with_waiters s n new)
+  flags_others n new none =
+      flags_with_waiters n new
+      (all_others (λ w. w.wants.bits ≢ 0) (waiters_of s n) new none (waiters_ask n))
+      (λ x. all_others (λ w. is_met x.pattern w ≡ false) (waiters_of s n) new none)
 
   -- a flag is made
   pub flags_create : (state : EventFlag) → InTime (creates s state).1

@@ -1,11 +1,11 @@
 -- Objects for which none waits, unless there is nothing to be had: semaphores and mailboxes.
 use Rattle.std.proofs.Common.{◌≡◌, ℕ, Bool, true, false, ◌⊎◌, inl, inr, Some, None, List, [], ◌∷◌, ◌++◌, refl, ap, sym, ◌∙◌, subst}
-use Rattle.iop_objects.specs.Objects.{Objects, state_of, waiters_of, with_state, with_waiters, creates, deletes, waits, drops, requeues}
+use Rattle.iop_objects.specs.Objects.{Objects, state_of, waiters_of, with_state, with_waiters, creates, deletes, waits}
 use Rattle.iop_objects.specs.Queue.{Choice, chooses}
-use Rattle.iop_objects.specs.Waiting.{without, requeued}
 use Rattle.iop_objects.specs.declared.queued.Queued.{Queued}
 use Rattle.iop_objects.specs.declared.waiter.Waiter.{Waiter}
 use Rattle.iop_objects.proofs.QueuesChosen.{queues_chosen}
+use Rattle.iop_kernel.proofs.ObjectsKept.{NoOthers, none_new}
 use Rattle.iop_kernel.proofs.OverdueObjects.{HoldsOfEach, each_with_waiters, each_with_state, each_creates, each_deletes}
 
 -- from an empty queue nothing is chosen
@@ -36,26 +36,12 @@ module _ {A W : Type 0} (IsEmpty : A → Type 0) (s : Objects A W)
   fewer x ws now none (inl empty) = inl (none empty)
   fewer x ws now none (inr is) = inr is
 
-  -- a thread waits no more
-  pub idle_drops : (id thread : ℕ) → Holds (drops s id thread)
-  idle_drops id thread =
-      each_with_waiters Q s h id (without thread (waiters_of s id))
-      (λ x is. fewer x (waiters_of s id) (without thread (waiters_of s id)) (ap (without thread)))
-
-  -- none has another priority
-  none_requeued : (ordered : Bool) (thread priority : ℕ)
-      → requeued {W = W} ordered thread priority [] ≡ []
-  none_requeued true thread priority = refl
-  none_requeued false thread priority = refl
-
-  -- a thread has another priority
-  pub idle_requeues : (id : ℕ) (ordered : Bool) (thread priority : ℕ)
-      → Holds (requeues s id ordered thread priority)
-  idle_requeues id ordered thread priority =
-      each_with_waiters Q s h id (requeued ordered thread priority (waiters_of s id))
-      (λ x is. fewer x (waiters_of s id) (requeued ordered thread priority (waiters_of s id))
-      (λ empty. ap (requeued ordered thread priority) empty
-      ∙ none_requeued ordered thread priority))
+  -- none waits that did not
+  pub idle_others : (id : ℕ) (new : List (Queued (Waiter W))) → NoOthers (waiters_of s id) new
+      → Holds (with_waiters s id new)
+  idle_others id new none =
+      each_with_waiters Q s h id new
+      (λ x is. fewer x (waiters_of s id) new (none_new (waiters_of s id) new none))
 
   -- one is chosen among those that wait
   pub idle_chosen : (id : ℕ) (ordered : Bool) (one : Choice (Waiter W))

@@ -1,39 +1,35 @@
 -- No wait is overdue, whatever is served.
-use Rattle.std.proofs.Common.{◌≡◌, ℕ, Bool, true, false, Option, Some, None, IfSome, List, nat_lt, ◌-◌, ap, sym, ◌∙◌, subst, arith}
-use Rattle.std.specs.Prelude.{⊤, bit_and, bit_or}
+use Rattle.std.proofs.Common.{◌≡◌, ℕ, Bool, true, false, Option, Some, None, IfSome, List, nat_lt, ◌-◌, ap, subst, arith, sym}
 use Rattle.std.proofs.lemmas.Bool.{cond_both}
 use Rattle.std.proofs.lemmas.Bool.Decides.{nat_tests}
-use Rattle.std.proofs.lemmas.List.Elements.{All-weaker}
+use Rattle.std.specs.Prelude.{⊤, bit_or}
 use Rattle.iop_base.specs.Piece.{Piece}
 use Rattle.iop_base.specs.declared.code.TheConstants.Code.{OK, OBJECT_DELETED, WAIT_RELEASED}
-use Rattle.iop_event.specs.EventFlags.{with_pattern}
 use Rattle.iop_event.specs.Laws as laws
 use Rattle.iop_event.specs.Waiting.{settles}
-use Rattle.iop_event.specs.declared.event_flag.EventFlag as declared_flag
 use Rattle.iop_exec.specs.Row.{reg}
-use Rattle.iop_mbx.specs.Mailboxes.{is_by_priority, messages_by_priority}
-use Rattle.iop_objects.specs.Objects.{state_of, waiters_in, waiters_of, with_state}
-use Rattle.iop_objects.specs.Queue.{chooses}
-use Rattle.iop_sema.specs.Semaphores.{by_priority}
+use Rattle.iop_objects.specs.Objects.{waiters_in}
 use Rattle.iop_thread.specs.Laws.{SleepersAreUnwoken}
 use Rattle.iop_thread.specs.Operations as threads
 use Rattle.iop_thread.specs.ThreadTable.{ThreadTable, running_thread, with_wakeups}
+use Rattle.iop_thread.specs.declared.kind.Kind.TheVariants.{EventFlag}
 use Rattle.iop_thread.specs.declared.thread.Thread.{Thread}
-use Rattle.iop_thread.specs.declared.wait.Wait.TheVariants.{Sleep, Delay, Semaphore, EventFlag, Mailbox}
+use Rattle.iop_thread.specs.declared.wait.Wait.TheVariants.{Sleep, Delay, Object}
 use Rattle.iop_time.specs.Timers.{delays}
+use Rattle.iop_kernel.specs.Kinds.{table}
+use Rattle.iop_kernel.specs.ObjectServices.{threads_in_order}
 use Rattle.iop_kernel.specs.Overdue.{NoneOverdue}
 use Rattle.iop_kernel.specs.Running.{ended}
 use Rattle.iop_kernel.specs.Serving.{services}
 use Rattle.iop_kernel.specs.System.{Kernel, System, running_registers, answered, code_word, opened}
-use Rattle.iop_kernel.specs.Waits.{threads_of}
 use Rattle.iop_kernel.specs.declared.after.After.{After}
+use Rattle.iop_kernel.proofs.KeepingHandlers.{gives_to}
 use Rattle.iop_kernel.proofs.KeepingMeetings.{met_of, threads_met}
-use Rattle.iop_kernel.proofs.Moves.{Moves, CallMoves, sema_waiters, mbx_waiters}
-use Rattle.iop_kernel.proofs.OverdueDeliveries.{handler_returned_in_time}
-use Rattle.iop_kernel.proofs.OverdueFlags.{waiters_ask, flags_with_state, flags_settle, flags_wait, flags_create, flags_delete}
-use Rattle.iop_kernel.proofs.OverdueConditions.{IsUnmet, unmet_cleared, none_overdue_after, is_settled}
-use Rattle.iop_kernel.proofs.OverdueIdle.{none_chosen, all_chosen, idle_chosen, idle_waits, idle_changes, idle_takes, idle_creates, idle_deletes}
-use Rattle.iop_kernel.proofs.OverdueKernels.{IsZero, IsClear, sleepers, flags as flags_of, with_other_threads, with_other_semaphores, with_other_flags, with_other_mailboxes, woken_in_time, blocked_in_time, beside_in_time, opened_in_time, leaves_in_time, requeues_in_time}
+use Rattle.iop_kernel.proofs.Moves.{Moves, CallMoves}
+use Rattle.iop_kernel.proofs.OverdueConditions.{is_settled}
+use Rattle.iop_kernel.proofs.OverdueFlags.{waiters_ask, flags_settle}
+use Rattle.iop_kernel.proofs.OverdueKernels.{sleepers, with_other_threads, woken_in_time, blocked_in_time, beside_in_time, opened_in_time, leaves_in_time, requeues_in_time, in_time_of, with_other_objects}
+use Rattle.iop_kernel.proofs.OverdueKinds.{chosen_in_time, waits_in_time, creates_in_time, deletes_in_time, changes_in_time}
 use Rattle.iop_kernel.proofs.Walking.{services_go, asked_not}
 
 -- where the running thread found no wakeup it has none
@@ -77,19 +73,6 @@ module _ (s : System) (h : NoneOverdue s.core.kernel) where
   rotated priority =
       go _ ((sleepers k h).rotates priority (running_registers (answered s.core 0)) tt)
 
-  -- a flag has another pattern, on which none of the conditions holds that did not
-  patterned : (id pattern : ℕ) (x : declared_flag.EventFlag) → state_of k.event_flags id ≡ Some x
-      → (laws.NoneOverdue x.pattern (waiters_of k.event_flags id)
-      → laws.NoneOverdue pattern (waiters_of k.event_flags id))
-      → NoneOverdue (record k {
-        event_flags = with_state k.event_flags id (with_pattern x pattern);
-      })
-  patterned id pattern x known lasts =
-      let ws = waiters_of k.event_flags id in
-      with_other_flags k h _ (flags_with_state k.event_flags (flags_of k h) id (with_pattern x pattern)
-      (λ y is none. let same : y ≡ x = cc in
-      lasts (subst (λ (x : declared_flag.EventFlag). laws.NoneOverdue x.pattern ws) same none)))
-
   in_time : (library : ℕ) → Moves InTimeSystem InTimeAfter ⊤ s library
   in_time library = record {
     each = record {
@@ -97,7 +80,10 @@ module _ (s : System) (h : NoneOverdue s.core.kernel) where
       stores = λ d given place bytes inside now. now;
       goes_on = λ d given word now. now;
       faults = λ kind. h;
+      prints = λ text. h;
     };
+    registry = λ own_library. record { registers = λ libraries. h };
+    blocks = λ own_library. record { takes = λ mode size at. h; frees = λ at. h };
     interrupts = λ own_library. record {
       lines = λ left. beside_in_time k h _ _ _ _ _ _;
       turns = λ on. beside_in_time k h _ _ _ _ _ _;
@@ -153,82 +139,38 @@ module _ (s : System) (h : NoneOverdue s.core.kernel) where
           blocked_in_time _ (beside_in_time k h _ _ _ _ (delays k.timers moment thread) _) Delay
           (running_registers s.core) (λ asleep. cc asleep);
     };
-    semaphores = λ own_library. record {
-      makes = λ attr option initial max legal fits.
-          with_other_semaphores k h _ (idle_creates IsZero k.semaphores h.semaphores _);
+    objects = λ kind own_library. let t = table kind k in let due = in_time_of k h kind in record {
+      makes = λ x legal. with_other_objects k h kind _ (creates_in_time kind t due x);
       deletes = λ o found.
-          with_other_semaphores _ (woken_in_time k h (sema_waiters o) (code_word OBJECT_DELETED)) _
-          (idle_deletes IsZero k.semaphores h.semaphores o.id);
-      counts = λ id x known none fits.
-          with_other_semaphores k h _ (idle_changes IsZero k.semaphores h.semaphores id _
-          (all_chosen (by_priority x) (waiters_of k.semaphores id) none));
+          with_other_objects _ (woken_in_time k h (threads_in_order kind o)
+          (code_word OBJECT_DELETED)) kind _ (deletes_in_time kind t due o.id);
+      changes = λ id x y known how.
+          with_other_objects k h kind _ (changes_in_time kind t due id x y known how);
       wakes = λ id x one known chosen.
-          with_other_threads _ (with_other_semaphores k h _
-          (idle_chosen IsZero k.semaphores h.semaphores id (by_priority x) one chosen)) _
+          with_other_threads _
+          (with_other_objects k h kind _ (chosen_in_time kind t due id x one chosen)) _
           ((sleepers k h).wakes one.one.item.thread (code_word OK));
-      takes = λ id x known some.
-          with_other_semaphores k h _ (idle_takes IsZero k.semaphores h.semaphores id x _ known
-          (λ zero. absurd (grind (arith, nat_tests, some, zero))));
-      waits = λ id thread x is may known zero.
-          blocked_in_time _ (with_other_semaphores k h _
-          (idle_waits IsZero k.semaphores h.semaphores id _ x known
-          (grind (arith, nat_tests, zero)))) (Semaphore id) (running_registers s.core)
-          (λ asleep. cc asleep);
-    };
-    event_flags = λ own_library. record {
-      makes = λ attr option first legal.
-          with_other_flags k h _ (flags_create k.event_flags (flags_of k h) _);
-      deletes = λ o found.
-          with_other_flags _ (woken_in_time k h (threads_of o.waiters) (code_word OBJECT_DELETED)) _
-          (flags_delete k.event_flags (flags_of k h) o.id);
-      sets = λ bits o found. let now = bit_or o.state.pattern bits in
-          let ask = subst laws.AskBits (ap waiters_in found)
-          (waiters_ask k.event_flags (flags_of k h) o.id) in
-          let done = is_settled now o.waiters ask in
-          woken_in_time _ (with_other_flags k h _ (flags_settle k.event_flags (flags_of k h) o.id
-          (settles now o.waiters).pattern (settles now o.waiters).waiters done.none done.asks))
-          (threads_met (met_of o bits)) (code_word OK);
-      clears = λ id mask x known. let fewer = bit_and x.pattern mask in
-          patterned id fewer x known (All-weaker (IsUnmet x.pattern) (IsUnmet fewer)
-          (unmet_cleared x.pattern mask) (waiters_of k.event_flags id));
-      tests = λ id wanted x known met.
-          patterned id _ x known (none_overdue_after wanted.mode x.pattern
-          (waiters_of k.event_flags id) (waiters_ask k.event_flags (flags_of k h) id));
-      waits = λ id wanted thread x is may known some free unmet.
-          blocked_in_time _ (with_other_flags k h _ (flags_wait k.event_flags (flags_of k h) id _ x
-          known (grind (arith, nat_tests, some)) unmet)) (EventFlag id) (running_registers s.core)
-          (λ asleep. cc asleep);
-    };
-    mailboxes = λ own_library. record {
-      makes = λ attr option legal.
-          with_other_mailboxes k h _ (idle_creates IsClear k.mailboxes h.mailboxes _);
-      deletes = λ o found.
-          with_other_mailboxes _ (woken_in_time k h (mbx_waiters o) (code_word OBJECT_DELETED)) _
-          (idle_deletes IsClear k.mailboxes h.mailboxes o.id);
-      puts = λ id message x known none room.
-          with_other_mailboxes k h _ (idle_changes IsClear k.mailboxes h.mailboxes id _
-          (all_chosen (is_by_priority k.mailboxes id) (waiters_of k.mailboxes id) none));
-      wakes = λ id x one known chosen.
-          with_other_threads _ (with_other_mailboxes k h _ (idle_chosen IsClear k.mailboxes
-          h.mailboxes id (is_by_priority k.mailboxes id) one chosen)) _
-          ((sleepers k h).wakes one.one.item.thread (code_word OK));
-      gets = λ id x one known next.
-          with_other_mailboxes k h _ (idle_takes IsClear k.mailboxes h.mailboxes id x _ known
-          (λ clear. none_chosen (messages_by_priority x.attr) one
-          (sym (ap (chooses (messages_by_priority x.attr)) clear) ∙ next)));
-      waits = λ id place thread x is may known none.
-          blocked_in_time _ (with_other_mailboxes k h _
-          (idle_waits IsClear k.mailboxes h.mailboxes id _ x known
-          (all_chosen (messages_by_priority x.attr) x.messages none))) (Mailbox id)
+      waits = λ id thread x wants is may known must.
+          blocked_in_time _ (with_other_objects k h kind _
+          (waits_in_time kind t due id x _ known must)) (Object kind id)
           (running_registers s.core) (λ asleep. cc asleep);
     };
+    sets = λ own_library bits o found. let now = bit_or o.state.pattern bits in
+        let due = in_time_of k h EventFlag in
+        let ask = subst laws.AskBits (ap waiters_in found) (waiters_ask k.event_flags due o.id) in
+        let done = is_settled now o.waiters ask in
+        woken_in_time _ (with_other_objects k h EventFlag _ (flags_settle k.event_flags due o.id
+        (settles now o.waiters).pattern (settles now o.waiters).waiters done.none done.asks))
+        (threads_met (met_of o bits)) (code_word OK);
   }
 
   in_time_calls : CallMoves InTimeSystem InTimeAfter ⊤ s
   in_time_calls = record {
-    row = λ library number. h;
     unlisted = λ library number. h;
-    handler = λ handler is. handler_returned_in_time s.core h handler;
+    handler = λ handler is.
+        subst (λ (left : Kernel). NoneOverdue (record left { interrupts = true; handler = None }))
+        (sym (gives_to k handler.cause (reg s.core.cpu 2)).is)
+        (beside_in_time k h _ _ _ _ _ _);
   }
 
 -- whatever is served, whoever calls and wherever threads stand

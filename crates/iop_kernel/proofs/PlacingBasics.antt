@@ -71,9 +71,7 @@ pub beside_placed : {k : Kernel} (clock : ℕ) (interrupts dispatching : Bool)
     })
 beside_placed clock interrupts dispatching handler irqs h = record {
   threads = h.threads;
-  semaphores = h.semaphores;
-  event_flags = h.event_flags;
-  mailboxes = h.mailboxes;
+  objects = h.objects;
   delays = h.delays;
 }
 
@@ -87,9 +85,7 @@ pub timers_placed : {k : Kernel} (timers : Timers) → AreTimers timers
     → timers.delays ≡ k.timers.delays → IsPlaced k → IsPlaced (record k { timers = timers })
 timers_placed timers kept same h = record {
   threads = h.threads;
-  semaphores = h.semaphores;
-  event_flags = h.event_flags;
-  mailboxes = h.mailboxes;
+  objects = h.objects;
   delays = delayed_beside h.delays timers kept same;
 }
 

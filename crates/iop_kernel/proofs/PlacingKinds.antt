@@ -1,32 +1,33 @@
 -- Threads and waiters stay placed where a thread waits for an object, or those that wait for one
 -- are woken: once, for each kind of objects.
-use Rattle.std.proofs.Common.{◌≡◌, ℕ, ◌+◌, ◌==◌, ◌≤◌, nat_lt, Bool, true, if◌then◌else◌, Option, Some, None, option_map, List, length, refl, ap, sym, ◌∙◌}
-use Rattle.iop_event.specs.EventFlags.{EventFlags}
+use Rattle.std.proofs.Common.{◌≡◌, ℕ, ◌+◌, ◌≤◌, nat_lt, Bool, true, if◌then◌else◌, Option, Some, None, option_map, List, length, refl, ap, sym, ◌∙◌}
 use Rattle.iop_exec.specs.declared.cpu.Cpu.{Cpu}
-use Rattle.iop_mbx.specs.Mailboxes.{Mailboxes}
-use Rattle.iop_objects.specs.Objects.{Object, Objects, object_of, waiters_in, waiters_of, with_waiters, changes, deletes}
+use Rattle.iop_objects.specs.Objects.{object_of, state_of, waiters_in, waiters_of, with_waiters, changes, deletes}
 use Rattle.iop_objects.specs.Objects as objects
 use Rattle.iop_objects.specs.Queue.{Choice, chooses}
+use Rattle.iop_objects.specs.declared.queued.Queued.{Queued}
 use Rattle.iop_objects.specs.declared.waiter.Waiter.{Waiter}
-use Rattle.iop_sema.specs.Semaphores.{Semaphores}
 use Rattle.iop_thread.specs.Operations as threads
 use Rattle.iop_thread.specs.Placing as threads_placing
 use Rattle.iop_thread.specs.Placing.{times}
 use Rattle.iop_thread.specs.ThreadTable.{ThreadTable, is_it}
 use Rattle.iop_thread.specs.Waits.{WaitBut, wait_of}
+use Rattle.iop_thread.specs.declared.kind.Kind.{Kind}
 use Rattle.iop_thread.specs.declared.wait.Wait.{Wait}
-use Rattle.iop_thread.specs.declared.wait.Wait.TheVariants.{Delay, Semaphore, EventFlag, Mailbox}
+use Rattle.iop_thread.specs.declared.wait.Wait.TheVariants.{Delay, Object}
 use Rattle.iop_time.specs.Timers.{Timers}
 use Rattle.iop_time.specs.declared.clock.TheConstants.{MOST_DELAYS}
-use Rattle.iop_kernel.specs.Placing.{IsPlaced, AreWaited, AreDelayed, is_for_semaphore, is_for_event_flag, is_for_mailbox, is_for_delay}
+use Rattle.iop_kernel.specs.Kinds.{State, Wants, Live, Table, table, with_table}
+use Rattle.iop_kernel.specs.Placing.{IsPlaced, AreWaited, AreDelayed, is_for, is_for_delay}
 use Rattle.iop_kernel.specs.System.{Kernel}
 use Rattle.iop_kernel.specs.Waits.{wakes_all}
+use Rattle.iop_kernel.proofs.KindTables.{for_object, own_object, other_kind}
 use Rattle.iop_kernel.proofs.PlacingBasics.{places, moves, same_live}
 use Rattle.iop_kernel.proofs.PlacingDelays.{delayed_alike}
 use Rattle.iop_kernel.proofs.PlacingEndings.{chosen_waits, others_wait, among_waiters, ends_all, ends_other_kind, waited_ends, waited_ended}
 use Rattle.iop_kernel.proofs.PlacingQueues.{times_in}
-use Rattle.iop_kernel.proofs.PlacingThreads.{for_semaphore, for_event_flag, for_mailbox, semaphore_kind, event_flag_kind, mailbox_kind, alike_ended, running_waits_not}
-use Rattle.iop_kernel.proofs.PlacingWaiters.{IsKind, AskAlike, WaitsNow, alike_now, waited_alike, waited_leaves, waited_waits}
+use Rattle.iop_kernel.proofs.PlacingThreads.{placed_objects, alike_ended, running_waits_not}
+use Rattle.iop_kernel.proofs.PlacingWaiters.{AskAlike, WaitsNow, alike_now, waited_alike, waited_leaves, waited_waits}
 
 -- threads of which some begin or end this wait, and no other
 pub record Moved (k : Kernel) (left : ThreadTable) (wait : Wait) : Type 0 where
@@ -37,56 +38,21 @@ pub record Moved (k : Kernel) (left : ThreadTable) (wait : Wait) : Type 0 where
 
 module _ (k : Kernel) (h : IsPlaced k) (left : ThreadTable) where
   -- they stand in the kernel, beside the objects that they wait for
-  pub sema_moved : (id : ℕ) → Moved k left (Semaphore id) → (s : Semaphores)
-      → AreWaited s is_for_semaphore left
-      → IsPlaced (record k { threads = left; semaphores = s })
-  sema_moved id g s own = record {
-    threads = g.placed;
-    semaphores = own;
-    event_flags = waited_alike k.event_flags k.threads left h.event_flags
-        (g.others is_for_event_flag (λ n. refl));
-    mailboxes = waited_alike k.mailboxes k.threads left h.mailboxes
-        (g.others is_for_mailbox (λ n. refl));
-    delays = delayed_alike h.delays g.room (g.others (λ n. is_for_delay) (λ n. refl));
-  }
-
-  pub flag_moved : (id : ℕ) → Moved k left (EventFlag id) → (s : EventFlags)
-      → AreWaited s is_for_event_flag left
-      → IsPlaced (record k { threads = left; event_flags = s })
-  flag_moved id g s own = record {
-    threads = g.placed;
-    semaphores = waited_alike k.semaphores k.threads left h.semaphores
-        (g.others is_for_semaphore (λ n. refl));
-    event_flags = own;
-    mailboxes = waited_alike k.mailboxes k.threads left h.mailboxes
-        (g.others is_for_mailbox (λ n. refl));
-    delays = delayed_alike h.delays g.room (g.others (λ n. is_for_delay) (λ n. refl));
-  }
-
-  pub mbx_moved : (id : ℕ) → Moved k left (Mailbox id) → (s : Mailboxes)
-      → AreWaited s is_for_mailbox left
-      → IsPlaced (record k { threads = left; mailboxes = s })
-  mbx_moved id g s own = record {
-    threads = g.placed;
-    semaphores = waited_alike k.semaphores k.threads left h.semaphores
-        (g.others is_for_semaphore (λ n. refl));
-    event_flags = waited_alike k.event_flags k.threads left h.event_flags
-        (g.others is_for_event_flag (λ n. refl));
-    mailboxes = own;
-    delays = delayed_alike h.delays g.room (g.others (λ n. is_for_delay) (λ n. refl));
-  }
+  objects_moved : (kind : Kind) (id : ℕ) → Moved k left (Object kind id) → (s : Table kind)
+      → AreWaited kind s left → IsPlaced (with_table kind (record k { threads = left }) s)
+  objects_moved kind id g s own =
+      placed_objects kind k left s g.placed own
+      (λ other apart. waited_alike other (table other k) k.threads left (h.objects other)
+      (g.others (is_for other) (other_kind kind other apart id)))
+      (delayed_alike h.delays g.room (g.others (λ n. is_for_delay) (λ n. refl)))
 
   -- or beside the delays
   pub delay_moved : Moved k left Delay → (timers : Timers) → AreDelayed timers left
       → IsPlaced (record k { threads = left; timers = timers })
   delay_moved g timers own = record {
     threads = g.placed;
-    semaphores = waited_alike k.semaphores k.threads left h.semaphores
-        (g.others is_for_semaphore (λ n. refl));
-    event_flags = waited_alike k.event_flags k.threads left h.event_flags
-        (g.others is_for_event_flag (λ n. refl));
-    mailboxes = waited_alike k.mailboxes k.threads left h.mailboxes
-        (g.others is_for_mailbox (λ n. refl));
+    objects = λ kind. waited_alike kind (table kind k) k.threads left (h.objects kind)
+        (g.others (is_for kind) (λ n. refl));
     delays = own;
   }
 
@@ -117,26 +83,15 @@ module _ (k : Kernel) (h : IsPlaced k) (wait : Wait) (thread : ℕ) (registers :
             (λ n. sym (same n) ∙ sym (ap (is_for n) idle));
       }
 
--- a kind of objects, with the wait for one
-pub record KindOf (is_for : ℕ → Option Wait → Bool) (make : ℕ → Wait) : Type 0 where
-  pub kind : IsKind is_for
-  pub only : (n : ℕ) (wait : Option Wait) → is_for n wait ≡ true → wait ≡ Some (make n)
-  pub own : (n id : ℕ) → is_for id (Some (make n)) ≡ (n == id)
+module _ (kind : Kind) (k : Kernel) (h : IsPlaced k) where
+  abbrev s : Table kind
+  s = table kind k
 
-pub semas : KindOf is_for_semaphore Semaphore
-semas = record { kind = semaphore_kind; only = for_semaphore; own = λ n id. refl }
+  abbrev mine : AreWaited kind (table kind k) k.threads
+  mine = h.objects kind
 
-pub flags : KindOf is_for_event_flag EventFlag
-flags = record { kind = event_flag_kind; only = for_event_flag; own = λ n id. refl }
-
-pub boxes : KindOf is_for_mailbox Mailbox
-boxes = record { kind = mailbox_kind; only = for_mailbox; own = λ n id. refl }
-
-module _ {A W : Type 0} {is_for : ℕ → Option Wait → Bool} {make : ℕ → Wait}
-    (of : KindOf is_for make) (k : Kernel) (h : IsPlaced k) (s : Objects A W)
-    (mine : AreWaited s is_for k.threads) where
   -- one that waits for an object is chosen, and woken
-  module _ (id : ℕ) (ordered : Bool) (one : Choice (Waiter W))
+  module _ (id : ℕ) (ordered : Bool) (one : Choice (Waiter (Wants kind)))
       (chosen : chooses ordered (waiters_of s id) ≡ Some one) (word : ℕ) where
     abbrev woken_one : ThreadTable
     woken_one = threads.wakes k.threads one.one.item.thread word
@@ -147,38 +102,51 @@ module _ {A W : Type 0} {is_for : ℕ → Option Wait → Bool} {make : ℕ → 
     now_left : WaitsNow k.threads woken_one one.one.item.thread None
     now_left = moved_one.waits
 
-    was : is_for id (wait_of k.threads one.one.item.thread) ≡ true
-    was = chosen_waits s k.threads mine id ordered one chosen
+    was : is_for kind id (wait_of k.threads one.one.item.thread) ≡ true
+    was = chosen_waits kind s k.threads mine id ordered one chosen
 
-    pub chosen_moved : Moved k woken_one (make id)
-    chosen_moved =
+    pub chosen_placed : IsPlaced (with_table kind (record k { threads = woken_one })
+        (with_waiters s id one.others))
+    chosen_placed =
         let placed = (places k h).wakes one.one.item.thread word in
-        record {
+        objects_moved k h woken_one kind id (record {
           placed = placed;
           room = same_live k h placed moved_one.live;
           others = λ other same.
-              alike_ended k woken_one h placed one.one.item.thread now_left other (Some (make id))
-              (of.only id (wait_of k.threads one.one.item.thread) was) same;
-        }
-
-    pub chosen_waited : AreWaited (with_waiters s id one.others) is_for woken_one
-    chosen_waited =
-        waited_leaves s k.threads woken_one mine of.kind id one.one.item.thread now_left was
-        one.others (others_wait s k.threads mine id ordered one chosen)
+              alike_ended k woken_one h placed one.one.item.thread now_left other
+              (Some (Object kind id))
+              (for_object kind id (wait_of k.threads one.one.item.thread) was) same;
+        }) (with_waiters s id one.others)
+        (waited_leaves kind s k.threads woken_one mine id one.one.item.thread now_left was
+        one.others (others_wait kind s k.threads mine id ordered one chosen))
 
   -- the running thread waits for one
-  pub blocked_waited : (id thread : ℕ) (registers : Cpu) → k.threads.running ≡ Some thread
-      → (o : Option (Object A W)) → object_of s.live id ≡ o → (x : A)
-      → option_map (λ o. o.state) o ≡ Some x → (priority : ℕ) (wants : W)
-      → AreWaited (objects.waits s id
-      (record { priority = priority; item = record { thread = thread; wants = wants } })) is_for
-      (threads.blocks k.threads (make id) registers)
-  blocked_waited id thread registers runs None found x known priority wants = absurd (cc known)
-  blocked_waited id thread registers runs (Some o) found x known priority wants =
-      waited_waits s k.threads (threads.blocks k.threads (make id) registers) mine of.kind id o found
-      (record { priority = priority; item = record { thread = thread; wants = wants } })
-      (Some (make id)) (now_waits k h (make id) thread registers runs) (λ n. of.own id n)
-      (idle k h (make id) thread registers runs)
+  module _ (id thread : ℕ) (registers : Cpu) (runs : k.threads.running ≡ Some thread) where
+    abbrev stopped : ThreadTable
+    stopped = threads.blocks k.threads (Object kind id) registers
+
+    abbrev waiting : (priority : ℕ) → Wants kind → Queued (Waiter (Wants kind))
+    waiting priority wants =
+        record { priority = priority; item = record { thread = thread; wants = wants } }
+
+    blocked_waited : (o : Option (Live kind)) → object_of s.live id ≡ o → (x : State kind)
+        → option_map (λ o. o.state) o ≡ Some x → (priority : ℕ) (wants : Wants kind)
+        → AreWaited kind (objects.waits s id (waiting priority wants)) stopped
+    blocked_waited None found x known priority wants = absurd (cc known)
+    blocked_waited (Some o) found x known priority wants =
+        let wait = Object kind id in
+        waited_waits kind s k.threads stopped mine id o found (waiting priority wants)
+        (Some wait) (now_waits k h wait thread registers runs) (own_object kind id)
+        (idle k h wait thread registers runs)
+
+    pub blocked_placed : (x : State kind) → state_of s id ≡ Some x
+        → (priority : ℕ) (wants : Wants kind)
+        → IsPlaced (with_table kind (record k { threads = stopped })
+        (objects.waits s id (waiting priority wants)))
+    blocked_placed x known priority wants =
+        objects_moved k h stopped kind id
+        (blocked_moved k h (Object kind id) thread registers runs) _
+        (blocked_waited (object_of s.live id) refl x known priority wants)
 
   -- some that wait for one are woken
   module _ (id : ℕ) (ids : List ℕ) (word : ℕ) (rest : ℕ → ℕ)
@@ -186,27 +154,35 @@ module _ {A W : Type 0} {is_for : ℕ → Option Wait → Bool} {make : ℕ → 
     abbrev woken : ThreadTable
     woken = wakes_all k.threads ids word
 
-    ask : (t : ℕ) → nat_lt 0 (times t ids) ≡ true → wait_of k.threads t ≡ Some (make id)
-    ask = among_waiters s k.threads mine id (Some (make id)) (of.only id) ids rest split
+    ask : (t : ℕ) → nat_lt 0 (times t ids) ≡ true → wait_of k.threads t ≡ Some (Object kind id)
+    ask =
+        among_waiters kind s k.threads mine id (Some (Object kind id)) (for_object kind id) ids rest
+        split
 
-    pub woken_moved : Moved k woken (make id)
+    woken_moved : Moved k woken (Object kind id)
     woken_moved =
-        let all = ends_all k h (make id) ids word ask in
+        let all = ends_all k h (Object kind id) ids word ask in
         record {
           placed = all.placed;
           room = same_live k h all.placed all.live;
-          others = ends_other_kind k h (make id) ids word ask;
+          others = ends_other_kind k h (Object kind id) ids word ask;
         }
 
     -- the object is deleted
-    pub deleted_waited : ((t : ℕ) → times t ids ≡ times_in t (waiters_of s id))
-        → AreWaited (deletes s id) is_for woken
-    deleted_waited = waited_ended k h (make id) ids word ask s mine of.kind id (of.own id)
+    pub deleted_placed : ((t : ℕ) → times t ids ≡ times_in t (waiters_of s id))
+        → IsPlaced (with_table kind (record k { threads = woken }) (deletes s id))
+    deleted_placed all =
+        objects_moved k h woken kind id woken_moved (deletes s id)
+        (waited_ended k h (Object kind id) ids word ask kind s mine id
+        (own_object kind id) all)
 
     -- or the others wait on
-    pub changed_waited : (change : Object A W → Object A W)
-        → ((o : Object A W) → (change o).id ≡ o.id)
+    pub changed_placed : (change : Live kind → Live kind)
+        → ((o : Live kind) → (change o).id ≡ o.id)
         → ((t : ℕ) → times_in t (waiters_in (option_map change (object_of s.live id))) + times t ids
         ≡ times_in t (waiters_of s id))
-        → AreWaited (changes s id change) is_for woken
-    changed_waited = waited_ends k h (make id) ids word ask s mine of.kind id (of.own id)
+        → IsPlaced (with_table kind (record k { threads = woken }) (changes s id change))
+    changed_placed change keeps others =
+        objects_moved k h woken kind id woken_moved (changes s id change)
+        (waited_ends k h (Object kind id) ids word ask kind s mine id
+        (own_object kind id) change keeps others)

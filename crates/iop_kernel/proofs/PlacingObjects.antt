@@ -4,7 +4,9 @@ use Rattle.std.proofs.lemmas.Bool.Decides.{nat_tests}
 use Rattle.std.proofs.lemmas.List.{get_or-map, length-map}
 use Rattle.std.proofs.lemmas.List.Elements.{All-map, All-push, All-weaker}
 use Rattle.std.proofs.lemmas.List.Quantifiers.{all_pairs_push}
-use Rattle.iop_objects.specs.Objects.{Object, Objects, object_of, waiters_in, waiters_of, changes}
+use Rattle.iop_objects.specs.Objects.{Object, Objects, object_of, state_of, waiters_in, waiters_of, changes, with_waiters}
+use Rattle.iop_objects.specs.declared.queued.Queued.{Queued}
+use Rattle.iop_objects.specs.declared.waiter.Waiter.{Waiter}
 
 module _ {A W : Type 0} where
   -- no two objects have one id
@@ -148,3 +150,21 @@ module _ {A W : Type 0} (id : ℕ) (change : Object A W → Object A W)
         by (Some o) found =
             let is = object_of_id s.live id o found in
             let own : (o.id == id) ≡ true = grind (arith, nat_tests, is) in rw own refl
+
+-- what is known of an object that is found
+abbrev pub known : {A W : Type 0} → Option (Object A W) → Option A
+known o = option_map (λ o. o.state) o
+
+-- each has the state that it had where others wait for one
+module _ {A W : Type 0} (at : ℕ) (waiters : List (Queued (Waiter W))) where
+  abbrev to_waiters : Object A W → Object A W
+  to_waiters o = if o.id == at then record o { waiters = waiters } else o
+
+  states_stay : (id : ℕ) (live : List (Object A W))
+      → known (object_of (map to_waiters live) id) ≡ known (object_of live id)
+  states_stay id [] = refl
+  states_stay id (o ∷ live) = grind (arith, nat_tests, states_stay id live)
+
+  pub waiters_leave_states : (s : Objects A W) (id : ℕ)
+      → state_of (with_waiters s at waiters) id ≡ state_of s id
+  waiters_leave_states s id = states_stay id s.live

@@ -7,11 +7,13 @@ use Rattle.iop_objects.proofs.Totals.{AllPairs-head, AllPairs-tail}
 use Rattle.iop_objects.specs.Laws as laws
 use Rattle.iop_objects.specs.Objects.{Object, object_of, waiters_in}
 use Rattle.iop_thread.specs.Placing.{times}
+use Rattle.iop_thread.specs.declared.kind.Kind.{Kind}
 use Rattle.iop_thread.specs.declared.wait.Wait.{Wait}
 use Rattle.iop_thread.proofs.ReadyIds.{times_first}
+use Rattle.iop_kernel.specs.Placing.{is_for}
 use Rattle.iop_kernel.proofs.PlacingObjects.{HaveOwnIds}
 use Rattle.iop_kernel.proofs.PlacingQueues.{times_in}
-use Rattle.iop_kernel.proofs.PlacingWaiters.{IsKind}
+use Rattle.iop_kernel.proofs.KindTables.{one_object}
 
 -- an id is in two lists as often as in each
 times_both : (id : ℕ) (xs ys : List ℕ) → times id (xs ++ ys) ≡ times id xs + times id ys
@@ -29,7 +31,7 @@ module _ {A W : Type 0} where
       let rest = All-tail (λ (o : Object A W). id ≢ o.id) o live others in
       grind (arith, nat_tests, first, none_behind id live rest)
 
-  module _ (is_for : ℕ → Option Wait → Bool) (kind : IsKind is_for) (t : ℕ) where
+  module _ (kind : Kind) (t : ℕ) where
     -- how often a thread is among those that wait for the object of an id
     abbrev pub often : List (Object A W) → ℕ → ℕ
     often live id = times_in t (waiters_in (object_of live id))
@@ -37,7 +39,7 @@ module _ {A W : Type 0} where
     -- a thread is among those that wait for all objects together at most once, and only where it
     -- waits
     abbrev pub IsOnce : List (Object A W) → Type 0
-    IsOnce live = (wait : Option Wait) → ((id : ℕ) → often live id ≡ one_if (is_for id wait))
+    IsOnce live = (wait : Option Wait) → ((id : ℕ) → often live id ≡ one_if (is_for kind id wait))
         → times t (flat_map laws.threads_of live) ≤ one_if (is_some wait)
 
     module _ (o : Object A W) (live : List (Object A W)) (own : HaveOwnIds (o ∷ live)) where
@@ -53,9 +55,9 @@ module _ {A W : Type 0} where
 
       one_more : IsOnce live → IsOnce (o ∷ live)
       one_more later wait each =
-          by (is_for o.id wait) refl
+          by (is_for kind o.id wait) refl
         where
-          first : times_in t o.waiters ≡ one_if (is_for o.id wait)
+          first : times_in t o.waiters ≡ one_if (is_for kind o.id wait)
           first =
               let same : (o.id == o.id) ≡ true = grind (arith, nat_tests) in
               let is : often (o ∷ live) o.id ≡ times_in t o.waiters = rw same refl in
@@ -66,26 +68,26 @@ module _ {A W : Type 0} where
           all = times_both t (laws.threads_of o) (flat_map laws.threads_of live)
 
           -- it waits for this one, and for none behind
-          none_else : is_for o.id wait ≡ true → (id : ℕ) (b : Bool) → (o.id == id) ≡ b
-              → often live id ≡ one_if (is_for id None)
-          none_else is id true it = behind id true it ∙ ap one_if (sym (kind.none id))
+          none_else : is_for kind o.id wait ≡ true → (id : ℕ) (b : Bool) → (o.id == id) ≡ b
+              → often live id ≡ one_if (is_for kind id None)
+          none_else is id true it = behind id true it
           none_else is id false other =
               behind id false other ∙ each id
-              ∙ ap one_if (kind.one o.id id wait is ∙ other ∙ sym (kind.none id))
+              ∙ ap one_if (one_object kind o.id id wait is ∙ other)
 
           -- it does not wait for this one
-          not_this : is_for o.id wait ≡ false → (id : ℕ) (b : Bool) → (o.id == id) ≡ b
-              → often live id ≡ one_if (is_for id wait)
+          not_this : is_for kind o.id wait ≡ false → (id : ℕ) (b : Bool) → (o.id == id) ≡ b
+              → often live id ≡ one_if (is_for kind id wait)
           not_this is id true it =
               let here : o.id ≡ id = grind (arith, nat_tests, it) in
-              behind id true it ∙ ap one_if (sym (subst (λ id. is_for id wait ≡ false) here is))
+              behind id true it ∙ ap one_if (sym (subst (λ id. is_for kind id wait ≡ false) here is))
           not_this is id false other = behind id false other ∙ each id
 
-          some : (w : Option Wait) → is_for o.id w ≡ true → is_some w ≡ true
-          some None is = absurd (cc (is, kind.none o.id))
+          some : (w : Option Wait) → is_for kind o.id w ≡ true → is_some w ≡ true
+          some None is = cc
           some (Some w) is = refl
 
-          by : (b : Bool) → is_for o.id wait ≡ b
+          by : (b : Bool) → is_for kind o.id wait ≡ b
               → times t (flat_map laws.threads_of (o ∷ live)) ≤ one_if (is_some wait)
           by true is =
               let one = first ∙ ap one_if is in

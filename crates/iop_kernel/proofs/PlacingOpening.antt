@@ -1,18 +1,17 @@
 -- Threads and waiters are placed in the kernel at first.
-use Rattle.std.proofs.Common.{◌≡◌, ℕ, ◌==◌, Bool, true, false, if◌then◌else◌, option_and_then, Option, Some, None, refl, ap, sym, ◌∙◌, arith}
+use Rattle.std.proofs.Common.{◌≡◌, ℕ, ◌==◌, Bool, true, false, if◌then◌else◌, option_and_then, Some, None, refl, ap, sym, arith}
 use Rattle.iop_base.specs.Numbers.{one_if}
 use Rattle.iop_objects.specs.Objects.{no_objects}
 use Rattle.iop_thread.specs.Operations.{opening, dormant_thread, loader_param}
 use Rattle.iop_thread.specs.States.{wait_in}
 use Rattle.iop_thread.specs.Waits.{wait_of}
+use Rattle.iop_thread.specs.declared.kind.Kind.{Kind}
+use Rattle.iop_thread.specs.declared.kind.Kind.TheVariants.{Semaphore, EventFlag, Mailbox}
 use Rattle.iop_thread.specs.declared.thread.TheConstants.{LOADER, LOADER_STACK}
-use Rattle.iop_thread.specs.declared.wait.Wait.{Wait}
 use Rattle.iop_thread.proofs.Placed.{placed_opening}
 use Rattle.iop_time.specs.Timers.{no_timers}
-use Rattle.iop_kernel.specs.Placing.{IsPlaced, AreWaited, AreDelayed, is_for_delay, is_for_semaphore, is_for_event_flag, is_for_mailbox}
+use Rattle.iop_kernel.specs.Placing.{IsPlaced, AreWaited, AreDelayed, is_for_delay, is_for}
 use Rattle.iop_kernel.specs.System.{beginning}
-use Rattle.iop_kernel.proofs.PlacingThreads.{semaphore_kind, event_flag_kind, mailbox_kind}
-use Rattle.iop_kernel.proofs.PlacingWaiters.{IsKind}
 
 -- no thread waits
 none_waits : (t : ℕ) → wait_of opening t ≡ None
@@ -26,10 +25,9 @@ none_waits t = by (LOADER == t)
     by false = refl
 
 -- and no object is waited for
-none_waited : {A W : Type 0} (is_for : ℕ → Option Wait → Bool) → IsKind is_for
-    → AreWaited (no_objects {A = A} {W = W}) is_for opening
-none_waited is_for kind = record {
-  waiters = λ id t. sym (ap (λ w. one_if (is_for id w)) (none_waits t) ∙ ap one_if (kind.none id));
+none_waited : (kind : Kind) → AreWaited kind no_objects opening
+none_waited kind = record {
+  waiters = λ id t. sym (ap (λ w. one_if (is_for kind id w)) (none_waits t));
   ids = λ i j d less below. absurd (omega (arith, less, below));
   given = λ k d below. absurd (omega (arith, below));
 }
@@ -55,8 +53,10 @@ none_delayed = record {
 pub opening_placed : IsPlaced beginning
 opening_placed = record {
   threads = placed_opening;
-  semaphores = none_waited is_for_semaphore semaphore_kind;
-  event_flags = none_waited is_for_event_flag event_flag_kind;
-  mailboxes = none_waited is_for_mailbox mailbox_kind;
+  objects = elim [
+    | Semaphore ↦ none_waited Semaphore
+    | EventFlag ↦ none_waited EventFlag
+    | Mailbox ↦ none_waited Mailbox
+  ];
   delays = none_delayed;
 }

@@ -12,7 +12,7 @@ use Rattle.std.proofs.lemmas.Map.Made.{length-le_from_is_member}
 use Rattle.iop_base.specs.Numbers.{one_if}
 use Rattle.iop_objects.proofs.Rooms.{leave_room}
 use Rattle.iop_objects.specs.Laws.{threads_waiting}
-use Rattle.iop_objects.specs.Objects.{Objects, waiting}
+use Rattle.iop_objects.specs.Objects.{waiting}
 use Rattle.iop_objects.specs.declared.objects.TheConstants.{MOST_WAITERS}
 use Rattle.iop_ready.specs.declared.entry.Entry.{Entry}
 use Rattle.iop_ready.specs.declared.slot.TheConstants.{MOST_THREADS}
@@ -22,14 +22,17 @@ use Rattle.iop_thread.specs.Standing as standing
 use Rattle.iop_thread.specs.States.{is_running}
 use Rattle.iop_thread.specs.ThreadTable.{ThreadTable, thread_of, is_it}
 use Rattle.iop_thread.specs.Waits.{wait_of}
+use Rattle.iop_thread.specs.declared.kind.Kind.{Kind}
+use Rattle.iop_thread.specs.declared.kind.Kind.TheVariants.{Semaphore, EventFlag, Mailbox}
 use Rattle.iop_thread.specs.declared.thread.Thread.{Thread}
 use Rattle.iop_thread.specs.declared.threads.Threads.{Threads}
 use Rattle.iop_thread.specs.declared.wait.Wait.{Wait}
-use Rattle.iop_thread.specs.declared.wait.Wait.TheVariants.{Sleep, Delay, Semaphore, EventFlag, Mailbox}
+use Rattle.iop_thread.specs.declared.wait.Wait.TheVariants.{Sleep, Delay, Object}
 use Rattle.iop_thread.proofs.ReadyIds.{times_first, not_contained}
 use Rattle.iop_time.specs.Timers.{Timers, is_delay_of}
 use Rattle.iop_time.specs.declared.clock.TheConstants.{MOST_DELAYS}
-use Rattle.iop_kernel.specs.Placing.{IsPlaced, AreWaited, is_for_delay, is_for_semaphore, is_for_event_flag, is_for_mailbox}
+use Rattle.iop_kernel.specs.Kinds.{Table, table}
+use Rattle.iop_kernel.specs.Placing.{IsPlaced, AreWaited, is_for_delay}
 use Rattle.iop_kernel.specs.Standing.{Holds, IsActive, IsUndelayed, HasRoomToWait}
 use Rattle.iop_kernel.specs.System.{Kernel, is_active}
 use Rattle.iop_kernel.specs.declared.active_handler.ActiveHandler.{ActiveHandler}
@@ -37,8 +40,7 @@ use Rattle.iop_kernel.specs.declared.kernel.Kernel.{Kernel as Program}
 use Rattle.iop_kernel.proofs.PlacingDelays.{delayed, undelayed}
 use Rattle.iop_kernel.proofs.PlacingLive.{ids_of, finds_member}
 use Rattle.iop_kernel.proofs.PlacingOnce.{waits_once}
-use Rattle.iop_kernel.proofs.PlacingThreads.{semaphore_kind, event_flag_kind, mailbox_kind, running_waits_not}
-use Rattle.iop_kernel.proofs.PlacingWaiters.{IsKind}
+use Rattle.iop_kernel.proofs.PlacingThreads.{running_waits_not}
 
 -- one that is in a list is there at least once
 often_contained : (ids : List ℕ) → All (λ id. 0 < times id ids) ids
@@ -179,11 +181,10 @@ module _ (s : ThreadTable) (placed : threads_placing.IsPlaced s) (one : ℕ)
         members_live in
         omega (arith, few, length-map s.live (λ t. t.id))
 
-  module _ {A W : Type 0} (o : Objects A W) (is_for : ℕ → Option Wait → Bool)
-      (kind : IsKind is_for) (h : AreWaited o is_for s) where
+  module _ (kind : Kind) (o : Table kind) (h : AreWaited kind o s) where
     -- a thread is among those that wait only where it waits
     most_wait : (t : ℕ) → times t (threads_waiting o) ≤ one_if (is_some (wait_of s t))
-    most_wait t = waits_once is_for kind t o.live h.ids (wait_of s t) (λ id. h.waiters id t)
+    most_wait t = waits_once kind t o.live h.ids (wait_of s t) (λ id. h.waiters id t)
 
     -- so fewer wait than are live
     pub fewer_wait : waiting o < length s.live
@@ -206,9 +207,7 @@ fewer_delays k h id runs =
     by None = omega arith
     by (Some Sleep) = omega arith
     by (Some Delay) = omega arith
-    by (Some (Semaphore id)) = omega arith
-    by (Some (EventFlag id)) = omega arith
-    by (Some (Mailbox id)) = omega arith
+    by (Some (Object kind id)) = omega arith
 
     most : (t : ℕ) → times t (delayed k.timers.delays)
         ≤ one_if (is_some (wait_of k.threads t))
@@ -245,11 +244,11 @@ module _ {R : Type 0} {stands_for : R → List Entry → Type 0} where
         by (Some id) runs = runs_undelayed s placed id runs
 
     -- where a thread runs there is room for one more that waits for an object
-    room_for : {A W : Type 0} {o : Objects A W} (is_for : ℕ → Option Wait → Bool) → IsKind is_for
-        → AreWaited o is_for s.threads → (id : ℕ) → s.threads.running ≡ Some id
-        → waiting o < MOST_WAITERS
-    room_for {o = o} is_for kind waited id runs =
-        let fewer = fewer_wait s.threads placed.threads id runs o is_for kind waited in
+    room_for : (kind : Kind) (id : ℕ) → s.threads.running ≡ Some id
+        → waiting (table kind s) < MOST_WAITERS
+    room_for kind id runs =
+        let fewer = fewer_wait s.threads placed.threads id runs kind (table kind s)
+        (placed.objects kind) in
         omega (arith, fewer, few_live k.threads s.threads h.threads)
 
     -- where no handler runs, but a thread or a handler does, a thread runs
@@ -273,13 +272,13 @@ module _ {R : Type 0} {stands_for : R → List Entry → Type 0} where
           (fewer_delays s placed it.0 it.1);
       semaphores = λ none. let it = thread_runs active none in
           subst (λ o. waiting o < MOST_WAITERS) h.semaphores
-          (room_for is_for_semaphore semaphore_kind placed.semaphores it.0 it.1);
+          (room_for Semaphore it.0 it.1);
       event_flags = λ none. let it = thread_runs active none in
           subst (λ o. waiting o < MOST_WAITERS) h.event_flags
-          (room_for is_for_event_flag event_flag_kind placed.event_flags it.0 it.1);
+          (room_for EventFlag it.0 it.1);
       mailboxes = λ none. let it = thread_runs active none in
           subst (λ o. waiting o < MOST_WAITERS) h.mailboxes
-          (room_for is_for_mailbox mailbox_kind placed.mailboxes it.0 it.1);
+          (room_for Mailbox it.0 it.1);
     }
 
   -- where the kernel stands and a thread or a handler executes in it, there is room

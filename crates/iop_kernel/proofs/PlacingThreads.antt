@@ -2,85 +2,34 @@
 use Rattle.std.proofs.Common.{◌≡◌, ℕ, ◌+◌, ◌≤◌, ◌==◌, nat_lt, Bool, true, false, if◌then◌else◌, Option, Some, None, List, [], ◌∷◌, length, refl, ap, sym, ◌∙◌, arith}
 use Rattle.std.proofs.lemmas.Bool.Decides.{nat_tests}
 use Rattle.iop_base.specs.Numbers.{one_if}
-use Rattle.iop_mbx.specs.Mailboxes as mailboxes
-use Rattle.iop_sema.specs.Semaphores as semaphores
 use Rattle.iop_thread.specs.Operations as threads
 use Rattle.iop_thread.specs.Placing as threads_placing
 use Rattle.iop_thread.specs.Placing.{times, is_in_state}
 use Rattle.iop_thread.specs.States.{is_running, wait_in}
 use Rattle.iop_thread.specs.ThreadTable.{ThreadTable, thread_of, is_it}
 use Rattle.iop_thread.specs.Waits.{wait_of, is_live}
+use Rattle.iop_thread.specs.declared.kind.Kind.{Kind}
 use Rattle.iop_thread.specs.declared.state.State.{State}
 use Rattle.iop_thread.specs.declared.state.State.TheVariants.{Dormant, Running, Ready, Waiting, Suspended, WaitingSuspended}
 use Rattle.iop_thread.specs.declared.thread.Thread.{Thread}
 use Rattle.iop_thread.specs.declared.wait.Wait.{Wait}
-use Rattle.iop_thread.specs.declared.wait.Wait.TheVariants.{Sleep, Delay, Semaphore, EventFlag, Mailbox}
+use Rattle.iop_thread.specs.declared.wait.Wait.TheVariants.{Sleep, Delay, Object}
 use Rattle.iop_thread.proofs.Placed.{keeps_places}
 use Rattle.iop_thread.proofs.ReadyIds.{times_first}
 use Rattle.iop_thread.proofs.Waits.{moves_waits}
 use Rattle.iop_time.specs.declared.clock.TheConstants.{MOST_DELAYS}
-use Rattle.iop_kernel.specs.Placing.{IsPlaced, AreDelayed, is_for_delay, is_for_semaphore, is_for_event_flag, is_for_mailbox}
+use Rattle.iop_kernel.specs.Kinds.{is_kind, Table, table, with_table, is_by_priority}
+use Rattle.iop_kernel.specs.Placing.{IsPlaced, AreWaited, AreDelayed, is_for_delay, is_for}
 use Rattle.iop_kernel.specs.System.{Kernel}
 use Rattle.iop_kernel.specs.Waits.{leaves_object, requeues_at, wakes_all}
+use Rattle.iop_kernel.proofs.KindTables.{each_table, own_object, other_kind}
 use Rattle.iop_kernel.proofs.PlacingAlike.{AreForSame, AllAskAlike, same_wait, none_for_sleep}
 use Rattle.iop_kernel.proofs.PlacingDelays.{delayed_alike, delayed_drops, live_room}
-use Rattle.iop_kernel.proofs.PlacingWaiters.{IsKind, AskAlike, WaitsNow, alike_now, waited_alike, waited_requeues, waited_drops}
+use Rattle.iop_kernel.proofs.PlacingWaiters.{AskAlike, WaitsNow, alike_now, waited_alike, waited_requeues, waited_drops}
 
 -- an id is itself
 itself : (id : ℕ) → (id == id) ≡ true
 itself id = grind (arith, nat_tests)
-
--- a wait for a semaphore is for nothing else
-pub for_semaphore : (n : ℕ) (wait : Option Wait) → is_for_semaphore n wait ≡ true
-    → wait ≡ Some (Semaphore n)
-for_semaphore n None is = cc
-for_semaphore n (Some Sleep) is = cc
-for_semaphore n (Some Delay) is = cc
-for_semaphore n (Some (Semaphore id)) is =
-    let same : id ≡ n = grind (arith, nat_tests, is) in ap (λ id. Some (Semaphore id)) same
-for_semaphore n (Some (EventFlag id)) is = cc
-for_semaphore n (Some (Mailbox id)) is = cc
-
--- a wait for an event flag is for nothing else
-pub for_event_flag : (n : ℕ) (wait : Option Wait) → is_for_event_flag n wait ≡ true
-    → wait ≡ Some (EventFlag n)
-for_event_flag n None is = cc
-for_event_flag n (Some Sleep) is = cc
-for_event_flag n (Some Delay) is = cc
-for_event_flag n (Some (Semaphore id)) is = cc
-for_event_flag n (Some (EventFlag id)) is =
-    let same : id ≡ n = grind (arith, nat_tests, is) in ap (λ id. Some (EventFlag id)) same
-for_event_flag n (Some (Mailbox id)) is = cc
-
--- a wait for a mailbox is for nothing else
-pub for_mailbox : (n : ℕ) (wait : Option Wait) → is_for_mailbox n wait ≡ true
-    → wait ≡ Some (Mailbox n)
-for_mailbox n None is = cc
-for_mailbox n (Some Sleep) is = cc
-for_mailbox n (Some Delay) is = cc
-for_mailbox n (Some (Semaphore id)) is = cc
-for_mailbox n (Some (EventFlag id)) is = cc
-for_mailbox n (Some (Mailbox id)) is =
-    let same : id ≡ n = grind (arith, nat_tests, is) in ap (λ id. Some (Mailbox id)) same
-
--- so each kind is one of the kinds of waits for objects
-pub semaphore_kind : IsKind is_for_semaphore
-semaphore_kind = record {
-  none = λ id. refl;
-  one = λ a b wait is. ap (is_for_semaphore b) (for_semaphore a wait is);
-}
-
-pub event_flag_kind : IsKind is_for_event_flag
-event_flag_kind = record {
-  none = λ id. refl;
-  one = λ a b wait is. ap (is_for_event_flag b) (for_event_flag a wait is);
-}
-
-pub mailbox_kind : IsKind is_for_mailbox
-mailbox_kind = record {
-  none = λ id. refl;
-  one = λ a b wait is. ap (is_for_mailbox b) (for_mailbox a wait is);
-}
 
 -- other threads stand in the kernel, and wait alike
 pub placed_with : (k : Kernel) (left : ThreadTable) → IsPlaced k → threads_placing.IsPlaced left
@@ -88,10 +37,21 @@ pub placed_with : (k : Kernel) (left : ThreadTable) → IsPlaced k → threads_p
     → IsPlaced (record k { threads = left })
 placed_with k left h placed room alike = record {
   threads = placed;
-  semaphores = waited_alike k.semaphores k.threads left h.semaphores alike.semaphores;
-  event_flags = waited_alike k.event_flags k.threads left h.event_flags alike.event_flags;
-  mailboxes = waited_alike k.mailboxes k.threads left h.mailboxes alike.mailboxes;
+  objects = λ kind.
+      waited_alike kind (table kind k) k.threads left (h.objects kind) (alike.objects kind);
   delays = delayed_alike h.delays room alike.delays;
+}
+
+-- with other objects of a kind
+pub placed_objects : (kind : Kind) (k : Kernel) (left : ThreadTable) (s : Table kind)
+    → threads_placing.IsPlaced left → AreWaited kind s left
+    → ((other : Kind) → is_kind other kind ≡ false
+    → AreWaited other (table other k) left)
+    → AreDelayed k.timers left → IsPlaced (with_table kind (record k { threads = left }) s)
+placed_objects kind k left s placed own rest delays = record {
+  threads = placed;
+  objects = each_table (λ other t. AreWaited other t left) kind k s own rest;
+  delays = delays;
 }
 
 -- a thread has another priority among those that wait
@@ -100,30 +60,12 @@ pub placed_requeues : (k : Kernel) → IsPlaced k → (thread priority : ℕ) (w
 placed_requeues k h thread priority None = h
 placed_requeues k h thread priority (Some Sleep) = h
 placed_requeues k h thread priority (Some Delay) = h
-placed_requeues k h thread priority (Some (Semaphore id)) = record {
-  threads = h.threads;
-  semaphores = waited_requeues k.semaphores k.threads k.threads h.semaphores id
-      (semaphores.is_by_priority k.semaphores id) thread priority (λ n t. refl);
-  event_flags = h.event_flags;
-  mailboxes = h.mailboxes;
-  delays = h.delays;
-}
-placed_requeues k h thread priority (Some (EventFlag id)) = record {
-  threads = h.threads;
-  semaphores = h.semaphores;
-  event_flags = waited_requeues k.event_flags k.threads k.threads h.event_flags id false thread
-      priority (λ n t. refl);
-  mailboxes = h.mailboxes;
-  delays = h.delays;
-}
-placed_requeues k h thread priority (Some (Mailbox id)) = record {
-  threads = h.threads;
-  semaphores = h.semaphores;
-  event_flags = h.event_flags;
-  mailboxes = waited_requeues k.mailboxes k.threads k.threads h.mailboxes id
-      (mailboxes.is_by_priority k.mailboxes id) thread priority (λ n t. refl);
-  delays = h.delays;
-}
+placed_requeues k h thread priority (Some (Object kind id)) =
+    let t = table kind k in
+    placed_objects kind k k.threads _ h.threads
+    (waited_requeues kind t k.threads k.threads (h.objects kind) id (is_by_priority kind t id) thread
+    priority (λ n t. refl))
+    (λ other apart. h.objects other) h.delays
 
 -- a wait ends
 module _ (k : Kernel) (left : ThreadTable) (h : IsPlaced k) (placed : threads_placing.IsPlaced left)
@@ -152,11 +94,17 @@ module _ (k : Kernel) (left : ThreadTable) (h : IsPlaced k) (placed : threads_pl
         → IsPlaced (record k { threads = left })
     ends_none wait was same =
         placed_with k left h placed room_left (record {
-          semaphores = alike_ended is_for_semaphore wait was same.semaphores;
-          event_flags = alike_ended is_for_event_flag wait was same.event_flags;
-          mailboxes = alike_ended is_for_mailbox wait was same.mailboxes;
+          objects = λ kind. alike_ended (is_for kind) wait was (same.objects kind);
           delays = alike_ended (λ id. is_for_delay) wait was (λ id. same.delays);
         })
+
+    -- the objects of another kind are waited for alike
+    others : (kind : Kind) (wait : Option Wait) → wait_of k.threads thread ≡ wait
+        → ((id : ℕ) → is_for kind id None ≡ is_for kind id wait)
+        → AreWaited kind (table kind k) left
+    others kind wait was same =
+        waited_alike kind (table kind k) k.threads left (h.objects kind)
+        (alike_ended (is_for kind) wait was same)
 
     -- the thread is no longer among those that wait for the object of its wait, or for a time
     pub placed_leaves : (wait : Option Wait) → wait_of k.threads thread ≡ wait
@@ -165,44 +113,15 @@ module _ (k : Kernel) (left : ThreadTable) (h : IsPlaced k) (placed : threads_pl
     placed_leaves (Some Sleep) was = ends_none (Some Sleep) was none_for_sleep
     placed_leaves (Some Delay) was = record {
       threads = placed;
-      semaphores = waited_alike k.semaphores k.threads left h.semaphores
-          (alike_ended is_for_semaphore _ was (λ n. refl));
-      event_flags = waited_alike k.event_flags k.threads left h.event_flags
-          (alike_ended is_for_event_flag _ was (λ n. refl));
-      mailboxes = waited_alike k.mailboxes k.threads left h.mailboxes
-          (alike_ended is_for_mailbox _ was (λ n. refl));
+      objects = λ kind. others kind (Some Delay) was (λ n. refl);
       delays = delayed_drops h.delays room_left thread now;
     }
-    placed_leaves (Some (Semaphore id)) was = record {
-      threads = placed;
-      semaphores = waited_drops k.semaphores k.threads left h.semaphores semaphore_kind id thread
-          now (ap (is_for_semaphore id) was ∙ itself id);
-      event_flags = waited_alike k.event_flags k.threads left h.event_flags
-          (alike_ended is_for_event_flag _ was (λ n. refl));
-      mailboxes = waited_alike k.mailboxes k.threads left h.mailboxes
-          (alike_ended is_for_mailbox _ was (λ n. refl));
-      delays = delays_ended _ was refl;
-    }
-    placed_leaves (Some (EventFlag id)) was = record {
-      threads = placed;
-      semaphores = waited_alike k.semaphores k.threads left h.semaphores
-          (alike_ended is_for_semaphore _ was (λ n. refl));
-      event_flags = waited_drops k.event_flags k.threads left h.event_flags event_flag_kind id
-          thread now (ap (is_for_event_flag id) was ∙ itself id);
-      mailboxes = waited_alike k.mailboxes k.threads left h.mailboxes
-          (alike_ended is_for_mailbox _ was (λ n. refl));
-      delays = delays_ended _ was refl;
-    }
-    placed_leaves (Some (Mailbox id)) was = record {
-      threads = placed;
-      semaphores = waited_alike k.semaphores k.threads left h.semaphores
-          (alike_ended is_for_semaphore _ was (λ n. refl));
-      event_flags = waited_alike k.event_flags k.threads left h.event_flags
-          (alike_ended is_for_event_flag _ was (λ n. refl));
-      mailboxes = waited_drops k.mailboxes k.threads left h.mailboxes mailbox_kind id thread now
-          (ap (is_for_mailbox id) was ∙ itself id);
-      delays = delays_ended _ was refl;
-    }
+    placed_leaves (Some (Object kind id)) was =
+        placed_objects kind k left _ placed
+        (waited_drops kind (table kind k) k.threads left (h.objects kind) id thread now
+        (ap (is_for kind id) was ∙ own_object kind id id ∙ itself id))
+        (λ other apart. others other _ was (other_kind kind other apart id))
+        (delays_ended _ was refl)
 
 -- the thread that runs waits for nothing
 pub running_waits_not : (s : ThreadTable) → threads_placing.IsPlaced s → (id : ℕ)

@@ -28,14 +28,15 @@ returning_opens s =
         stores = λ d given place bytes inside h. tt;
         goes_on = λ d given word h value e. absurd (cc e);
         faults = λ kind value e. absurd (cc e);
+        prints = λ text. tt;
       };
       cores = λ c same. tt;
-      takes = λ size stack blocks c same is. tt;
+      takes = λ mode size at stack blocks c same is. tt;
       frees = λ stack c same. tt;
+      registers = λ libraries. tt;
       switches = λ d h value e. absurd (cc e);
       returns = λ word value e. refl;
     })) (record {
-      row = λ library number. tt;
       unlisted = λ library number. tt;
       handler = λ handler is value e. absurd (cc e);
     }) (asked_not s)

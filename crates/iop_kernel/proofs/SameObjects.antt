@@ -3,7 +3,9 @@ use Rattle.std.proofs.Common.{◌≡◌, ℕ, Option, Some, None, List, refl}
 use Rattle.std.specs.Prelude.{⊤}
 use Rattle.iop_base.specs.Piece.{Piece}
 use Rattle.iop_exec.specs.Row.{reg}
+use Rattle.iop_thread.specs.declared.kind.Kind.{Kind}
 use Rattle.iop_kernel.specs.Handlers.{gives_result, returns_handler}
+use Rattle.iop_kernel.specs.Kinds.{table}
 use Rattle.iop_kernel.specs.System.{Kernel, Core, System}
 use Rattle.iop_kernel.specs.declared.active_handler.ActiveHandler.{ActiveHandler}
 use Rattle.iop_kernel.specs.declared.active_handler.Cause.{Cause}
@@ -16,38 +18,26 @@ abbrev pub SameKernel : System → System → List Piece → Type 0
 SameKernel s d given = d.core.kernel ≡ s.core.kernel
 
 abbrev pub SameAfter : System → After → System → List Piece → Type 0
-SameAfter s after d given = d.core.kernel ≡ s.core.kernel
+SameAfter s after d given = SameKernel s d given
 
-pub tells : (s : System) → EachMoves (SameKernel s) (SameAfter s) ⊤ s
-tells s = record {
+pub same_kernel : (s : System) → EachMoves (SameKernel s) (SameAfter s) ⊤ s
+same_kernel s = record {
   begins = refl;
   stores = λ d given place bytes inside h. h;
   goes_on = λ d given word h. h;
   faults = λ kind. refl;
+  prints = λ text. refl;
 }
 
--- no object changes, and none waits otherwise
-pub record SameObjects (k l : Kernel) : Type 0 where
-  pub semaphores : l.semaphores ≡ k.semaphores
-  pub event_flags : l.event_flags ≡ k.event_flags
-  pub mailboxes : l.mailboxes ≡ k.mailboxes
+-- no object changes, and none waits otherwise, by a handler's result
+result_leaves : (kind : Kind) (k : Kernel) (cause : Cause) (value : ℕ)
+    → table kind (gives_result k cause value) ≡ table kind k
+result_leaves kind k (Line line) value = refl
+result_leaves kind k (Alarm number) value = refl
 
--- so it is by a handler's result
-result_leaves : (k : Kernel) (cause : Cause) (value : ℕ)
-    → SameObjects k (gives_result k cause value)
-result_leaves k (Line line) value =
-    record { semaphores = refl; event_flags = refl; mailboxes = refl }
-result_leaves k (Alarm number) value =
-    record { semaphores = refl; event_flags = refl; mailboxes = refl }
-
--- and by its return
-pub handler_return_leaves : (c : Core) (o : Option ActiveHandler)
-    → SameObjects c.kernel (returns_handler c o).state.kernel
-handler_return_leaves c None = record { semaphores = refl; event_flags = refl; mailboxes = refl }
-handler_return_leaves c (Some handler) =
-    let left = result_leaves c.kernel handler.cause (reg c.cpu 2) in
-    record {
-      semaphores = left.semaphores;
-      event_flags = left.event_flags;
-      mailboxes = left.mailboxes;
-    }
+-- nor by its return
+pub handler_return_leaves : (kind : Kind) (c : Core) (o : Option ActiveHandler)
+    → table kind (returns_handler c o).state.kernel ≡ table kind c.kernel
+handler_return_leaves kind c None = refl
+handler_return_leaves kind c (Some handler) =
+    result_leaves kind c.kernel handler.cause (reg c.cpu 2)

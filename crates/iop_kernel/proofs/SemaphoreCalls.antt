@@ -1,19 +1,21 @@
 -- What the services of thsemap come to, by what the operations on semaphores answer.
 use Rattle.std.proofs.Common.{◌≡◌, ◌+◌, ◌-◌, ℕ, Bool, true, false, Option, Some, None, [], ◌∷◌, length, refl, ap, sym, ◌∙◌, add-zero}
-use Rattle.std.specs.Prelude.{◌==◌, if◌then◌else◌, option_map, Result, Ok, Err}
+use Rattle.std.specs.Prelude.{◌==◌, if◌then◌else◌, Result, Ok, Err}
 use Rattle.iop_base.specs.Numbers.{word_at}
 use Rattle.iop_base.specs.declared.code.Code.{Code}
-use Rattle.iop_base.specs.declared.code.TheConstants.Code.{OK, SEMAPHORE_ZERO, UNKNOWN_SEMAPHORE}
-use Rattle.iop_objects.specs.Objects.{object_of, state_of, waiters_in, waiters_of, with_state}
+use Rattle.iop_base.specs.declared.code.TheConstants.Code.{OK, SEMAPHORE_ZERO}
+use Rattle.iop_objects.specs.Objects.{state_of, waiters_in, waiters_of, with_state}
 use Rattle.iop_sema.specs.Semaphores as semaphores
 use Rattle.iop_sema.specs.Semaphores.{Semaphores, with_count}
 use Rattle.iop_sema.specs.declared.semaphore.Semaphore.{Semaphore}
 use Rattle.iop_stubs.specs.Stubs.{Memory}
-use Rattle.iop_kernel.specs.Boards.{Board, quiet, writes}
-use Rattle.iop_kernel.specs.Semaphores.{LiveSemaphore, signals_by, waits_for_sema, takes_or_waits, creates_sema_at, create_sema, refers_sema_to, refers_sema_at, refer_sema_status}
+use Rattle.iop_thread.specs.declared.kind.Kind.TheVariants as kinds
+use Rattle.iop_kernel.specs.Boards.{Board, writes}
+use Rattle.iop_kernel.specs.Semaphores.{LiveSemaphore, signals_by, waits_for_sema, takes_or_waits, creates_sema_at, create_sema, semaphore_words, refer_sema_status}
 use Rattle.iop_kernel.specs.System.{Core, caller, with_semaphores, answers, answers_result, words_place}
 use Rattle.iop_kernel.specs.Waits.{is_code, wakes_with}
 use Rattle.iop_kernel.specs.declared.semaphores.TheConstants.{SEMAPHORE_WORDS, SEMAPHORE_STATUS_WORDS}
+use Rattle.iop_kernel.proofs.StatusCalls.{told_live}
 
 module _ (c : Core) where
   -- a signal has woken a thread
@@ -53,16 +55,6 @@ module _ (c : Core) (id : ℕ) where
       → takes_or_waits c id did ≡ waits_for_sema c id (caller c)
   take_waits (code, left) e = rw e refl
 
--- by the semaphore of the id
-refers_for : (b : Board) (id place : ℕ) (o : Option LiveSemaphore) (x : Semaphore) (count : ℕ)
-    → Some x ≡ option_map (λ p. p.state) o → count ≡ length (waiters_in o)
-    → refers_sema_to b place o
-    ≡ writes b.memory (Some place)
-    (x.attr ∷ x.option ∷ x.initial ∷ x.max ∷ x.count ∷ count ∷ []) b.core
-refers_for b id place None x count e long = cc
-refers_for b id place (Some o) x count e long =
-    let same : x ≡ o.state = cc in rw (same, long) refl
-
 -- the status of a semaphore is written as these words
 pub refers_live : (b : Board) (id at place : ℕ) (x : Semaphore) (count : ℕ)
     → Some place ≡ words_place b.memory at SEMAPHORE_STATUS_WORDS
@@ -72,24 +64,11 @@ pub refers_live : (b : Board) (id at place : ℕ) (x : Semaphore) (count : ℕ)
     ≡ writes b.memory (Some place)
     (x.attr ∷ x.option ∷ x.initial ∷ x.max ∷ x.count ∷ count ∷ []) b.core
 refers_live b id at place x count stands e long =
-    sym (ap (refers_sema_at b id) stands)
-    ∙ refers_for b id place (object_of b.core.kernel.semaphores.live id) x count e long
-
--- by the semaphore of the id
-untold_for : (b : Board) (place : ℕ) (o : Option LiveSemaphore)
-    → None ≡ option_map (λ p. p.state) o
-    → refers_sema_to b place o ≡ quiet b.memory (answers b.core UNKNOWN_SEMAPHORE)
-untold_for b place None e = refl
-untold_for b place (Some o) e = cc
-
--- there is none
-pub refers_none : (b : Board) (id at place : ℕ)
-    → Some place ≡ words_place b.memory at SEMAPHORE_STATUS_WORDS
-    → None ≡ state_of b.core.kernel.semaphores id
-    → refer_sema_status b id at ≡ quiet b.memory (answers b.core UNKNOWN_SEMAPHORE)
-refers_none b id at place stands e =
-    sym (ap (refers_sema_at b id) stands)
-    ∙ untold_for b place (object_of b.core.kernel.semaphores.live id) e
+    told_live kinds.Semaphore semaphore_words b SEMAPHORE_STATUS_WORDS id at place stands x e
+    (x.attr ∷ x.option ∷ x.initial ∷ x.max ∷ x.count ∷ count ∷ [])
+    (λ o found same. let all : count ≡ length o.waiters = long
+    ∙ ap (λ (o : Option LiveSemaphore). length (waiters_in o)) found in
+    rw (same, all) refl)
 
 -- a semaphore is made of the words at a place
 pub creates_there : (c : Core) (memory : Memory) (at place attr option initial most : ℕ)

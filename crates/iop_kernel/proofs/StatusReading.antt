@@ -2,13 +2,15 @@
 use Rattle.std.proofs.Common.{◌≡◌, ℕ, ◌+◌, ◌*◌, ◌^◌, ◌<◌, ◌≤◌, Option, Some, None, option_map, unwrap_or, List, [], ◌∷◌, ◌++◌, length, get_or, All, refl, ap, sym, ◌∙◌, subst, arith}
 use Rattle.iop_base.specs.Numbers.{number_at}
 use Rattle.iop_thread.specs.States.{wait_in, kind_number, object_of}
+use Rattle.iop_thread.specs.declared.kind.Kind.TheVariants.{Semaphore, EventFlag, Mailbox}
 use Rattle.iop_thread.specs.declared.thread.Thread.{Thread}
 use Rattle.iop_thread.specs.declared.wait.Wait.{Wait}
 use Rattle.iop_kernel.specs.StatusLaws.{HasStatus, StatusIsRead, HasSemaphoreStatus, SemaphoreStatusIsRead, HasFlagStatus, FlagStatusIsRead, HasMailboxStatus, MailboxStatusIsRead}
 use Rattle.iop_kernel.specs.Boards.{Board}
-use Rattle.iop_kernel.specs.EventFlags.{LiveFlag, flag_words, refers_flag_to, refers_flag_at}
-use Rattle.iop_kernel.specs.Mailboxes.{LiveMailbox, mailbox_words, refers_mbx_to, refers_mbx_at}
-use Rattle.iop_kernel.specs.Semaphores.{LiveSemaphore, semaphore_words, refers_sema_to, refers_sema_at}
+use Rattle.iop_kernel.specs.EventFlags.{LiveFlag, flag_words}
+use Rattle.iop_kernel.specs.Mailboxes.{LiveMailbox, mailbox_words}
+use Rattle.iop_kernel.specs.Semaphores.{LiveSemaphore, semaphore_words}
+use Rattle.iop_kernel.specs.ObjectServices.{refers_to, refers_at}
 use Rattle.iop_kernel.specs.Status.{wait_words, status_words}
 use Rattle.iop_kernel.specs.System.{Done, Served}
 use Rattle.iop_kernel.specs.declared.event_flags.TheConstants.{FLAG_STATUS_WORDS}
@@ -93,7 +95,8 @@ semaphore_stands memory place o fits small =
 pub semaphore_status_is_read : SemaphoreStatusIsRead
 semaphore_status_is_read b id at place o stands lives small =
     subst (λ (d : Done Board). HasSemaphoreStatus d.left.state.memory.ram place o)
-    (ap (refers_sema_to b place) (sym lives) ∙ ap (refers_sema_at b id) (sym stands))
+    (ap (refers_to Semaphore semaphore_words b place) (sym lives)
+    ∙ ap (refers_at Semaphore semaphore_words b id) (sym stands))
     (semaphore_stands b.memory.ram place o
     (words_inside b.memory at SEMAPHORE_STATUS_WORDS place stands) small)
 
@@ -116,7 +119,8 @@ flag_stands memory place o fits small =
 pub flag_status_is_read : FlagStatusIsRead
 flag_status_is_read b id at place o stands lives small =
     subst (λ (d : Done Board). HasFlagStatus d.left.state.memory.ram place o)
-    (ap (refers_flag_to b place) (sym lives) ∙ ap (refers_flag_at b id) (sym stands))
+    (ap (refers_to EventFlag flag_words b place) (sym lives)
+    ∙ ap (refers_at EventFlag flag_words b id) (sym stands))
     (flag_stands b.memory.ram place o
     (words_inside b.memory at FLAG_STATUS_WORDS place stands) small)
 
@@ -139,6 +143,7 @@ mailbox_stands memory place o fits small =
 pub mailbox_status_is_read : MailboxStatusIsRead
 mailbox_status_is_read b id at place o stands lives small =
     subst (λ (d : Done Board). HasMailboxStatus d.left.state.memory.ram place o)
-    (ap (refers_mbx_to b place) (sym lives) ∙ ap (refers_mbx_at b id) (sym stands))
+    (ap (refers_to Mailbox mailbox_words b place) (sym lives)
+    ∙ ap (refers_at Mailbox mailbox_words b id) (sym stands))
     (mailbox_stands b.memory.ram place o
     (words_inside b.memory at MAILBOX_STATUS_WORDS place stands) small)

@@ -12,13 +12,14 @@ use Rattle.iop_objects.proofs.QueuesChosen.{queues_chosen}
 use Rattle.iop_thread.specs.ThreadTable.{ThreadTable}
 use Rattle.iop_kernel.specs.System.{code_word}
 use Rattle.iop_kernel.specs.Waits.{threads_of, wakes_all}
+use Rattle.iop_kernel.proofs.PlacingObjects.{waiters_leave_states}
 
 -- the threads after those were woken that waited for an object that is deleted
 abbrev pub all_woken : ThreadTable → List ℕ → ThreadTable
 all_woken threads ids = wakes_all threads ids (code_word OBJECT_DELETED)
 
 -- in order none is none
-none_in_order : {T : Type 0} (by : Bool) (queue : List (Queued T)) → queue ≡ []
+pub none_in_order : {T : Type 0} (by : Bool) (queue : List (Queued T)) → queue ≡ []
     → in_order by queue ≡ []
 none_in_order true queue none = ap (in_order true) none
 none_in_order false queue none = none
@@ -58,19 +59,6 @@ module _ {A W : Type 0} where
         left_by o (map (λ o. if o.id == id then to_waiters waiters o else o) live) live
         (left_after live) (o.id == id) refl
 
-    -- what is known of it stays
-    known_after : (s : Objects A W) → state_of (with_waiters s id waiters) id ≡ state_of s id
-    known_after s =
-        ap (option_map (λ (o : Object A W). o.state))
-        (object_of-changed id (to_waiters waiters) (λ o. refl) s.live)
-        ∙ by_object (object_of s.live id)
-      where
-        by_object : (o : Option (Object A W))
-            → option_map (λ (p : Object A W). p.state) (option_map (to_waiters waiters) o)
-            ≡ option_map (λ p. p.state) o
-        by_object None = refl
-        by_object (Some o) = refl
-
   -- none is chosen of no object
   none_there : (by : Bool) (c : Choice (Waiter W)) (o : Option (Object A W))
       → chooses by (waiters_in o) ≡ Some c → o ≡ None → ⊥
@@ -104,7 +92,7 @@ module _ {A W : Type 0} where
       let size_left = queues_chosen.size by c.others in
       record {
         live = is_there by c found chosen;
-        known = ap (λ r. state_of r id) is ∙ known_after id c.others s;
+        known = ap (λ r. state_of r id) is ∙ waiters_leave_states id c.others s id;
         order = ap threads_of order
             ∙ ap (λ q. c.one.item.thread ∷ threads_of q) (sym (ap (in_order by) waiters));
         deletes = ap (λ r. deletes r id) is

@@ -12,20 +12,23 @@ use Rattle.iop_event.specs.Waiting.{holds, pattern_after}
 use Rattle.iop_event.specs.declared.event_flag.EventFlag as declared_flag
 use Rattle.iop_event.specs.declared.wanted.Wanted.{Wanted}
 use Rattle.iop_objects.specs.Objects.{object_of, state_of, with_state}
+use Rattle.iop_thread.specs.declared.kind.Kind.TheVariants.{EventFlag}
 use Rattle.iop_kernel.specs.Boards.{Board, board_of, optional_place, word_in}
-use Rattle.iop_kernel.specs.EventFlags.{LiveFlag, creates_flag_at, deletes_flag, clear_event_flag, leaves_flags, waits_for_bits, meets_all, sets_flag, polls_by, tests_or_waits, waits_flag_at, polls_flag_at}
+use Rattle.iop_kernel.specs.EventFlags.{LiveFlag, creates_flag_at, clear_event_flag, leaves_flags, meets_all, sets_flag, polls_by, tests_or_waits, waits_flag_at, polls_flag_at}
 use Rattle.iop_kernel.specs.System.{Core, Left, System, Done, may_switch, caller, with_event_flags, answers_result}
 use Rattle.iop_kernel.specs.Waits.{is_code}
 use Rattle.iop_kernel.specs.declared.after.After.{After}
+use Rattle.iop_kernel.proofs.Changing.FlagChanges.{clears, tests}
 use Rattle.iop_kernel.proofs.KeepingBoards.{PlaceFits, optional_fits}
 use Rattle.iop_kernel.proofs.KeepingMeetings.{met_of, set_flags, meets_core}
-use Rattle.iop_kernel.proofs.Moves.{EachMoves, FlagMoves, CoreEnds, BoardEnds}
+use Rattle.iop_kernel.proofs.Moves.{EachMoves, ObjectMoves, Sets, CoreEnds, BoardEnds}
+use Rattle.iop_kernel.proofs.WalkingObjects.{waits_goes}
 use Rattle.iop_kernel.proofs.WalkingThreads.{answers_after, only}
 use Rattle.iop_kernel.proofs.WalkingStores.{written, either_board, met_stored, own_id}
 
 module _ {P : System → List Piece → Type 0} {Q : After → System → List Piece → Type 0}
     {Asks : Type 0} {s : System} (e : EachMoves P Q Asks s)
-    (m : FlagMoves P Q Asks s) where
+    (m : ObjectMoves P Q Asks s EventFlag) where
   abbrev c : Core
   c = s.core
 
@@ -49,53 +52,37 @@ module _ {P : System → List Piece → Type 0} {Q : After → System → List P
       (λ (r : Result ℕ Code × EventFlags). CoreGoes (answers_result (with_event_flags c r.1) r.0))
       (λ illegal. only e _)
       (λ legal. answers_after e _ _
-      (m.makes attr option first (grind (arith, nat_tests, legal))))
+      (m.makes (record { attr = attr; option = option; first = first; pattern = first })
+      (grind (arith, nat_tests, legal), refl)))
 
   pub creates_flag_goes : (o : Option ℕ) → CoreGoes (creates_flag_at c s.memory o)
   creates_flag_goes None = e.faults faults_of.Address
   creates_flag_goes (Some place) =
       let word : ℕ → ℕ = word_in s.memory place in flag_made (word 0) (word 1) (word 2)
 
-  deletes_flag_by : (id : ℕ) (o : Option LiveFlag) → object_of those.live id ≡ o
-      → CoreGoes (deletes_flag c o)
-  deletes_flag_by id None found = only e _
-  deletes_flag_by id (Some o) found =
-      answers_after e _ _ (m.deletes o (own_id those id o found))
-
-  pub deletes_flag_goes : (id : ℕ) → CoreGoes (deletes_flag c (object_of those.live id))
-  deletes_flag_goes id = deletes_flag_by id (object_of those.live id) refl
-
   clears_by : (id mask : ℕ) (o : Option declared_flag.EventFlag) → state_of those id ≡ o
       → CoreGoes (leaves_flags c (flags.clears_it those id mask o))
   clears_by id mask None known = only e _
-  clears_by id mask (Some x) known = answers_after e _ _ (m.clears id mask x known)
+  clears_by id mask (Some x) known = answers_after e _ _ (m.changes id x _ known (clears mask))
 
   pub clears_go : (id mask : ℕ) → CoreGoes (clear_event_flag c id mask)
   clears_go id mask = clears_by id mask (state_of those id) refl
 
-  waits_for_bits_goes : (id : ℕ) (wanted : Wanted) (x : declared_flag.EventFlag)
-      → may_switch c.kernel ≡ true → state_of those id ≡ Some x → (wanted.bits == 0) ≡ false
-      → flags.is_taken those id x ≡ false → holds wanted.bits wanted.mode x.pattern ≡ false
-      → (who : Option ℕ) → caller c ≡ who → CoreGoes (waits_for_bits c id wanted who)
-  waits_for_bits_goes id wanted x may known some free unmet None is =
-      e.faults faults_of.Service
-  waits_for_bits_goes id wanted x may known some free unmet (Some thread) is =
-      m.waits id wanted thread x is may known some free unmet
-
   -- bits are set, by the event flag
-  sets_flag_by : (id bits : ℕ) (o : Option LiveFlag) → object_of those.live id ≡ o
-      → BoardGoes (sets_flag b bits o)
-  sets_flag_by id bits None found = only e _
-  sets_flag_by id bits (Some o) found =
-      let set : Board = record b { core = with_event_flags c (set_flags c o bits) } in
+  sets_flag_by : Sets P Q Asks s → (id bits : ℕ) (o : Option LiveFlag)
+      → object_of those.live id ≡ o → BoardGoes (sets_flag b bits o)
+  sets_flag_by set id bits None found = only e _
+  sets_flag_by set id bits (Some o) found =
+      let now : Board = record b { core = with_event_flags c (set_flags c o bits) } in
       let met = met_of o bits in
-      let core = subst (λ (d : Core). P (record s { core = d }) []) (sym (meets_core met set))
-      (m.sets bits o (own_id those id o found)) in
-      e.goes_on _ _ _ (met_stored e met set (record s { core = (meets_all set met).core }) [] refl
-      (ap (λ (d : Core). d.kernel.clock) (meets_core met set)) core)
+      let core = subst (λ (d : Core). P (record s { core = d }) []) (sym (meets_core met now))
+      (set bits o (own_id those id o found)) in
+      e.goes_on _ _ _ (met_stored e met now (record s { core = (meets_all now met).core }) [] refl
+      (ap (λ (d : Core). d.kernel.clock) (meets_core met now)) core)
 
-  pub sets_flag_goes : (id bits : ℕ) → BoardGoes (sets_flag b bits (object_of those.live id))
-  sets_flag_goes id bits = sets_flag_by id bits (object_of those.live id) refl
+  pub sets_flag_goes : Sets P Q Asks s → (id bits : ℕ)
+      → BoardGoes (sets_flag b bits (object_of those.live id))
+  sets_flag_goes set id bits = sets_flag_by set id bits (object_of those.live id) refl
 
   -- a condition is tested, by what is known
   module _ (id : ℕ) (wanted : Wanted) where
@@ -126,7 +113,7 @@ module _ {P : System → List Piece → Type 0} {Q : After → System → List P
         tests_by (λ (r : Result ℕ Code × EventFlags). BoardGoes (polls_by b place r))
         (state_of those id) refl (λ code other. only e _)
         (λ x known met. written e place (x.pattern ∷ []) _ OK (fits place refl)
-        (m.tests id wanted x known met))
+        (m.changes id x _ known (tests wanted met)))
         (λ x known some free unmet. only e _)
 
     refused : (place : Option ℕ) (code : Code) → is_code code FLAG_CONDITION ≡ false
@@ -141,9 +128,9 @@ module _ {P : System → List Piece → Type 0} {Q : After → System → List P
         tests_by (λ (r : Result ℕ Code × EventFlags). BoardGoes (tests_or_waits b id wanted place r))
         (state_of those id) refl (refused place)
         (λ x known met. written e place (x.pattern ∷ []) _ OK (fits place refl)
-        (m.tests id wanted x known met))
+        (m.changes id x _ known (tests wanted met)))
         (λ x known some free unmet.
-        waits_for_bits_goes id wanted x may known some free unmet (caller c) refl))
+        waits_goes e EventFlag m id x wanted may known (some, free, unmet) (caller c) refl))
         (λ cannot. only e _)
 
     pub waits_flag_goes : BoardGoes (waits_flag_at b id wanted (optional_place s.memory wanted.place))

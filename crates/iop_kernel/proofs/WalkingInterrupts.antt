@@ -5,18 +5,18 @@ use Rattle.iop_base.specs.Piece.{Piece}
 use Rattle.iop_base.specs.declared.code.Code.{Code}
 use Rattle.iop_base.specs.declared.code.TheConstants.Code.{ILLEGAL_INTERRUPT}
 use Rattle.iop_base.specs.declared.guest_fault.GuestFault.TheVariants as faults_of
+use Rattle.iop_intr.specs.InterruptLines.{IrqLine, disabling}
 use Rattle.iop_time.specs.ClockTime.{moment_after}
+use Rattle.iop_kernel.specs.Boards.{board_of, optional_place}
 use Rattle.iop_kernel.specs.Interrupts.{disable_interrupts, suspended_code, disables_by, disables_at, suspends_at}
 use Rattle.iop_kernel.specs.System.{System}
 use Rattle.iop_kernel.specs.Timing.{sets_alarm_at, ticks_in}
 use Rattle.iop_kernel.specs.Waits.{is_code}
 use Rattle.iop_kernel.specs.declared.after.After.{After}
-use Rattle.iop_kernel.proofs.Moves.{EachMoves, AlarmMoves, InterruptMoves, CoreEnds, BoardEnds}
-use Rattle.iop_intr.specs.InterruptLines.{IrqLine, disabling}
-use Rattle.iop_kernel.specs.Boards.{board_of, optional_place}
 use Rattle.iop_kernel.proofs.KeepingBoards.{WordsFit, PlaceFits, optional_fits}
-use Rattle.iop_kernel.proofs.WalkingThreads.{answers_after, only, either}
+use Rattle.iop_kernel.proofs.Moves.{EachMoves, AlarmMoves, InterruptMoves, CoreEnds, BoardEnds}
 use Rattle.iop_kernel.proofs.WalkingStores.{written, either_board}
+use Rattle.iop_kernel.proofs.WalkingThreads.{answers_after, only, either}
 
 module _ {P : System → List Piece → Type 0} {Q : After → System → List Piece → Type 0}
     {Asks : Type 0} {s : System} (e : EachMoves P Q Asks s) (l : AlarmMoves P Q Asks s) where

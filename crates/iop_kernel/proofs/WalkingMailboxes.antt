@@ -1,5 +1,5 @@
 -- What holds after each service of mailboxes.
-use Rattle.std.proofs.Common.{◌≡◌, ℕ, ◌+◌, ◌≤◌, not, true, Option, Some, None, Result, Ok, Err, List, [], ◌∷◌, length, refl, arith}
+use Rattle.std.proofs.Common.{◌≡◌, ℕ, ◌+◌, ◌≤◌, not, true, Option, Some, None, Result, Ok, Err, List, [], ◌∷◌, length, refl, ap, sym, ◌∙◌, arith}
 use Rattle.std.proofs.lemmas.Bool.{cond_both}
 use Rattle.std.proofs.lemmas.Bool.Decides.{nat_tests}
 use Rattle.iop_base.specs.Piece.{Piece}
@@ -7,24 +7,28 @@ use Rattle.iop_base.specs.declared.code.Code.{Code}
 use Rattle.iop_base.specs.declared.code.TheConstants.Code.{OK, NO_MEMORY, UNKNOWN_MAILBOX, NO_MESSAGE}
 use Rattle.iop_base.specs.declared.guest_fault.GuestFault.TheVariants as faults_of
 use Rattle.iop_mbx.specs.Mailboxes as mailboxes
-use Rattle.iop_mbx.specs.Mailboxes.{Mailbox, Mailboxes, is_by_priority, next_message, with_messages}
+use Rattle.iop_mbx.specs.Mailboxes.{Mailbox, Mailboxes, is_by_priority, waiters_by_priority, next_message, with_messages}
 use Rattle.iop_objects.specs.Objects as objects
-use Rattle.iop_objects.specs.Objects.{object_of, state_of, waiters_of, with_state}
+use Rattle.iop_objects.specs.Objects.{state_of, waiters_of, with_state}
 use Rattle.iop_objects.specs.Queue.{Choice, chooses}
 use Rattle.iop_objects.specs.declared.waiter.Waiter.{Waiter}
+use Rattle.iop_thread.specs.declared.kind.Kind.TheVariants.{Mailbox as MailboxOf}
 use Rattle.iop_kernel.specs.Boards.{Board, board_of, word_in}
-use Rattle.iop_kernel.specs.Mailboxes.{LiveMailbox, message_priority, creates_mbx_at, deletes_mbx, waits_for_message, leaves_mailboxes, queues_by, queues_message, sends_by, receives_by, receives_or_waits, waits_mbx_at, polls_mbx_at}
+use Rattle.iop_kernel.specs.Mailboxes.{message_priority, creates_mbx_at, leaves_mailboxes, queues_by, queues_message, sends_by, receives_by, receives_or_waits, waits_mbx_at, polls_mbx_at}
 use Rattle.iop_kernel.specs.System.{Core, Left, System, Done, may_switch, caller, with_mailboxes, answers_result, words_place}
 use Rattle.iop_kernel.specs.declared.after.After.{After}
+use Rattle.iop_kernel.proofs.Changing.MailboxChanges.{puts, gets}
 use Rattle.iop_kernel.proofs.KeepingBoards.{WordsFit}
 use Rattle.iop_kernel.proofs.KeepingMemory.{words_inside}
-use Rattle.iop_kernel.proofs.Moves.{EachMoves, MailboxMoves, CoreEnds, BoardEnds}
+use Rattle.iop_kernel.proofs.KindTables.{by_priority_known}
+use Rattle.iop_kernel.proofs.Moves.{EachMoves, ObjectMoves, CoreEnds, BoardEnds}
+use Rattle.iop_kernel.proofs.WalkingObjects.{waits_goes}
 use Rattle.iop_kernel.proofs.WalkingThreads.{answers_after, only, either}
-use Rattle.iop_kernel.proofs.WalkingStores.{written, either_board, own_id}
+use Rattle.iop_kernel.proofs.WalkingStores.{written, either_board}
 
 module _ {P : System → List Piece → Type 0} {Q : After → System → List Piece → Type 0}
     {Asks : Type 0} {s : System} (e : EachMoves P Q Asks s)
-    (m : MailboxMoves P Q Asks s) where
+    (m : ObjectMoves P Q Asks s MailboxOf) where
   abbrev c : Core
   c = s.core
 
@@ -48,28 +52,21 @@ module _ {P : System → List Piece → Type 0} {Q : After → System → List P
       (λ (r : Result ℕ Code × Mailboxes). CoreGoes (answers_result (with_mailboxes c r.1) r.0))
       (λ illegal. only e _)
       (λ legal. answers_after e _ _
-      (m.makes attr option (grind (arith, nat_tests, legal))))
+      (m.makes (record { attr = attr; option = option; messages = [] })
+      (grind (arith, nat_tests, legal), refl)))
 
   pub creates_mbx_goes : (o : Option ℕ) → CoreGoes (creates_mbx_at c s.memory o)
   creates_mbx_goes None = e.faults faults_of.Address
   creates_mbx_goes (Some place) =
       let word : ℕ → ℕ = word_in s.memory place in mbx_made (word 0) (word 1)
 
-  deletes_mbx_by : (id : ℕ) (o : Option LiveMailbox) → object_of boxes.live id ≡ o
-      → CoreGoes (deletes_mbx c o)
-  deletes_mbx_by id None found = only e _
-  deletes_mbx_by id (Some o) found =
-      answers_after e _ _ (m.deletes o (own_id boxes id o found))
-
-  pub deletes_mbx_goes : (id : ℕ) → CoreGoes (deletes_mbx c (object_of boxes.live id))
-  deletes_mbx_goes id = deletes_mbx_by id (object_of boxes.live id) refl
-
-  waits_for_message_goes : (id at : ℕ) (x : Mailbox) → may_switch c.kernel ≡ true
-      → state_of boxes id ≡ Some x → next_message x ≡ None → (who : Option ℕ) → caller c ≡ who
-      → CoreGoes (waits_for_message c id at who)
-  waits_for_message_goes id at x may known none None is = e.faults faults_of.Service
-  waits_for_message_goes id at x may known none (Some thread) is =
-      m.waits id at thread x is may known none
+  -- who is chosen is told by what is known of the mailbox
+  ordered : (id : ℕ) {o : Option (Choice (Waiter ℕ))} (x : Mailbox) → state_of boxes id ≡ Some x
+      → chooses (is_by_priority boxes id) (waiters_of boxes id) ≡ o
+      → chooses (waiters_by_priority x.attr) (waiters_of boxes id) ≡ o
+  ordered id x known is =
+      ap (λ by. chooses by (waiters_of boxes id))
+      (sym (by_priority_known MailboxOf boxes id x known)) ∙ is
 
   -- a message is queued where none waits
   module _ (id message : ℕ)
@@ -81,7 +78,8 @@ module _ {P : System → List Piece → Type 0} {Q : After → System → List P
     puts_go priority (Some x) known =
         cond_both (mailboxes.has_room boxes) _ (NO_MEMORY, boxes)
         (λ (r : Code × Mailboxes). CoreGoes (leaves_mailboxes c r))
-        (λ room. answers_after e _ _ (m.puts id _ x known none room)) (λ full. only e _)
+        (λ room. answers_after e _ _ (m.changes id x _ known (puts _
+        (ordered id x known none) room))) (λ full. only e _)
 
     queues_by_go : (o : Option ℕ) → CoreGoes (queues_by c id message o)
     queues_by_go None = e.faults faults_of.Address
@@ -103,7 +101,7 @@ module _ {P : System → List Piece → Type 0} {Q : After → System → List P
   sends_chosen id message x known (Some one) is =
       let at = one.one.item.wants in
       written e (words_place s.memory at 1) (message ∷ []) _ OK (words_inside s.memory at 1)
-      (m.wakes id x one known is)
+      (m.wakes id x one known (ordered id x known is))
 
   sends_by_go : (id message : ℕ) (o : Option Mailbox) → state_of boxes id ≡ o
       → BoardGoes (sends_by b id message (mailboxes.waiter_for boxes o
@@ -139,7 +137,7 @@ module _ {P : System → List Piece → Type 0} {Q : After → System → List P
     received x one known is =
         written e (Some place) (one.one.item ∷ []) _ OK (λ p e.
         let same : place ≡ p = cc e in omega (arith, fits, same))
-        (m.gets id x one known is)
+        (m.changes id x _ known (gets one is))
 
     polled : BoardGoes (receives_by b place (mailboxes.gets boxes id))
     polled =
@@ -150,7 +148,7 @@ module _ {P : System → List Piece → Type 0} {Q : After → System → List P
         → BoardGoes (receives_or_waits b at id place (mailboxes.gets boxes id))
     received_or_waits at may =
         gets_by (λ (r : Result ℕ Code × Mailboxes). BoardGoes (receives_or_waits b at id place r))
-        (only e _) (λ x known none. waits_for_message_goes id at x may known none (caller c) refl)
+        (only e _) (λ x known none. waits_goes e MailboxOf m id x at may known none (caller c) refl)
         received (state_of boxes id) refl
 
   waits_mbx_by : (at id : ℕ) (o : Option ℕ) → WordsFit s.memory o 1

@@ -8,23 +8,25 @@ use Rattle.iop_base.specs.declared.code.Code.{Code}
 use Rattle.iop_base.specs.declared.code.TheConstants.Code.{OK, UNKNOWN_SEMAPHORE, SEMAPHORE_OVERFLOW, SEMAPHORE_ZERO}
 use Rattle.iop_base.specs.declared.guest_fault.GuestFault.TheVariants as faults_of
 use Rattle.iop_objects.specs.Objects as objects
-use Rattle.iop_objects.specs.Objects.{object_of, state_of, waiters_of, with_state}
+use Rattle.iop_objects.specs.Objects.{state_of, waiters_of, with_state}
 use Rattle.iop_objects.specs.Queue.{Choice, chooses}
 use Rattle.iop_objects.specs.declared.waiter.Waiter.{Waiter}
 use Rattle.iop_sema.specs.Semaphores as semaphores
 use Rattle.iop_sema.specs.Semaphores.{Semaphores, by_priority, with_count}
 use Rattle.iop_sema.specs.declared.semaphore.Semaphore as declared
+use Rattle.iop_thread.specs.declared.kind.Kind.TheVariants.{Semaphore}
 use Rattle.iop_kernel.specs.Boards.{word_in}
-use Rattle.iop_kernel.specs.Semaphores.{LiveSemaphore, creates_sema_at, deletes_sema, signals_by, waits_for_sema, takes_or_waits, wait_sema, poll_sema, leaves_semaphores}
+use Rattle.iop_kernel.specs.Semaphores.{creates_sema_at, signals_by, takes_or_waits, wait_sema, poll_sema, leaves_semaphores}
 use Rattle.iop_kernel.specs.System.{Core, Left, System, may_switch, caller, with_semaphores, answers_result}
 use Rattle.iop_kernel.specs.declared.after.After.{After}
-use Rattle.iop_kernel.proofs.Moves.{EachMoves, SemaphoreMoves, CoreEnds}
+use Rattle.iop_kernel.proofs.Changing.SemaphoreChanges.{counts, takes}
+use Rattle.iop_kernel.proofs.Moves.{EachMoves, ObjectMoves, CoreEnds}
+use Rattle.iop_kernel.proofs.WalkingObjects.{waits_goes}
 use Rattle.iop_kernel.proofs.WalkingThreads.{answers_after, only, either}
-use Rattle.iop_kernel.proofs.WalkingStores.{own_id}
 
 module _ {P : System → List Piece → Type 0} {Q : After → System → List Piece → Type 0}
     {Asks : Type 0} {s : System} (e : EachMoves P Q Asks s)
-    (m : SemaphoreMoves P Q Asks s) where
+    (m : ObjectMoves P Q Asks s Semaphore) where
   abbrev c : Core
   c = s.core
 
@@ -42,7 +44,13 @@ module _ {P : System → List Piece → Type 0} {Q : After → System → List P
       cond_both (not (semaphores.is_attribute attr)) _ _ Made (λ illegal. only e _)
       (λ legal. cond_both (nat_lt max initial) _ _ Made (λ over. only e _)
       (λ fits. answers_after e _ _
-      (m.makes attr option initial max (grind (arith, nat_tests, legal)) fits)))
+      (m.makes (record {
+        attr = attr;
+        option = option;
+        initial = initial;
+        max = max;
+        count = initial;
+      }) (grind (arith, nat_tests, legal), fits, refl))))
     where
       Made : Result ℕ Code × Semaphores → Type 0
       Made r = CoreGoes (answers_result (with_semaphores c r.1) r.0)
@@ -52,15 +60,6 @@ module _ {P : System → List Piece → Type 0} {Q : After → System → List P
   creates_sema_goes (Some place) =
       let word : ℕ → ℕ = word_in s.memory place in sema_made (word 0) (word 1) (word 2) (word 3)
 
-  deletes_sema_by : (id : ℕ) (o : Option LiveSemaphore) → object_of semas.live id ≡ o
-      → CoreGoes (deletes_sema c o)
-  deletes_sema_by id None found = only e _
-  deletes_sema_by id (Some o) found =
-      answers_after e _ _ (m.deletes o (own_id semas id o found))
-
-  pub deletes_sema_goes : (id : ℕ) → CoreGoes (deletes_sema c (object_of semas.live id))
-  deletes_sema_goes id = deletes_sema_by id (object_of semas.live id) refl
-
   -- a signal, by who is chosen
   signals_chosen : (id : ℕ) (x : declared.Semaphore) → state_of semas id ≡ Some x
       → (o : Option (Choice (Waiter ⊤))) → chooses (by_priority x) (waiters_of semas id) ≡ o
@@ -69,7 +68,7 @@ module _ {P : System → List Piece → Type 0} {Q : After → System → List P
       cond_both (nat_le x.max x.count) (Err SEMAPHORE_OVERFLOW, semas)
       (Ok None, with_state semas id (with_count x (x.count + 1)))
       (λ (r : Result (Option ℕ) Code × Semaphores). CoreGoes (signals_by c r)) (λ full. only e _)
-      (λ fits. answers_after e _ _ (m.counts id x known is fits))
+      (λ fits. answers_after e _ _ (m.changes id x _ known (counts is fits)))
   signals_chosen id x known (Some one) is =
       answers_after e _ _ (m.wakes id x one known is)
 
@@ -98,20 +97,13 @@ module _ {P : System → List Piece → Type 0} {Q : After → System → List P
   polls_sema_go id =
       takes_by (λ (r : Code × Semaphores). CoreGoes (leaves_semaphores c r)) id (state_of semas id)
       refl (only e _) (λ x known zero. only e _)
-      (λ x known some. answers_after e _ _ (m.takes id x known some))
-
-  waits_for_sema_goes : (id : ℕ) (x : declared.Semaphore) → may_switch c.kernel ≡ true
-      → state_of semas id ≡ Some x → (x.count == 0) ≡ true → (who : Option ℕ)
-      → caller c ≡ who → CoreGoes (waits_for_sema c id who)
-  waits_for_sema_goes id x may known zero None is = e.faults faults_of.Service
-  waits_for_sema_goes id x may known zero (Some thread) is =
-      m.waits id thread x is may known zero
+      (λ x known some. answers_after e _ _ (m.changes id x _ known (takes some)))
 
   pub wait_sema_goes : (id : ℕ) → CoreGoes (wait_sema c id)
   wait_sema_goes id =
       either e (may_switch c.kernel) _ _ (λ may.
       takes_by (λ (r : Code × Semaphores). CoreGoes (takes_or_waits c id r)) id (state_of semas id)
       refl (only e _)
-      (λ x known zero. waits_for_sema_goes id x may known zero (caller c) refl)
-      (λ x known some. answers_after e _ _ (m.takes id x known some)))
+      (λ x known zero. waits_goes e Semaphore m id x tt may known zero (caller c) refl)
+      (λ x known some. answers_after e _ _ (m.changes id x _ known (takes some))))
       (λ cannot. only e _)

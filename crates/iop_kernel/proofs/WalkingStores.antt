@@ -10,10 +10,11 @@ use Rattle.iop_base.specs.declared.code.TheConstants.Code.{OK}
 use Rattle.iop_base.specs.declared.guest_fault.GuestFault.TheVariants as faults_of
 use Rattle.iop_event.specs.declared.met.Met.{Met}
 use Rattle.iop_stubs.specs.Stubs.{Memory, after_store, store_lines}
+use Rattle.iop_thread.specs.declared.kind.Kind.{Kind}
 use Rattle.iop_kernel.specs.Boards.{Board, board_of, bytes_of_words, writes_with, writes}
-use Rattle.iop_kernel.specs.EventFlags.{LiveFlag, met_place, meets_one, meets_all, meeting_lines, meeting_all, flag_words, refers_flag_to, refers_flag_at}
-use Rattle.iop_kernel.specs.Mailboxes.{LiveMailbox, mailbox_words, refers_mbx_to, refers_mbx_at}
-use Rattle.iop_kernel.specs.Semaphores.{LiveSemaphore, semaphore_words, refers_sema_to, refers_sema_at}
+use Rattle.iop_kernel.specs.EventFlags.{met_place, meets_one, meets_all, meeting_lines, meeting_all}
+use Rattle.iop_kernel.specs.Kinds.{Live, table}
+use Rattle.iop_kernel.specs.ObjectServices.{refers_to, refers_at}
 use Rattle.iop_kernel.specs.System.{Core, Left, System, Done}
 use Rattle.iop_kernel.specs.Timing.{time_words, ticks_in, writes_time, writes_seconds, converts_at}
 use Rattle.iop_kernel.specs.declared.timing.TheConstants.{MICROS_OF_SECOND}
@@ -97,39 +98,20 @@ module _ {P : System → List Piece → Type 0} {Q : After → System → List P
       → BoardGoes (writes s.memory (Some place) words c)
   told place words fits = written (Some place) words c OK fits e.begins
 
-  -- a status, by what is found
-  refers_sema_to_goes : (place : ℕ) → WordsFit s.memory (Some place) 6 → (o : Option LiveSemaphore)
-      → BoardGoes (refers_sema_to b place o)
-  refers_sema_to_goes place fits None = only e _
-  refers_sema_to_goes place fits (Some o) = told place (semaphore_words o) fits
+  -- the status of an object, by what is found
+  module _ (kind : Kind) (words : Live kind → List ℕ) (count : ℕ)
+      (many : (o : Live kind) → length (words o) ≡ count) where
+    refers_to_goes : (place : ℕ) → WordsFit s.memory (Some place) count → (o : Option (Live kind))
+        → BoardGoes (refers_to kind words b place o)
+    refers_to_goes place fits None = only e _
+    refers_to_goes place fits (Some o) =
+        told place (words o) (subst (WordsFit s.memory (Some place)) (sym (many o)) fits)
 
-  pub refers_sema_goes : (id : ℕ) (o : Option ℕ) → WordsFit s.memory o 6
-      → BoardGoes (refers_sema_at b id o)
-  refers_sema_goes id None fits = e.faults faults_of.Address
-  refers_sema_goes id (Some place) fits =
-      refers_sema_to_goes place fits (object_of c.kernel.semaphores.live id)
-
-  refers_flag_to_goes : (place : ℕ) → WordsFit s.memory (Some place) 5 → (o : Option LiveFlag)
-      → BoardGoes (refers_flag_to b place o)
-  refers_flag_to_goes place fits None = only e _
-  refers_flag_to_goes place fits (Some o) = told place (flag_words o) fits
-
-  pub refers_flag_goes : (id : ℕ) (o : Option ℕ) → WordsFit s.memory o 5
-      → BoardGoes (refers_flag_at b id o)
-  refers_flag_goes id None fits = e.faults faults_of.Address
-  refers_flag_goes id (Some place) fits =
-      refers_flag_to_goes place fits (object_of c.kernel.event_flags.live id)
-
-  refers_mbx_to_goes : (place : ℕ) → WordsFit s.memory (Some place) 5 → (o : Option LiveMailbox)
-      → BoardGoes (refers_mbx_to b place o)
-  refers_mbx_to_goes place fits None = only e _
-  refers_mbx_to_goes place fits (Some o) = told place (mailbox_words o) fits
-
-  pub refers_mbx_goes : (id : ℕ) (o : Option ℕ) → WordsFit s.memory o 5
-      → BoardGoes (refers_mbx_at b id o)
-  refers_mbx_goes id None fits = e.faults faults_of.Address
-  refers_mbx_goes id (Some place) fits =
-      refers_mbx_to_goes place fits (object_of c.kernel.mailboxes.live id)
+    pub status_goes : (id : ℕ) (o : Option ℕ) → WordsFit s.memory o count
+        → BoardGoes (refers_at kind words b id o)
+    status_goes id None fits = e.faults faults_of.Address
+    status_goes id (Some place) fits =
+        refers_to_goes place fits (object_of (table kind c.kernel).live id)
 
   -- a time is written
   pub writes_time_goes : (ticks : ℕ) (o : Option ℕ) → WordsFit s.memory o 2

@@ -4,28 +4,29 @@
 use Rattle.std.specs.Prelude.{ℕ, ◌==◌, if◌then◌else◌, Option, Some, None, Result, Ok, Err, List, [], ◌∷◌, ◌++◌, length, bit_or}
 use Rattle.iop_base.specs.Piece.{Piece}
 use Rattle.iop_base.specs.declared.code.Code.{Code}
-use Rattle.iop_base.specs.declared.code.TheConstants.Code.{OK, UNKNOWN_EVENT_FLAG, FLAG_CONDITION, CANNOT_WAIT, OBJECT_DELETED}
-use Rattle.iop_base.specs.declared.guest_fault.GuestFault.TheVariants.{Address, Service}
-use Rattle.iop_event.specs.EventFlags as flags
+use Rattle.iop_base.specs.declared.code.TheConstants.Code.{OK, UNKNOWN_EVENT_FLAG, FLAG_CONDITION, CANNOT_WAIT}
+use Rattle.iop_base.specs.declared.guest_fault.GuestFault.TheVariants.{Address}
 use Rattle.iop_event.specs.EventFlags.{EventFlags, with_pattern}
+use Rattle.iop_event.specs.EventFlags as flags
 use Rattle.iop_event.specs.Waiting.{settles}
-use Rattle.iop_event.specs.declared.event_flag.EventFlag as declared
 use Rattle.iop_event.specs.declared.met.Met.{Met}
 use Rattle.iop_event.specs.declared.wanted.Wanted.{Wanted}
-use Rattle.iop_objects.specs.Objects as objects
-use Rattle.iop_objects.specs.Objects.{Object, object_of}
-use Rattle.iop_stubs.specs.Stubs.{Memory, after_store, store_lines}
-use Rattle.iop_thread.specs.ThreadTable.{priority_of}
-use Rattle.iop_thread.specs.declared.wait.Wait.TheVariants.{EventFlag}
 use Rattle.iop_kernel.specs.Boards.{Board, quiet, writes, word_in, bytes_of_words, optional_place}
-use Rattle.iop_kernel.specs.System.{Core, Left, Done, may_switch, caller, with_threads, with_event_flags, code_word, answers, answers_result, faults, words_place}
-use Rattle.iop_kernel.specs.Waiting.{waits}
-use Rattle.iop_kernel.specs.Waits.{is_code, threads_of, wakes_with, wakes_all}
+use Rattle.iop_kernel.specs.Kinds.{Live}
+use Rattle.iop_kernel.specs.ObjectServices.{waits_for, delete_object, refer_status}
+use Rattle.iop_kernel.specs.System.{Core, Left, Done, argument, may_switch, caller, with_event_flags, answers, answers_result, faults, words_place}
+use Rattle.iop_kernel.specs.Waits.{is_code, wakes_with}
 use Rattle.iop_kernel.specs.declared.event_flags.TheConstants.{FLAG_WORDS, FLAG_STATUS_WORDS}
+use Rattle.iop_objects.specs.Objects.{object_of}
+use Rattle.iop_objects.specs.Objects as objects
+use Rattle.iop_services.specs.declared.thevent_service.TheventService.{TheventService}
+use Rattle.iop_services.specs.declared.thevent_service.TheventService.TheVariants as service
+use Rattle.iop_stubs.specs.Stubs.{Memory, after_store, store_lines}
+use Rattle.iop_thread.specs.declared.kind.Kind.TheVariants.{EventFlag}
 
 -- a live event flag
 abbrev pub LiveFlag : Type 0
-LiveFlag = Object declared.EventFlag Wanted
+LiveFlag = Live EventFlag
 
 module _ (c : Core) where
   -- an operation on event flags answers a code
@@ -44,18 +45,9 @@ module _ (c : Core) where
   abbrev pub create_event_flag : Memory → (at : ℕ) → Left Core
   create_event_flag memory at = creates_flag_at memory (words_place memory at FLAG_WORDS)
 
-  -- by the event flag of the id: the threads that wait are woken in order
-  abbrev pub deletes_flag : Option LiveFlag → Left Core
-  deletes_flag None = answers c UNKNOWN_EVENT_FLAG
-  deletes_flag (Some o) =
-      let woken =
-      wakes_all c.kernel.threads (threads_of o.waiters) (code_word OBJECT_DELETED) in
-      let left = objects.deletes c.kernel.event_flags o.id in
-      answers (with_event_flags (with_threads c woken) left) OK
-
   -- DeleteEventFlag
   abbrev pub delete_event_flag : (id : ℕ) → Left Core
-  delete_event_flag id = deletes_flag (object_of c.kernel.event_flags.live id)
+  delete_event_flag = delete_object EventFlag c
 
   -- ClearEventFlag
   abbrev pub clear_event_flag : (id mask : ℕ) → Left Core
@@ -63,11 +55,7 @@ module _ (c : Core) where
 
   -- the thread that calls waits for bits of an event flag
   abbrev pub waits_for_bits : (id : ℕ) → Wanted → Option ℕ → Left Core
-  waits_for_bits id wanted None = faults c Service
-  waits_for_bits id wanted (Some thread) =
-      let priority = priority_of c.kernel.threads.live thread in
-      waits (with_event_flags c (flags.waits c.kernel.event_flags id thread priority wanted))
-      (EventFlag id)
+  waits_for_bits = waits_for EventFlag c
 
 module _ (b : Board) where
   -- a thread whose condition held is woken with 0, and the pattern is written to its place, if it
@@ -168,18 +156,24 @@ module _ (b : Board) where
   abbrev pub poll_event_flag : (id : ℕ) → Wanted → Done Board
   poll_event_flag id wanted = polls_flag_at id wanted (optional_place b.memory wanted.place)
 
-  -- by the event flag of the id
-  abbrev pub refers_flag_to : (place : ℕ) → Option LiveFlag → Done Board
-  refers_flag_to place None = quiet b.memory (answers b.core UNKNOWN_EVENT_FLAG)
-  refers_flag_to place (Some o) = writes b.memory (Some place) (flag_words o) b.core
+-- ReferEventFlagStatus
+abbrev pub refer_event_flag_status : Board → (id at : ℕ) → Done Board
+refer_event_flag_status b = refer_status EventFlag flag_words b FLAG_STATUS_WORDS
 
-  -- by the place of the words
-  abbrev pub refers_flag_at : (id : ℕ) → Option ℕ → Done Board
-  refers_flag_at id None = quiet b.memory (faults b.core Address)
-  refers_flag_at id (Some place) =
-      refers_flag_to place (object_of b.core.kernel.event_flags.live id)
+-- what a thread asks of an event flag by the arguments of WaitEventFlag and PollEventFlag
+abbrev pub wanted : Core → Wanted
+wanted c = record { bits = argument c 1; mode = argument c 2; place = argument c 3 }
 
-  -- ReferEventFlagStatus
-  abbrev pub refer_event_flag_status : (id at : ℕ) → Done Board
-  refer_event_flag_status id at =
-      refers_flag_at id (words_place b.memory at FLAG_STATUS_WORDS)
+-- a service of thevent
+unfoldable pub serves_thevent : Board → TheventService → Done Board
+serves_thevent b service.CreateEventFlag =
+    quiet b.memory (create_event_flag b.core b.memory (argument b.core 0))
+serves_thevent b service.DeleteEventFlag =
+    quiet b.memory (delete_event_flag b.core (argument b.core 0))
+serves_thevent b service.SetEventFlag = set_event_flag b (argument b.core 0) (argument b.core 1)
+serves_thevent b service.ClearEventFlag =
+    quiet b.memory (clear_event_flag b.core (argument b.core 0) (argument b.core 1))
+serves_thevent b service.WaitEventFlag = wait_event_flag b (argument b.core 0) (wanted b.core)
+serves_thevent b service.PollEventFlag = poll_event_flag b (argument b.core 0) (wanted b.core)
+serves_thevent b service.ReferEventFlagStatus =
+    refer_event_flag_status b (argument b.core 0) (argument b.core 1)

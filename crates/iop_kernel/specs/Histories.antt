@@ -10,7 +10,9 @@ use Rattle.iop_sema.specs.declared.semaphore.Semaphore.{Semaphore}
 use Rattle.iop_services.specs.Table.{row_of}
 use Rattle.iop_services.specs.declared.row.Row.{Row}
 use Rattle.iop_services.specs.declared.service.Service.{Service}
-use Rattle.iop_services.specs.declared.service.Service.TheVariants as service
+use Rattle.iop_services.specs.declared.service.Service.TheVariants.{Thsemap, Thmsgbx}
+use Rattle.iop_services.specs.declared.thmsgbx_service.ThmsgbxService.TheVariants.{SendMbx, ReceiveMbx, PollMbx}
+use Rattle.iop_services.specs.declared.thsemap_service.ThsemapService.TheVariants.{SignalSema, WaitSema, PollSema}
 use Rattle.iop_thread.specs.Placing.{times}
 use Rattle.iop_kernel.specs.Serving.{call_of, services}
 use Rattle.iop_kernel.specs.System.{Core, System, Served, argument}
@@ -33,8 +35,10 @@ pub record Called : Type 0 where
 
 -- whether a thread waits for the object that a signal or a send names
 abbrev pub has_waiter : Core → Service → Bool
-has_waiter c service.SignalSema = not (length (waiters_of c.kernel.semaphores (argument c 0)) == 0)
-has_waiter c service.SendMbx = not (length (waiters_of c.kernel.mailboxes (argument c 0)) == 0)
+has_waiter c (Thsemap SignalSema) =
+    not (length (waiters_of c.kernel.semaphores (argument c 0)) == 0)
+has_waiter c (Thmsgbx SendMbx) =
+    not (length (waiters_of c.kernel.mailboxes (argument c 0)) == 0)
 has_waiter c other = false
 
 -- the message that a call receives
@@ -43,8 +47,8 @@ message_in (Ok message) = message
 message_in (Err code) = 0
 
 abbrev pub received_by : Core → Service → ℕ
-received_by c service.ReceiveMbx = message_in (gets c.kernel.mailboxes (argument c 1)).0
-received_by c service.PollMbx = message_in (gets c.kernel.mailboxes (argument c 1)).0
+received_by c (Thmsgbx ReceiveMbx) = message_in (gets c.kernel.mailboxes (argument c 1)).0
+received_by c (Thmsgbx PollMbx) = message_in (gets c.kernel.mailboxes (argument c 1)).0
 received_by c other = 0
 
 abbrev pub answer_of : After → Core → Option ℕ
@@ -79,12 +83,12 @@ abbrev pub succeeds : Called → Bool
 succeeds c = succeeds_by c.answer
 
 abbrev pub is_signal : Service → Bool
-is_signal service.SignalSema = true
+is_signal (Thsemap SignalSema) = true
 is_signal other = false
 
 abbrev pub is_take : Service → Bool
-is_take service.WaitSema = true
-is_take service.PollSema = true
+is_take (Thsemap WaitSema) = true
+is_take (Thsemap PollSema) = true
 is_take other = false
 
 -- a signal of a semaphore for which none waited, and a take of one
@@ -95,12 +99,12 @@ abbrev pub takes_in : (id : ℕ) → Called → ℕ
 takes_in id c = one_if (is_take c.service && c.first == id && succeeds c)
 
 abbrev pub is_send : Service → Bool
-is_send service.SendMbx = true
+is_send (Thmsgbx SendMbx) = true
 is_send other = false
 
 abbrev pub is_receive : Service → Bool
-is_receive service.ReceiveMbx = true
-is_receive service.PollMbx = true
+is_receive (Thmsgbx ReceiveMbx) = true
+is_receive (Thmsgbx PollMbx) = true
 is_receive other = false
 
 abbrev pub list_if : Bool → ℕ → List ℕ

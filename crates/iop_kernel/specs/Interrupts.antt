@@ -8,8 +8,10 @@ use Rattle.iop_base.specs.declared.code.TheConstants.Code.{OK, ILLEGAL_INTERRUPT
 use Rattle.iop_base.specs.declared.guest_fault.GuestFault.TheVariants.{Address}
 use Rattle.iop_exec.specs.Row.{reg}
 use Rattle.iop_intr.specs.InterruptLines.{IrqLine, handler_of, registering, releasing, enabling, disabling}
+use Rattle.iop_services.specs.declared.intrman_service.IntrmanService.{IntrmanService}
+use Rattle.iop_services.specs.declared.intrman_service.IntrmanService.TheVariants as service
 use Rattle.iop_kernel.specs.Boards.{Board, quiet, writes_with, optional_place}
-use Rattle.iop_kernel.specs.System.{Core, Left, Done, in_handler, with_irqs, with_interrupts, resumes, answers, faults, words_place}
+use Rattle.iop_kernel.specs.System.{Core, Left, Done, in_handler, argument, with_irqs, with_interrupts, resumes, answers, faults, words_place}
 use Rattle.iop_kernel.specs.Waits.{is_code}
 
 module _ (c : Core) where
@@ -79,3 +81,19 @@ module _ (b : Board) where
   -- CpuSuspendIntr
   abbrev pub suspend_interrupts : (at : ℕ) → Done Board
   suspend_interrupts at = suspends_at (words_place b.memory at 1)
+
+-- a service of intrman
+unfoldable pub serves_intrman : Board → IntrmanService → Done Board
+serves_intrman b service.RegisterIntrHandler =
+    quiet b.memory
+    (register_handler b.core (argument b.core 0) (argument b.core 2) (argument b.core 3))
+serves_intrman b service.ReleaseIntrHandler =
+    quiet b.memory (release_handler b.core (argument b.core 0))
+serves_intrman b service.EnableIntr = quiet b.memory (enable_line b.core (argument b.core 0))
+serves_intrman b service.DisableIntr = disable_line b (argument b.core 0) (argument b.core 1)
+serves_intrman b service.CpuDisableIntr = quiet b.memory (disable_interrupts b.core)
+serves_intrman b service.CpuEnableIntr = quiet b.memory (enable_interrupts b.core)
+serves_intrman b service.CpuSuspendIntr = suspend_interrupts b (argument b.core 0)
+serves_intrman b service.CpuResumeIntr =
+    quiet b.memory (resume_interrupts b.core (argument b.core 0))
+serves_intrman b service.QueryIntrContext = quiet b.memory (query_context b.core)

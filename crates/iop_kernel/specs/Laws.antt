@@ -4,44 +4,32 @@ use Rattle.std.specs.Prelude.{◌≡◌, ◌≢◌, ℕ, ◌+◌, ◌<◌, ◌�
 use Rattle.iop_base.specs.Piece.{Piece, Traced}
 use Rattle.iop_base.specs.Text.{line_bytes}
 use Rattle.iop_base.specs.declared.line.Line.TheVariants.{Run}
-use Rattle.iop_exec.specs.declared.cpu.Cpu.{Cpu}
-use Rattle.iop_exec.specs.Processors.{IsStraight}
-use Rattle.iop_objects.specs.Objects.{Objects, state_of, waiters_of}
-use Rattle.iop_objects.specs.declared.waiter.Waiter.{Waiter}
-use Rattle.iop_stubs.specs.Stubs.{Memory, after_store, store_lines}
-use Rattle.iop_sysmem.specs.BlockMap.{BlockMap, AreBlocks}
-use Rattle.iop_thread.specs.Laws.{AreStraight, IsBest, IsSettled}
-use Rattle.iop_thread.specs.States.{kept_registers}
-use Rattle.iop_thread.specs.ThreadTable.{ThreadTable, priority_of}
-use Rattle.iop_thread.specs.declared.thread.Thread.{Thread}
-use Rattle.iop_thread.specs.declared.thread.TheConstants.{LOADER}
+use Rattle.iop_exec.specs.Laws.{IsSteady}
+use Rattle.iop_kernel.specs.Dispatching.{Dispatched, dispatches}
+use Rattle.iop_kernel.specs.Kinds.{library_of, table}
+use Rattle.iop_kernel.specs.Overdue.{NoneOverdue}
+use Rattle.iop_kernel.specs.Placing.{IsPlaced}
+use Rattle.iop_kernel.specs.Serving.{services, calls_library}
+use Rattle.iop_kernel.specs.System.{Kernel, Core, System, Served, is_active, may_dispatch, caller, opened}
 use Rattle.iop_kernel.specs.declared.active_handler.ActiveHandler.{ActiveHandler}
 use Rattle.iop_kernel.specs.declared.after.After.{After}
 use Rattle.iop_kernel.specs.declared.after.After.TheVariants.{Resume, Switch, ModuleReturned, Fault}
-use Rattle.iop_kernel.specs.Dispatching.{Dispatched, dispatches}
-use Rattle.iop_kernel.specs.Serving.{services, calls_library}
-use Rattle.iop_kernel.specs.Overdue.{NoneOverdue}
-use Rattle.iop_kernel.specs.Placing.{IsPlaced}
-use Rattle.iop_kernel.specs.System.{Kernel, Core, System, Served, is_active, may_dispatch, caller, opened}
-use Rattle.iop_kernel.specs.declared.call.TheConstants.{INTRMAN, THBASE, THSEMAP, THEVENT, THMSGBX}
-
--- a processor has its registers
-abbrev pub HasRegisters : Cpu → Type 0
-HasRegisters c = length c.regs ≡ 32
-
--- so has what each thread keeps
-abbrev pub KeepRegisters : ThreadTable → Type 0
-KeepRegisters s = All (λ t. IfSome (kept_registers t.state) HasRegisters) s.live
+use Rattle.iop_objects.specs.Objects.{Objects, state_of, waiters_of}
+use Rattle.iop_objects.specs.declared.waiter.Waiter.{Waiter}
+use Rattle.iop_registry.specs.declared.registry.Entry.{Entry}
+use Rattle.iop_services.specs.declared.codes.TheConstants.{INTRMAN, THBASE, THMSGBX}
+use Rattle.iop_stubs.specs.Stubs.{Memory, after_store, store_lines}
+use Rattle.iop_sysmem.specs.BlockMap.{BlockMap, AreBlocks}
+use Rattle.iop_thread.specs.Laws.{AreSteady, IsBest, IsSettled}
+use Rattle.iop_thread.specs.ThreadTable.{priority_of}
+use Rattle.iop_thread.specs.declared.kind.Kind.{Kind}
+use Rattle.iop_thread.specs.declared.thread.TheConstants.{LOADER}
+use Rattle.iop_thread.specs.declared.thread.Thread.{Thread}
 
 -- where no thread runs, another may: at once, or once the handler that runs has returned
 pub record IsAwake (k : Kernel) : Type 0 where
   pub dispatching : k.dispatching ≡ true
   pub interrupts : k.handler ≡ None → k.interrupts ≡ true
-
--- the registers that a handler keeps are such that a thread can go on with them
-pub record HandlerKeeps (handler : ActiveHandler) : Type 0 where
-  pub registers : HasRegisters handler.kept
-  pub straight : IsStraight handler.kept
 
 -- what holds of the kernel and its processor at all times
 pub record IsCore (c : Core) : Type 0 where
@@ -51,13 +39,10 @@ pub record IsCore (c : Core) : Type 0 where
   -- no wait is overdue
   pub overdue : NoneOverdue c.kernel
   pub awake : c.kernel.threads.running ≡ None → IsAwake c.kernel
-  -- outside a delay slot the next instruction is the one behind
-  pub straight : IsStraight c.cpu
-  pub threads : AreStraight c.kernel.threads
-  -- the processor has its registers, and each thread
-  pub registers : HasRegisters c.cpu
-  pub kept : KeepRegisters c.kernel.threads
-  pub handler : IfSome c.kernel.handler HandlerKeeps
+  -- what holds of a processor holds of this one, and of what each thread and the handler keep
+  pub steady : IsSteady c.cpu
+  pub threads : AreSteady c.kernel.threads
+  pub handler : IfSome c.kernel.handler (λ handler. IsSteady handler.kept)
 
 -- bytes that are stored at a physical place
 pub record Store : Type 0 where
@@ -152,7 +137,8 @@ serves_kernel library = nat_le INTRMAN library && nat_le library THMSGBX
 -- change the interrupt lines, and nothing else but whether interrupts are on; those of thbase alone
 -- change alarms and delays and whether dispatch is enabled, and beside intrman's alone whether
 -- interrupts are on; and the services of the other libraries leave the kernel as it was
-pub record ServicesStayApart (s : System) (library number : ℕ) (left : Kernel) : Type 0 where
+pub record ServicesStayApart (s : System) (library : ℕ) (left : Kernel) (entries : List Entry)
+    : Type 0 where
   pub kernel : serves_kernel library ≡ false → left ≡ s.core.kernel
   pub intrman : library ≡ INTRMAN
       → left ≡ record s.core.kernel { interrupts = left.interrupts; irqs = left.irqs }
@@ -162,16 +148,14 @@ pub record ServicesStayApart (s : System) (library number : ℕ) (left : Kernel)
       → left.interrupts ≡ s.core.kernel.interrupts
   pub dispatching : library ≢ THBASE → left.dispatching ≡ s.core.kernel.dispatching
   pub handler : left.handler ≡ s.core.kernel.handler
-  pub libraries : serves_kernel library ≡ true
-      → (calls_library library number s).left.state.libraries ≡ s.libraries
-  pub semaphores : library ≢ THSEMAP → KeepsObjects s.core.kernel.semaphores left.semaphores
-  pub event_flags : library ≢ THEVENT → KeepsObjects s.core.kernel.event_flags left.event_flags
-  pub mailboxes : library ≢ THMSGBX → KeepsObjects s.core.kernel.mailboxes left.mailboxes
+  pub libraries : serves_kernel library ≡ true → entries ≡ s.libraries
+  pub objects : (kind : Kind) → library ≢ library_of kind
+      → KeepsObjects (table kind s.core.kernel) (table kind left)
 
 abbrev pub LibrariesStayApart : Type 0
 LibrariesStayApart =
-    (s : System) (library number : ℕ)
-    → ServicesStayApart s library number (calls_library library number s).left.state.core.kernel
+    (s : System) (library number : ℕ) → let left = (calls_library library number s).left.state in
+    ServicesStayApart s library left.core.kernel left.libraries
 
 -- a dispatch takes the first ready thread of the best priority, and tells its id; nothing else is
 -- dispatched after it

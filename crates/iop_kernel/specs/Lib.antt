@@ -1,4 +1,5 @@
 pub mod System
+pub mod Kinds
 pub mod Answering
 pub mod Naming
 pub mod Running
@@ -6,9 +7,11 @@ pub mod Ordering
 pub mod Waiting
 pub mod Creating
 pub mod Deleting
+pub mod ObjectServices
 pub mod Status
 pub mod Handlers
 pub mod Interrupts
+pub mod Thbase
 pub mod Timing
 pub mod Deliveries
 pub mod Serving

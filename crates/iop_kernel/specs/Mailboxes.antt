@@ -4,26 +4,26 @@
 use Rattle.std.specs.Prelude.{ℕ, ◌+◌, if◌then◌else◌, Option, Some, None, Result, Ok, Err, option_map, unwrap_or, List, [], ◌∷◌, length}
 use Rattle.iop_base.specs.Numbers.{number_at, wrapped}
 use Rattle.iop_base.specs.declared.code.Code.{Code}
-use Rattle.iop_base.specs.declared.code.TheConstants.Code.{OK, NO_MEMORY, UNKNOWN_MAILBOX, NO_MESSAGE, CANNOT_WAIT, OBJECT_DELETED}
-use Rattle.iop_base.specs.declared.guest_fault.GuestFault.TheVariants.{Address, Service}
-use Rattle.iop_mbx.specs.Mailboxes as mailboxes
-use Rattle.iop_mbx.specs.Mailboxes.{Mailboxes, messages_by_priority, waiters_by_priority, next_message}
-use Rattle.iop_objects.specs.Objects as objects
-use Rattle.iop_objects.specs.Objects.{Object, object_of, state_of}
-use Rattle.iop_objects.specs.Queue.{in_order}
-use Rattle.iop_objects.specs.declared.waiter.Waiter.{Waiter}
-use Rattle.iop_stubs.specs.Stubs.{Memory, range_place}
-use Rattle.iop_thread.specs.ThreadTable.{priority_of}
-use Rattle.iop_thread.specs.declared.wait.Wait.TheVariants.{Mailbox}
+use Rattle.iop_base.specs.declared.code.TheConstants.Code.{OK, NO_MEMORY, UNKNOWN_MAILBOX, NO_MESSAGE, CANNOT_WAIT}
+use Rattle.iop_base.specs.declared.guest_fault.GuestFault.TheVariants.{Address}
 use Rattle.iop_kernel.specs.Boards.{Board, quiet, writes, word_in}
-use Rattle.iop_kernel.specs.System.{Core, Left, Done, may_switch, caller, with_threads, with_mailboxes, code_word, answers, answers_result, faults, words_place}
-use Rattle.iop_kernel.specs.Waiting.{waits}
-use Rattle.iop_kernel.specs.Waits.{is_code, threads_of, wakes_with, wakes_all}
+use Rattle.iop_kernel.specs.Kinds.{Live}
+use Rattle.iop_kernel.specs.ObjectServices.{waits_for, delete_object, refer_status}
+use Rattle.iop_kernel.specs.System.{Core, Left, Done, argument, may_switch, caller, with_mailboxes, answers, answers_result, faults, words_place}
+use Rattle.iop_kernel.specs.Waits.{is_code, wakes_with}
 use Rattle.iop_kernel.specs.declared.mailboxes.TheConstants.{MAILBOX_WORDS, MAILBOX_STATUS_WORDS, PRIORITY_OFFSET}
+use Rattle.iop_mbx.specs.Mailboxes.{Mailboxes, messages_by_priority, next_message}
+use Rattle.iop_mbx.specs.Mailboxes as mailboxes
+use Rattle.iop_objects.specs.Objects.{state_of}
+use Rattle.iop_objects.specs.declared.waiter.Waiter.{Waiter}
+use Rattle.iop_services.specs.declared.thmsgbx_service.ThmsgbxService.{ThmsgbxService}
+use Rattle.iop_services.specs.declared.thmsgbx_service.ThmsgbxService.TheVariants as service
+use Rattle.iop_stubs.specs.Stubs.{Memory, range_place}
+use Rattle.iop_thread.specs.declared.kind.Kind.TheVariants.{Mailbox}
 
 -- a live mailbox
 abbrev pub LiveMailbox : Type 0
-LiveMailbox = Object mailboxes.Mailbox ℕ
+LiveMailbox = Live Mailbox
 
 -- the priority of a message: its byte at PRIORITY_OFFSET, where its mailbox looks at it
 abbrev pub priority_at : Memory → Option ℕ → Option ℕ
@@ -52,28 +52,13 @@ module _ (c : Core) where
   abbrev pub create_mbx : Memory → (at : ℕ) → Left Core
   create_mbx memory at = creates_mbx_at memory (words_place memory at MAILBOX_WORDS)
 
-  -- by the mailbox of the id: the threads that wait are woken in the order in which messages would
-  -- choose them
-  abbrev pub deletes_mbx : Option LiveMailbox → Left Core
-  deletes_mbx None = answers c UNKNOWN_MAILBOX
-  deletes_mbx (Some o) =
-      let waiters = in_order (waiters_by_priority o.state.attr) o.waiters in
-      let woken =
-      wakes_all c.kernel.threads (threads_of waiters) (code_word OBJECT_DELETED) in
-      let left = objects.deletes c.kernel.mailboxes o.id in
-      answers (with_mailboxes (with_threads c woken) left) OK
-
   -- DeleteMbx
   abbrev pub delete_mbx : (id : ℕ) → Left Core
-  delete_mbx id = deletes_mbx (object_of c.kernel.mailboxes.live id)
+  delete_mbx = delete_object Mailbox c
 
   -- the thread that calls waits for a message, which is to be written at an address
   abbrev pub waits_for_message : (id at : ℕ) → Option ℕ → Left Core
-  waits_for_message id at None = faults c Service
-  waits_for_message id at (Some thread) =
-      let priority = priority_of c.kernel.threads.live thread in
-      waits (with_mailboxes c (mailboxes.waits c.kernel.mailboxes id thread priority at))
-      (Mailbox id)
+  waits_for_message = waits_for Mailbox c
 
   -- a message is queued
   abbrev pub queues_by : (id message : ℕ) → Option ℕ → Left Core
@@ -150,16 +135,17 @@ module _ (b : Board) where
   abbrev pub poll_mbx : (at id : ℕ) → Done Board
   poll_mbx at id = polls_mbx_at id (words_place b.memory at 1)
 
-  -- by the mailbox of the id
-  abbrev pub refers_mbx_to : (place : ℕ) → Option LiveMailbox → Done Board
-  refers_mbx_to place None = quiet b.memory (answers b.core UNKNOWN_MAILBOX)
-  refers_mbx_to place (Some o) = writes b.memory (Some place) (mailbox_words o) b.core
+-- ReferMbxStatus
+abbrev pub refer_mbx_status : Board → (id at : ℕ) → Done Board
+refer_mbx_status b = refer_status Mailbox mailbox_words b MAILBOX_STATUS_WORDS
 
-  -- by the place of the words
-  abbrev pub refers_mbx_at : (id : ℕ) → Option ℕ → Done Board
-  refers_mbx_at id None = quiet b.memory (faults b.core Address)
-  refers_mbx_at id (Some place) = refers_mbx_to place (object_of b.core.kernel.mailboxes.live id)
-
-  -- ReferMbxStatus
-  abbrev pub refer_mbx_status : (id at : ℕ) → Done Board
-  refer_mbx_status id at = refers_mbx_at id (words_place b.memory at MAILBOX_STATUS_WORDS)
+-- a service of thmsgbx
+unfoldable pub serves_thmsgbx : Board → ThmsgbxService → Done Board
+serves_thmsgbx b service.CreateMbx =
+    quiet b.memory (create_mbx b.core b.memory (argument b.core 0))
+serves_thmsgbx b service.DeleteMbx = quiet b.memory (delete_mbx b.core (argument b.core 0))
+serves_thmsgbx b service.SendMbx = send_mbx b (argument b.core 0) (argument b.core 1)
+serves_thmsgbx b service.ReceiveMbx = receive_mbx b (argument b.core 0) (argument b.core 1)
+serves_thmsgbx b service.PollMbx = poll_mbx b (argument b.core 0) (argument b.core 1)
+serves_thmsgbx b service.ReferMbxStatus =
+    refer_mbx_status b (argument b.core 0) (argument b.core 1)

@@ -1,15 +1,17 @@
 -- Where threads and those that wait stand, at all times (ps2sdk: thread.h): a law of the services.
-use Rattle.std.specs.Prelude.{◌≡◌, ◌≢◌, ℕ, ◌<◌, ◌≤◌, ◌==◌, Bool, true, false, Option, Some, length, map, All, AllPairs}
+use Rattle.std.specs.Prelude.{◌≡◌, ◌≢◌, ℕ, ◌<◌, ◌≤◌, ◌==◌, ◌&&◌, Bool, true, false, Option, Some, length, map, All, AllPairs}
 use Rattle.iop_base.specs.Numbers.{one_if}
-use Rattle.iop_objects.specs.Objects.{Objects, waiters_of}
+use Rattle.iop_objects.specs.Objects.{waiters_of}
 use Rattle.iop_thread.specs.Placing as threads
 use Rattle.iop_thread.specs.Placing.{times}
 use Rattle.iop_thread.specs.ThreadTable.{ThreadTable}
 use Rattle.iop_thread.specs.Waits.{wait_of}
+use Rattle.iop_thread.specs.declared.kind.Kind.{Kind}
 use Rattle.iop_thread.specs.declared.wait.Wait.{Wait}
-use Rattle.iop_thread.specs.declared.wait.Wait.TheVariants.{Delay, Semaphore, EventFlag, Mailbox}
+use Rattle.iop_thread.specs.declared.wait.Wait.TheVariants.{Delay, Object}
 use Rattle.iop_time.specs.Timers.{Timers, AreTimers}
 use Rattle.iop_time.specs.declared.clock.TheConstants.{MOST_DELAYS}
+use Rattle.iop_kernel.specs.Kinds.{is_kind, Table, table}
 use Rattle.iop_kernel.specs.System.{Kernel}
 use Rattle.iop_kernel.specs.Waits.{threads_of}
 
@@ -18,24 +20,16 @@ abbrev pub is_for_delay : Option Wait → Bool
 is_for_delay (Some Delay) = true
 is_for_delay other = false
 
--- whether that is the semaphore, the event flag or the mailbox of an id
-abbrev pub is_for_semaphore : ℕ → Option Wait → Bool
-is_for_semaphore id (Some (Semaphore one)) = one == id
-is_for_semaphore id other = false
-
-abbrev pub is_for_event_flag : ℕ → Option Wait → Bool
-is_for_event_flag id (Some (EventFlag one)) = one == id
-is_for_event_flag id other = false
-
-abbrev pub is_for_mailbox : ℕ → Option Wait → Bool
-is_for_mailbox id (Some (Mailbox one)) = one == id
-is_for_mailbox id other = false
+-- whether that is the object of a kind and of an id
+abbrev pub is_for : Kind → ℕ → Option Wait → Bool
+is_for kind id (Some (Object other one)) = is_kind kind other && one == id
+is_for kind id other = false
 
 -- the threads that wait for the objects of a kind are those whose waits say so, each once
-pub record AreWaited {A W : Type 0} (s : Objects A W) (is_for : ℕ → Option Wait → Bool)
-    (threads : ThreadTable) : Type 0 where
+pub record AreWaited (kind : Kind) (s : Table kind) (threads : ThreadTable) : Type 0 where
   pub waiters : (id thread : ℕ)
-      → times thread (threads_of (waiters_of s id)) ≡ one_if (is_for id (wait_of threads thread))
+      → times thread (threads_of (waiters_of s id))
+      ≡ one_if (is_for kind id (wait_of threads thread))
   -- no two live objects have one id, and none has one that is still to be given
   pub ids : AllPairs (λ a b. a.id ≢ b.id) s.live
   pub given : All (λ o. o.id < s.next) s.live
@@ -52,7 +46,5 @@ pub record AreDelayed (timers : Timers) (threads : ThreadTable) : Type 0 where
 
 pub record IsPlaced (k : Kernel) : Type 0 where
   pub threads : threads.IsPlaced k.threads
-  pub semaphores : AreWaited k.semaphores is_for_semaphore k.threads
-  pub event_flags : AreWaited k.event_flags is_for_event_flag k.threads
-  pub mailboxes : AreWaited k.mailboxes is_for_mailbox k.threads
+  pub objects : (kind : Kind) → AreWaited kind (table kind k) k.threads
   pub delays : AreDelayed k.timers k.threads

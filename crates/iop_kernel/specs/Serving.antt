@@ -1,145 +1,104 @@
 -- What a `syscall` asks of the kernel. The codes are this project's own profile.
-use Rattle.std.specs.Prelude.{ℕ, ◌/◌, ◌%◌, ◌==◌, nat_lt, ◌&&◌, true, false, if◌then◌else◌, Option, Some, None, [], ◌∷◌, length}
+use Rattle.std.specs.Prelude.{ℕ, ◌/◌, ◌%◌, ◌==◌, nat_lt, ◌&&◌, if◌then◌else◌, Option, Some, None, Result, Ok, Err, [], ◌∷◌, length}
 use Rattle.iop_base.specs.Piece.{Traced}
 use Rattle.iop_base.specs.Text.{line_bytes}
+use Rattle.iop_base.specs.declared.code.TheConstants.Code.{ILLEGAL_CONTEXT}
 use Rattle.iop_base.specs.declared.libraries.TheConstants.{KERNEL_LIBRARIES}
+use Rattle.iop_base.specs.declared.guest_fault.GuestFault.{GuestFault}
 use Rattle.iop_base.specs.declared.guest_fault.GuestFault.TheVariants as faults_of
 use Rattle.iop_base.specs.declared.line.Line.TheVariants as lines
-use Rattle.iop_event.specs.declared.wanted.Wanted.{Wanted}
-use Rattle.iop_libs.specs.Calls.{Sight, calls_row, row_pieces}
-use Rattle.iop_libs.specs.declared.answer.Answer.{Answer}
-use Rattle.iop_libs.specs.declared.answer.Answer.TheVariants.{Value, Unlisted, Fault, Other}
+use Rattle.iop_libs.specs.Calls.{Sight, sysmem_pieces, stdio_pieces}
+use Rattle.iop_libs.specs.Calls as libs
+use Rattle.iop_services.specs.Table.{row_of, allows}
+use Rattle.iop_services.specs.declared.codes.TheConstants.{LIBRARY_CODES, SERVICES}
+use Rattle.iop_services.specs.declared.loadcore_service.LoadcoreService.{LoadcoreService}
+use Rattle.iop_services.specs.declared.row.Row.{Row}
 use Rattle.iop_services.specs.declared.service.Service.{Service}
-use Rattle.iop_services.specs.declared.service.Service.TheVariants as service
-use Rattle.iop_services.specs.Table.{row_of}
+use Rattle.iop_services.specs.declared.service.Service.TheVariants.{Loadcore, Sysmem, Intrman, Thbase, Thsemap, Thevent, Thmsgbx, Stdio}
+use Rattle.iop_services.specs.declared.stdio_service.StdioService.{StdioService}
+use Rattle.iop_services.specs.declared.sysmem_service.SysmemService.{SysmemService}
 use Rattle.iop_kernel.specs.declared.call.Call.{Call}
 use Rattle.iop_kernel.specs.declared.call.Call.TheVariants.{Library, ThreadReturn, HandlerReturn, ModuleReturn}
-use Rattle.iop_kernel.specs.declared.call.TheConstants.{THREAD_RETURN_CALL, HANDLER_RETURN_CALL, MODULE_RETURN_CALL, SERVICES}
-use Rattle.iop_kernel.specs.System.{Core, Left, System, Done, Served, in_handler, argument, resumes, faults, silent, after_pieces, on_core}
-use Rattle.iop_kernel.specs.Boards.{Board, board_of, on_board, quiet}
-use Rattle.iop_kernel.specs.Creating.{create_thread}
-use Rattle.iop_kernel.specs.Deleting.{delete_thread, exit_delete_thread, owner_of, on_owner}
-use Rattle.iop_kernel.specs.EventFlags.{create_event_flag, delete_event_flag, set_event_flag, clear_event_flag, wait_event_flag, poll_event_flag, refer_event_flag_status}
+use Rattle.iop_kernel.specs.declared.call.TheConstants.{THREAD_RETURN_CALL, HANDLER_RETURN_CALL, MODULE_RETURN_CALL}
+use Rattle.iop_kernel.specs.Boards.{board_of, on_board}
+use Rattle.iop_kernel.specs.EventFlags.{serves_thevent}
 use Rattle.iop_kernel.specs.Handlers.{return_handler}
-use Rattle.iop_kernel.specs.Interrupts.{register_handler, release_handler, enable_line, disable_line, disable_interrupts, enable_interrupts, suspend_interrupts, resume_interrupts, query_context}
-use Rattle.iop_kernel.specs.Mailboxes.{create_mbx, delete_mbx, send_mbx, receive_mbx, poll_mbx, refer_mbx_status}
-use Rattle.iop_kernel.specs.Naming.{get_thread_id}
-use Rattle.iop_kernel.specs.Ordering.{set_dispatch, change_priority, rotate_ready_queue}
-use Rattle.iop_kernel.specs.Running.{start_thread, exit_thread, return_module, terminate_thread}
-use Rattle.iop_kernel.specs.Semaphores.{create_sema, delete_sema, signal_sema, wait_sema, poll_sema, refer_sema_status}
-use Rattle.iop_kernel.specs.Status.{refer_thread_status}
-use Rattle.iop_kernel.specs.Timing.{delay_thread, get_system_time, set_alarm, cancel_alarm, usec_to_clock, clock_to_usec}
-use Rattle.iop_kernel.specs.Waiting.{release_wait, sleep_thread, wakeup_thread, cancel_wakeups, suspend_thread, resume_thread}
+use Rattle.iop_kernel.specs.Interrupts.{serves_intrman}
+use Rattle.iop_kernel.specs.Mailboxes.{serves_thmsgbx}
+use Rattle.iop_kernel.specs.Running.{exit_thread, return_module}
+use Rattle.iop_kernel.specs.Semaphores.{serves_thsemap}
+use Rattle.iop_kernel.specs.System.{Left, System, Served, in_handler, resumes, answers, faults, silent, on_core}
+use Rattle.iop_kernel.specs.Thbase.{serves_thbase}
 
--- what a code calls, if it has a meaning: service n of library L has the code L * 256 + n
+-- what a code calls, if it has a meaning: the codes of a library's services begin at its number
+-- times LIBRARY_CODES
 abbrev pub call_of : ℕ → Option Call
 call_of code =
+    let library = code / LIBRARY_CODES in
+    let number = code % LIBRARY_CODES in
     if code == THREAD_RETURN_CALL then Some ThreadReturn
     else if code == HANDLER_RETURN_CALL then Some HandlerReturn
     else if code == MODULE_RETURN_CALL then Some ModuleReturn
-    else if nat_lt (code / 256) (length KERNEL_LIBRARIES) && nat_lt (code % 256) SERVICES
-    then Some (Library (code / 256) (code % 256))
+    else if nat_lt library (length KERNEL_LIBRARIES) && nat_lt number SERVICES
+    then Some (Library library number)
     else None
 
--- a service that looks at the kernel alone; there is no other
-unfoldable pub serves_core : Core → Service → Left Core
-serves_core c service.RegisterIntrHandler =
-    register_handler c (argument c 0) (argument c 2) (argument c 3)
-serves_core c service.ReleaseIntrHandler = release_handler c (argument c 0)
-serves_core c service.EnableIntr = enable_line c (argument c 0)
-serves_core c service.CpuDisableIntr = disable_interrupts c
-serves_core c service.CpuEnableIntr = enable_interrupts c
-serves_core c service.CpuResumeIntr = resume_interrupts c (argument c 0)
-serves_core c service.QueryIntrContext = query_context c
-serves_core c service.StartThread = start_thread c (argument c 0) (argument c 1)
-serves_core c service.ExitThread = exit_thread c
-serves_core c service.TerminateThread = terminate_thread c (argument c 0)
-serves_core c service.DisableDispatchThread = set_dispatch c false
-serves_core c service.EnableDispatchThread = set_dispatch c true
-serves_core c service.ChangeThreadPriority = change_priority c (argument c 0) (argument c 1)
-serves_core c service.RotateThreadReadyQueue = rotate_ready_queue c (argument c 0)
-serves_core c service.ReleaseWaitThread = release_wait c (argument c 0)
-serves_core c service.GetThreadId = get_thread_id c
-serves_core c service.SleepThread = sleep_thread c
-serves_core c service.WakeupThread = wakeup_thread c (argument c 0)
-serves_core c service.CancelWakeupThread = cancel_wakeups c (argument c 0)
-serves_core c service.SuspendThread = suspend_thread c (argument c 0)
-serves_core c service.ResumeThread = resume_thread c (argument c 0)
-serves_core c service.DelayThread = delay_thread c (argument c 0)
-serves_core c service.CancelAlarm = cancel_alarm c (argument c 0) (argument c 1)
-serves_core c service.DeleteSema = delete_sema c (argument c 0)
-serves_core c service.SignalSema = signal_sema c (argument c 0)
-serves_core c service.WaitSema = wait_sema c (argument c 0)
-serves_core c service.PollSema = poll_sema c (argument c 0)
-serves_core c service.DeleteEventFlag = delete_event_flag c (argument c 0)
-serves_core c service.ClearEventFlag = clear_event_flag c (argument c 0) (argument c 1)
-serves_core c service.DeleteMbx = delete_mbx c (argument c 0)
-serves_core c other = faults c faults_of.Service
+module _ (s : System) where
+  -- what the services of loadcore, sysmem and stdio look at
+  abbrev pub sight : Sight
+  sight = record { memory = s.memory; cpu = s.core.cpu }
 
--- what a thread asks of an event flag by the arguments of WaitEventFlag and PollEventFlag
-abbrev pub wanted : Core → Wanted
-wanted c = record { bits = argument c 1; mode = argument c 2; place = argument c 3 }
+  -- the caller goes on with a word, or the `syscall` faults
+  abbrev pub answers_or_faults : Result ℕ GuestFault → Left System
+  answers_or_faults (Ok word) = on_core s (resumes s.core word)
+  answers_or_faults (Err kind) = faults s kind
 
--- a service that looks at the kernel and at memory
-unfoldable pub serves_board : Board → Service → Done Board
-serves_board b service.DisableIntr = disable_line b (argument b.core 0) (argument b.core 1)
-serves_board b service.CpuSuspendIntr = suspend_interrupts b (argument b.core 0)
-serves_board b service.GetSystemTime = get_system_time b (argument b.core 0)
-serves_board b service.SetAlarm =
-    quiet b.memory
-    (set_alarm b.core b.memory (argument b.core 0) (argument b.core 1) (argument b.core 2))
-serves_board b service.USec2SysClock = usec_to_clock b (argument b.core 0) (argument b.core 1)
-serves_board b service.SysClock2USec =
-    clock_to_usec b (argument b.core 0) (argument b.core 1) (argument b.core 2)
-serves_board b service.CreateSema =
-    quiet b.memory (create_sema b.core b.memory (argument b.core 0))
-serves_board b service.ReferSemaStatus =
-    refer_sema_status b (argument b.core 0) (argument b.core 1)
-serves_board b service.CreateEventFlag =
-    quiet b.memory (create_event_flag b.core b.memory (argument b.core 0))
-serves_board b service.SetEventFlag = set_event_flag b (argument b.core 0) (argument b.core 1)
-serves_board b service.WaitEventFlag = wait_event_flag b (argument b.core 0) (wanted b.core)
-serves_board b service.PollEventFlag = poll_event_flag b (argument b.core 0) (wanted b.core)
-serves_board b service.ReferEventFlagStatus =
-    refer_event_flag_status b (argument b.core 0) (argument b.core 1)
-serves_board b service.CreateMbx =
-    quiet b.memory (create_mbx b.core b.memory (argument b.core 0))
-serves_board b service.SendMbx = send_mbx b (argument b.core 0) (argument b.core 1)
-serves_board b service.ReceiveMbx = receive_mbx b (argument b.core 0) (argument b.core 1)
-serves_board b service.PollMbx = poll_mbx b (argument b.core 0) (argument b.core 1)
-serves_board b service.ReferMbxStatus =
-    refer_mbx_status b (argument b.core 0) (argument b.core 1)
-serves_board b other = quiet b.memory (serves_core b.core other)
+-- a service of loadcore
+unfoldable pub serves_loadcore : System → LoadcoreService → Served
+serves_loadcore s x =
+    let done = libs.serves_loadcore (sight s) s.libraries x in
+    silent (answers_or_faults (record s { libraries = done.1 }) done.0)
 
--- a service of a library that iop_libs does not have
+-- a service of sysmem
+unfoldable pub serves_sysmem : System → SysmemService → Served
+serves_sysmem s x =
+    let done = libs.serves_sysmem (sight s) s.blocks x in record {
+      left = on_core (record s { blocks = done.1 }) (resumes s.core done.0);
+      pieces = sysmem_pieces (sight s) x;
+    }
+
+-- a service of stdio
+unfoldable pub serves_stdio : System → StdioService → Served
+serves_stdio s x = record {
+  left = on_core s (resumes s.core (libs.serves_stdio (sight s) x));
+  pieces = stdio_pieces (sight s) x;
+}
+
+-- a service, by its library
 unfoldable pub serves : System → Service → Served
-serves s service.CreateThread = create_thread s (argument s.core 0)
-serves s service.ReferThreadStatus =
-    refer_thread_status s (argument s.core 0) (argument s.core 1)
-serves s service.DeleteThread =
-    silent (on_owner s (delete_thread (owner_of s) (argument s.core 0)))
-serves s service.ExitDeleteThread = silent (on_owner s (exit_delete_thread (owner_of s)))
-serves s other = on_board s (serves_board (board_of s) other)
+serves s (Loadcore x) = serves_loadcore s x
+serves s (Sysmem x) = serves_sysmem s x
+serves s (Intrman x) = on_board s (serves_intrman (board_of s) x)
+serves s (Thbase x) = serves_thbase s x
+serves s (Thsemap x) = on_board s (serves_thsemap (board_of s) x)
+serves s (Thevent x) = on_board s (serves_thevent (board_of s) x)
+serves s (Thmsgbx x) = on_board s (serves_thmsgbx (board_of s) x)
+serves s (Stdio x) = serves_stdio s x
 
--- by the answer of the libraries; a number that is not listed answers -1 and is told
 module _ (library number : ℕ) where
-  abbrev pub answers_by : System → Answer → Served
-  answers_by s (Value word) = silent (on_core s (resumes s.core word))
-  answers_by s Unlisted =
-      after_pieces (Traced (line_bytes s.core.kernel.clock (lines.Unlisted library number)) ∷ [])
-      (silent (on_core s (resumes s.core 0xFFFFFFFF)))
-  answers_by s Fault = silent (faults s faults_of.Address)
-  answers_by s (Other service) = serves s service
+  -- by the row of a number; one that is not listed answers -1 and is told
+  abbrev pub calls_row : System → Option Row → Served
+  calls_row s None = record {
+    left = on_core s (resumes s.core 0xFFFFFFFF);
+    pieces = Traced (line_bytes s.core.kernel.clock (lines.Unlisted library number)) ∷ [];
+  }
+  calls_row s (Some row) =
+      if allows row.context (in_handler s.core.kernel) then serves s row.service
+      else silent (on_core s (answers s.core ILLEGAL_CONTEXT))
 
   -- a call of service `number` of a library, from a handler or from a thread
   unfoldable pub calls_library : System → Served
-  calls_library s =
-      let sight : Sight = record { memory = s.memory; cpu = s.core.cpu } in
-      let inside = in_handler s.core.kernel in
-      let called = calls_row sight s.blocks s.libraries inside (row_of library number) in
-      after_pieces (row_pieces sight inside (row_of library number))
-      (answers_by (record s { blocks = called.blocks; libraries = called.libraries })
-      called.answer)
+  calls_library s = calls_row s (row_of library number)
 
 -- by what is called; the thread's return is its end. From a handler its own return alone has a
 -- meaning, and only there

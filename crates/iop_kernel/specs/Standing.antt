@@ -11,12 +11,14 @@ use Rattle.iop_registry.specs.declared.registry.Entry.{Entry as Library}
 use Rattle.iop_stubs.specs.Stubs.{Memory}
 use Rattle.iop_sysmem.specs.BlockMap.{BlockMap}
 use Rattle.iop_thread.specs.Standing as threads
+use Rattle.iop_thread.specs.declared.kind.Kind.{Kind}
 use Rattle.iop_time.specs.Timers.{is_delay_of}
 use Rattle.iop_time.specs.declared.clock.TheConstants.{MOST_DELAYS}
 use Rattle.iop_kernel.specs.Deliveries.{Delivered}
 use Rattle.iop_kernel.specs.Dispatching.{Dispatched}
 use Rattle.iop_kernel.specs.Deleting.{Owner}
 use Rattle.iop_kernel.specs.Boards.{Board}
+use Rattle.iop_kernel.specs.Kinds.{Table, of_kind}
 use Rattle.iop_kernel.specs.Placing.{IsPlaced}
 use Rattle.iop_kernel.specs.System.{Kernel, Core, System, Left, Done, Served, is_active}
 use Rattle.iop_kernel.specs.declared.active_handler.Cause.{Cause}
@@ -28,6 +30,10 @@ use Rattle.iop_kernel.specs.declared.kernel.Kernel.{Kernel as Program}
 abbrev pub IsCause : Cause → Type 0
 IsCause (Line line) = line < IRQ_LINES
 IsCause (Alarm number) = ⊤
+
+-- the objects of a kind that the program's kernel has
+abbrev pub held : {R : Type 0} → (kind : Kind) → Program R → Table kind
+held kind p = of_kind kind p.semaphores p.event_flags p.mailboxes
 
 module _ {R : Type 0} (stands_for : R → List Entry → Type 0) where
   -- it holds what the kernel has

@@ -1,7 +1,6 @@
 -- The state of the kernel, and what its services look at and change. What the kernel has is this
 -- project's own profile.
-use Rattle.std.specs.Prelude.{ℕ, ◌+◌, ◌*◌, ◌%◌, ◌==◌, Bool, true, ◌&&◌, ◌||◌, not, if◌then◌else◌, is_some, Option, Some, None, Result, Ok, Err, List, [], ◌++◌, length, replicate}
-use Rattle.std.specs.Int.{cast_unsigned, w32}
+use Rattle.std.specs.Prelude.{ℕ, ◌+◌, ◌*◌, ◌%◌, ◌==◌, Bool, true, ◌&&◌, ◌||◌, not, if◌then◌else◌, is_some, Option, Some, None, Result, Ok, Err, List, [], length, replicate}
 use Rattle.iop_base.specs.Piece.{Piece}
 use Rattle.iop_base.specs.declared.code.Code.{Code}
 use Rattle.iop_base.specs.declared.guest_fault.GuestFault.{GuestFault}
@@ -10,6 +9,7 @@ use Rattle.iop_exec.specs.declared.cpu.Cpu.{Cpu}
 use Rattle.iop_exec.specs.Row.{reg, with_reg}
 use Rattle.iop_intr.specs.InterruptLines.{IrqLine, idle}
 use Rattle.iop_intr.specs.declared.irqs.TheConstants.{IRQ_LINES}
+pub use Rattle.iop_libs.specs.Calls.{code_word}
 use Rattle.iop_mbx.specs.Mailboxes.{Mailboxes}
 use Rattle.iop_objects.specs.Objects.{no_objects}
 use Rattle.iop_registry.specs.declared.registry.Entry.{Entry}
@@ -140,9 +140,6 @@ pub record System : Type 0 where
 abbrev pub argument : Core → ℕ → ℕ
 argument c k = reg c.cpu (4 + k)
 
-abbrev pub code_word : Code → ℕ
-code_word code = cast_unsigned w32 code.0
-
 -- what a call leaves, and what becomes of its caller
 pub record Left (S : Type 0) : Type 0 where
   pub state : S
@@ -183,10 +180,6 @@ Served = Done System
 -- nothing is given
 abbrev pub silent : Left System → Served
 silent left = record { left = left; pieces = [] }
-
--- these pieces are given first
-abbrev pub after_pieces : List Piece → Served → Served
-after_pieces pieces d = record d { pieces = pieces ++ d.pieces }
 
 -- a call that leaves all but the kernel and its processor as it was
 abbrev pub on_core : System → Left Core → Left System

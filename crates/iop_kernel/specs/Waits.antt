@@ -1,18 +1,17 @@
 -- How the waits of threads end and change (ps2sdk: thbase, thsemap, thevent, thmsgbx). That a
 -- waiter of another priority comes behind the others, where they are chosen by priority, is this
 -- project's own profile.
-use Rattle.std.specs.Prelude.{ℕ, ◌==◌, Bool, false, Option, Some, List, [], ◌∷◌, map}
+use Rattle.std.specs.Prelude.{ℕ, ◌==◌, Bool, Option, Some, List, [], ◌∷◌, map}
 use Rattle.iop_base.specs.declared.code.Code.{Code}
-use Rattle.iop_mbx.specs.Mailboxes as mailboxes
 use Rattle.iop_objects.specs.Objects.{drops, requeues}
 use Rattle.iop_objects.specs.declared.queued.Queued.{Queued}
 use Rattle.iop_objects.specs.declared.waiter.Waiter.{Waiter}
-use Rattle.iop_sema.specs.Semaphores as semaphores
 use Rattle.iop_thread.specs.Operations as threads
 use Rattle.iop_thread.specs.ThreadTable.{ThreadTable}
 use Rattle.iop_thread.specs.declared.wait.Wait.{Wait}
-use Rattle.iop_thread.specs.declared.wait.Wait.TheVariants.{Delay, Semaphore, EventFlag, Mailbox}
+use Rattle.iop_thread.specs.declared.wait.Wait.TheVariants.{Delay, Object}
 use Rattle.iop_time.specs.Timers.{drops_delay}
+use Rattle.iop_kernel.specs.Kinds.{table, with_table, is_by_priority}
 use Rattle.iop_kernel.specs.System.{Kernel, Core, with_threads, code_word}
 
 -- whether a code is that one
@@ -36,23 +35,15 @@ wakes_all s (id ∷ ids) word = wakes_all (threads.wakes s id word) ids word
 -- a thread is no longer among those that wait for the object of its wait, or for a time
 abbrev pub leaves_object : Kernel → (thread : ℕ) → Option Wait → Kernel
 leaves_object k thread (Some Delay) = record k { timers = drops_delay k.timers thread }
-leaves_object k thread (Some (Semaphore id)) =
-    record k { semaphores = drops k.semaphores id thread }
-leaves_object k thread (Some (EventFlag id)) =
-    record k { event_flags = drops k.event_flags id thread }
-leaves_object k thread (Some (Mailbox id)) = record k { mailboxes = drops k.mailboxes id thread }
+leaves_object k thread (Some (Object kind id)) =
+    with_table kind k (drops (table kind k) id thread)
 leaves_object k thread other = k
 
 -- a thread has another priority among those that wait for the object of its wait
 abbrev pub requeues_at : Kernel → (thread priority : ℕ) → Option Wait → Kernel
-requeues_at k thread priority (Some (Semaphore id)) =
-    let by_priority = semaphores.is_by_priority k.semaphores id in
-    record k { semaphores = requeues k.semaphores id by_priority thread priority }
-requeues_at k thread priority (Some (EventFlag id)) =
-    record k { event_flags = requeues k.event_flags id false thread priority }
-requeues_at k thread priority (Some (Mailbox id)) =
-    let by_priority = mailboxes.is_by_priority k.mailboxes id in
-    record k { mailboxes = requeues k.mailboxes id by_priority thread priority }
+requeues_at k thread priority (Some (Object kind id)) =
+    let by_priority = is_by_priority kind (table kind k) id in
+    with_table kind k (requeues (table kind k) id by_priority thread priority)
 requeues_at k thread priority other = k
 
 -- the same of a core

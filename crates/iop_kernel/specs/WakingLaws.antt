@@ -3,17 +3,16 @@ use Rattle.std.specs.Prelude.{◌≡◌, ◌≢◌, ℕ, Some, None, option_map,
 use Rattle.iop_base.specs.declared.code.TheConstants.Code.{OBJECT_DELETED}
 use Rattle.iop_exec.specs.declared.cpu.Cpu.{Cpu}
 use Rattle.iop_exec.specs.Row.{with_reg}
-use Rattle.iop_objects.specs.Objects as objects
-use Rattle.iop_objects.specs.Objects.{Objects}
+use Rattle.iop_objects.specs.Objects.{Objects, object_of}
 use Rattle.iop_thread.specs.ThreadTable.{ThreadTable, thread_of}
 use Rattle.iop_thread.specs.Waits.{wait_of}
+use Rattle.iop_thread.specs.declared.kind.Kind.{Kind}
 use Rattle.iop_thread.specs.declared.state.State.{State}
 use Rattle.iop_thread.specs.declared.state.State.TheVariants.{Ready, Waiting, Suspended, WaitingSuspended}
 use Rattle.iop_thread.specs.declared.wait.Wait.{Wait}
-use Rattle.iop_thread.specs.declared.wait.Wait.TheVariants.{Semaphore, EventFlag, Mailbox}
-use Rattle.iop_kernel.specs.EventFlags.{LiveFlag, delete_event_flag}
-use Rattle.iop_kernel.specs.Mailboxes.{LiveMailbox, delete_mbx}
-use Rattle.iop_kernel.specs.Semaphores.{LiveSemaphore, delete_sema}
+use Rattle.iop_thread.specs.declared.wait.Wait.TheVariants.{Object}
+use Rattle.iop_kernel.specs.ObjectServices.{delete_object}
+use Rattle.iop_kernel.specs.Kinds.{Live, table}
 use Rattle.iop_kernel.specs.Placing.{IsPlaced}
 use Rattle.iop_kernel.specs.System.{Core, code_word}
 
@@ -41,19 +40,12 @@ pub record WakesAll {A W : Type 0} (id : ℕ) (wait : Wait) (old left : ThreadTa
   -- none waits for it any more
   pub none : (thread : ℕ) → wait_of left thread ≢ Some wait
   -- it is no longer live
-  pub gone : objects.object_of s.live id ≡ None
+  pub gone : object_of s.live id ≡ None
 
 -- so it is where a live object of any kind is deleted
-pub record DeletionsWakeAll : Type 0 where
-  pub semaphores : (c : Core) (id : ℕ) (o : LiveSemaphore) → IsPlaced c.kernel
-      → objects.object_of c.kernel.semaphores.live id ≡ Some o
-      → let left = (delete_sema c id).state.kernel in
-      WakesAll id (Semaphore id) c.kernel.threads left.threads left.semaphores
-  pub event_flags : (c : Core) (id : ℕ) (o : LiveFlag) → IsPlaced c.kernel
-      → objects.object_of c.kernel.event_flags.live id ≡ Some o
-      → let left = (delete_event_flag c id).state.kernel in
-      WakesAll id (EventFlag id) c.kernel.threads left.threads left.event_flags
-  pub mailboxes : (c : Core) (id : ℕ) (o : LiveMailbox) → IsPlaced c.kernel
-      → objects.object_of c.kernel.mailboxes.live id ≡ Some o
-      → let left = (delete_mbx c id).state.kernel in
-      WakesAll id (Mailbox id) c.kernel.threads left.threads left.mailboxes
+abbrev pub DeletionsWakeAll : Type 0
+DeletionsWakeAll =
+    (kind : Kind) (c : Core) (id : ℕ) (o : Live kind) → IsPlaced c.kernel
+    → object_of (table kind c.kernel).live id ≡ Some o
+    → let left = (delete_object kind c id).state.kernel in
+    WakesAll id (Object kind id) c.kernel.threads left.threads (table kind left)

@@ -5,7 +5,7 @@ ghost use Rattle.iop_base.specs.Output.{Gives};
 ghost use Rattle.iop_exec.specs.declared.cpu.Cpu.{Cpu as Processor};
 ghost use Rattle.iop_objects.specs.Objects.{object_of, waiting};
 ghost use Rattle.iop_objects.specs.declared.objects.TheConstants.{MOST_WAITERS};
-ghost use Rattle.iop_kernel.specs.EventFlags.{create_event_flag, delete_event_flag, clear_event_flag, waits_for_bits, meets_one, meeting_lines, set_event_flag, wait_event_flag, poll_event_flag, refer_event_flag_status};
+ghost use Rattle.iop_kernel.specs.EventFlags.{create_event_flag, delete_event_flag, clear_event_flag, waits_for_bits, meets_one, meeting_lines, set_event_flag, wait_event_flag, poll_event_flag, refer_event_flag_status, serves_thevent};
 ghost use Rattle.iop_kernel.specs.System.{Kernel as State, caller_in};
 ghost use Rattle.iop_kernel.specs.Standing.{Holds, IsHeld, TakesCore, TakesBoard, core, board};
 
@@ -18,8 +18,9 @@ use iop_base::{Code, GuestFault, Lines};
 use iop_event::{Met, Wanted};
 use iop_exec::Cpu;
 use iop_ready::Ready;
+use iop_services::TheventService;
 use iop_stubs::Guest;
-use iop_thread::Wait;
+use iop_thread::{Kind, Wait};
 use irx_tables::word;
 
 /// How many words ask for an event flag: attribute, option, first pattern.
@@ -55,11 +56,7 @@ impl<R: Ready> Kernel<R> {
         ensures { (k : State) → Holds R.stands self.old k
             → TakesCore R.stands (delete_event_flag (core k cpu.old) id) result self.new cpu.new }
     {
-        while let Some(thread) = self.event_flags.pop_waiter(id) {
-            self.wake(thread, Code::OBJECT_DELETED);
-        }
-        let code = self.event_flags.delete(id);
-        answer(cpu, code)
+        self.delete_object(Kind::EventFlag, id, cpu)
     }
 
     /// Clears the bits of an event flag that are not in a mask, and answers a code of
@@ -133,7 +130,7 @@ impl<R: Ready> Kernel<R> {
         };
         let priority = self.priority_of(thread);
         self.event_flags.wait(id, thread, priority, wanted);
-        self.wait(Wait::EventFlag(id), cpu)
+        self.wait(Wait::Object(Kind::EventFlag, id), cpu)
     }
 
     /// Tests a condition on bits of an event flag. Where it holds the pattern is written to the
@@ -216,5 +213,39 @@ impl<R: Ready> Kernel<R> {
         let words = [flag.attr, flag.option, flag.first, flag.pattern, waiters];
         store_words(guest, place, &words, self.clock, lines);
         answer(cpu, Code::OK)
+    }
+
+    /// Does what a service of `thevent` does.
+    #[tactic(auto, using(iop_base::proofs::Giving::gives_none), unfolding(crate::specs::EventFlags::serves_thevent))]
+    pub(crate) fn serve_thevent<L: Lines>(
+        &mut self,
+        service: TheventService,
+        cpu: &mut Cpu,
+        guest: &mut Guest,
+        lines: &mut L,
+    ) -> After
+        requires sound { IsHeld R.stands self.old }
+        requires room { self.old.handler ≡ None → waiting self.old.event_flags < MOST_WAITERS }
+        ensures { (k : State) → Holds R.stands self.old k
+            → TakesBoard R.stands (serves_thevent (board k cpu.old guest.old) service) result
+            self.new cpu.new guest.new (L.output lines.old) (L.output lines.new) }
+    {
+        let [a0, a1, a2, a3] = [cpu.regs[4], cpu.regs[5], cpu.regs[6], cpu.regs[7]];
+        let asked = Wanted {
+            bits: a1,
+            mode: a2,
+            place: a3,
+        };
+        match service {
+            TheventService::CreateEventFlag => self.create_event_flag(a0, cpu, guest),
+            TheventService::DeleteEventFlag => self.delete_event_flag(a0, cpu),
+            TheventService::SetEventFlag => self.set_event_flag(a0, a1, cpu, guest, lines),
+            TheventService::ClearEventFlag => self.clear_event_flag(a0, a1, cpu),
+            TheventService::WaitEventFlag => self.wait_event_flag(a0, asked, cpu, guest, lines),
+            TheventService::PollEventFlag => self.poll_event_flag(a0, asked, cpu, guest, lines),
+            TheventService::ReferEventFlagStatus => self.refer_event_flag_status(
+                a0, a1, cpu, guest, lines,
+            ),
+        }
     }
 }

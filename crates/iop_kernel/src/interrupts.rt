@@ -1,6 +1,6 @@
 //! The services of `intrman`.
 
-ghost use Rattle.iop_kernel.specs.Interrupts.{register_handler, release_handler, enable_line, disable_line, disable_interrupts, enable_interrupts, suspend_interrupts, resume_interrupts, query_context};
+ghost use Rattle.iop_kernel.specs.Interrupts.{register_handler, release_handler, enable_line, disable_line, disable_interrupts, enable_interrupts, suspend_interrupts, resume_interrupts, query_context, serves_intrman};
 ghost use Rattle.iop_kernel.specs.Standing.{Holds, TakesCore, TakesBoard, core, board};
 ghost use Rattle.iop_kernel.specs.System.{Kernel as State};
 
@@ -11,6 +11,7 @@ use crate::places::{optional_place, words_place};
 use iop_base::{Code, GuestFault, Lines};
 use iop_exec::Cpu;
 use iop_ready::Ready;
+use iop_services::IntrmanService;
 use iop_stubs::Guest;
 
 impl<R: Ready> Kernel<R> {
@@ -138,5 +139,32 @@ impl<R: Ready> Kernel<R> {
             → TakesCore R.stands (query_context (core k cpu.old)) result self.new cpu.new }
     {
         answer_word(cpu, u32::from(self.in_handler()))
+    }
+
+    /// Does what a service of `intrman` does.
+    #[tactic(auto, using(iop_base::proofs::Giving::gives_none), unfolding(crate::specs::Interrupts::serves_intrman))]
+    pub(crate) fn serve_intrman<L: Lines>(
+        &mut self,
+        service: IntrmanService,
+        cpu: &mut Cpu,
+        guest: &mut Guest,
+        lines: &mut L,
+    ) -> After
+        ensures { (k : State) → Holds R.stands self.old k
+            → TakesBoard R.stands (serves_intrman (board k cpu.old guest.old) service) result
+            self.new cpu.new guest.new (L.output lines.old) (L.output lines.new) }
+    {
+        let [a0, a1, a2, a3] = [cpu.regs[4], cpu.regs[5], cpu.regs[6], cpu.regs[7]];
+        match service {
+            IntrmanService::RegisterIntrHandler => self.register_handler(a0, a2, a3, cpu),
+            IntrmanService::ReleaseIntrHandler => self.release_handler(a0, cpu),
+            IntrmanService::EnableIntr => self.enable_line(a0, cpu),
+            IntrmanService::DisableIntr => self.disable_line(a0, a1, cpu, guest, lines),
+            IntrmanService::CpuDisableIntr => self.disable_interrupts(cpu),
+            IntrmanService::CpuEnableIntr => self.enable_interrupts(cpu),
+            IntrmanService::CpuSuspendIntr => self.suspend_interrupts(a0, cpu, guest, lines),
+            IntrmanService::CpuResumeIntr => self.resume_interrupts(a0, cpu),
+            IntrmanService::QueryIntrContext => self.query_context(cpu),
+        }
     }
 }

@@ -15,6 +15,7 @@ mod kernel;
 pub mod laws;
 mod mailboxes;
 mod naming;
+mod objects;
 mod ordering;
 mod places;
 mod running;
@@ -23,6 +24,7 @@ mod serving;
 mod status;
 #[cfg(test)]
 mod tests;
+mod thbase;
 mod timing;
 mod waiting;
 mod waits;
@@ -30,5 +32,5 @@ mod words;
 
 pub use active_handler::{ActiveHandler, Cause, HANDLER_RETURN, HANDLER_STACK};
 pub use after::After;
-pub use call::{HANDLER_RETURN_CALL, MODULE_RETURN_CALL, SERVICES, THREAD_RETURN_CALL};
+pub use call::{HANDLER_RETURN_CALL, MODULE_RETURN_CALL, THREAD_RETURN_CALL};
 pub use kernel::Kernel;

@@ -3,7 +3,7 @@
 ghost use Rattle.std.specs.Prelude.{◌≡◌, ◌<◌, None, is_some, true};
 ghost use Rattle.iop_objects.specs.Objects.{object_of, state_of, waiting};
 ghost use Rattle.iop_objects.specs.declared.objects.TheConstants.{MOST_WAITERS};
-ghost use Rattle.iop_kernel.specs.Mailboxes.{create_mbx, delete_mbx, waits_for_message, message_priority, queues_message, send_mbx, receive_mbx, poll_mbx, refer_mbx_status};
+ghost use Rattle.iop_kernel.specs.Mailboxes.{create_mbx, delete_mbx, waits_for_message, message_priority, queues_message, send_mbx, receive_mbx, poll_mbx, refer_mbx_status, serves_thmsgbx};
 ghost use Rattle.iop_kernel.specs.System.{Kernel as State, caller_in};
 ghost use Rattle.iop_kernel.specs.Standing.{Holds, IsHeld, TakesCore, TakesBoard, core, board};
 
@@ -16,8 +16,9 @@ use iop_base::{Code, GuestFault, Lines};
 use iop_exec::Cpu;
 use iop_mbx::Mailbox;
 use iop_ready::Ready;
+use iop_services::ThmsgbxService;
 use iop_stubs::Guest;
-use iop_thread::Wait;
+use iop_thread::{Kind, Wait};
 use irx_tables::word;
 
 /// How many words ask for a mailbox: attribute, option.
@@ -69,11 +70,7 @@ impl<R: Ready> Kernel<R> {
         ensures { (k : State) → Holds R.stands self.old k
             → TakesCore R.stands (delete_mbx (core k cpu.old) id) result self.new cpu.new }
     {
-        while let Some(thread) = self.mailboxes.pop_waiter(id) {
-            self.wake(thread, Code::OBJECT_DELETED);
-        }
-        let code = self.mailboxes.delete(id);
-        answer(cpu, code)
+        self.delete_object(Kind::Mailbox, id, cpu)
     }
 
     /// Queues a message for which no thread waits. `UNKNOWN_MAILBOX` where no mailbox of this id is
@@ -140,7 +137,7 @@ impl<R: Ready> Kernel<R> {
         };
         let priority = self.priority_of(thread);
         self.mailboxes.wait(id, thread, priority, at);
-        self.wait(Wait::Mailbox(id), cpu)
+        self.wait(Wait::Object(Kind::Mailbox, id), cpu)
     }
 
     /// Receives the next message of a mailbox and writes it at `at`, or lets the thread that calls
@@ -229,5 +226,31 @@ impl<R: Ready> Kernel<R> {
         ];
         store_words(guest, place, &words, self.clock, lines);
         answer(cpu, Code::OK)
+    }
+
+    /// Does what a service of `thmsgbx` does.
+    #[tactic(auto, using(iop_base::proofs::Giving::gives_none), unfolding(crate::specs::Mailboxes::serves_thmsgbx))]
+    pub(crate) fn serve_thmsgbx<L: Lines>(
+        &mut self,
+        service: ThmsgbxService,
+        cpu: &mut Cpu,
+        guest: &mut Guest,
+        lines: &mut L,
+    ) -> After
+        requires sound { IsHeld R.stands self.old }
+        requires room { self.old.handler ≡ None → waiting self.old.mailboxes < MOST_WAITERS }
+        ensures { (k : State) → Holds R.stands self.old k
+            → TakesBoard R.stands (serves_thmsgbx (board k cpu.old guest.old) service) result
+            self.new cpu.new guest.new (L.output lines.old) (L.output lines.new) }
+    {
+        let [a0, a1] = [cpu.regs[4], cpu.regs[5]];
+        match service {
+            ThmsgbxService::CreateMbx => self.create_mbx(a0, cpu, guest),
+            ThmsgbxService::DeleteMbx => self.delete_mbx(a0, cpu),
+            ThmsgbxService::SendMbx => self.send_mbx(a0, a1, cpu, guest, lines),
+            ThmsgbxService::ReceiveMbx => self.receive_mbx(a0, a1, cpu, guest, lines),
+            ThmsgbxService::PollMbx => self.poll_mbx(a0, a1, cpu, guest, lines),
+            ThmsgbxService::ReferMbxStatus => self.refer_mbx_status(a0, a1, cpu, guest, lines),
+        }
     }
 }

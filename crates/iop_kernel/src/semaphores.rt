@@ -3,7 +3,7 @@
 ghost use Rattle.std.specs.Prelude.{◌≡◌, ◌<◌, None, is_some, true};
 ghost use Rattle.iop_objects.specs.Objects.{object_of, waiting};
 ghost use Rattle.iop_objects.specs.declared.objects.TheConstants.{MOST_WAITERS};
-ghost use Rattle.iop_kernel.specs.Semaphores.{create_sema, delete_sema, signal_sema, waits_for_sema, wait_sema, poll_sema, refer_sema_status};
+ghost use Rattle.iop_kernel.specs.Semaphores.{create_sema, delete_sema, signal_sema, waits_for_sema, wait_sema, poll_sema, refer_sema_status, serves_thsemap};
 ghost use Rattle.iop_kernel.specs.System.{Kernel as State, caller_in};
 ghost use Rattle.iop_kernel.specs.Standing.{Holds, IsHeld, TakesCore, TakesBoard, core, board};
 
@@ -15,8 +15,9 @@ use crate::words::store_words;
 use iop_base::{Code, GuestFault, Lines};
 use iop_exec::Cpu;
 use iop_ready::Ready;
+use iop_services::ThsemapService;
 use iop_stubs::Guest;
-use iop_thread::Wait;
+use iop_thread::{Kind, Wait};
 use irx_tables::word;
 
 /// How many words ask for a semaphore: attribute, option, first count, most.
@@ -53,11 +54,7 @@ impl<R: Ready> Kernel<R> {
         ensures { (k : State) → Holds R.stands self.old k
             → TakesCore R.stands (delete_sema (core k cpu.old) id) result self.new cpu.new }
     {
-        while let Some(thread) = self.semaphores.pop_waiter(id) {
-            self.wake(thread, Code::OBJECT_DELETED);
-        }
-        let code = self.semaphores.delete(id);
-        answer(cpu, code)
+        self.delete_object(Kind::Semaphore, id, cpu)
     }
 
     /// Signals a semaphore: the next thread that waits is woken with 0, or the count grows by one.
@@ -91,7 +88,7 @@ impl<R: Ready> Kernel<R> {
         };
         let priority = self.priority_of(thread);
         self.semaphores.wait(id, thread, priority);
-        self.wait(Wait::Semaphore(id), cpu)
+        self.wait(Wait::Object(Kind::Semaphore, id), cpu)
     }
 
     /// Takes one of a semaphore's count, or lets the thread that calls wait where it is 0. It
@@ -152,5 +149,31 @@ impl<R: Ready> Kernel<R> {
         ];
         store_words(guest, place, &words, self.clock, lines);
         answer(cpu, Code::OK)
+    }
+
+    /// Does what a service of `thsemap` does.
+    #[tactic(auto, using(iop_base::proofs::Giving::gives_none), unfolding(crate::specs::Semaphores::serves_thsemap))]
+    pub(crate) fn serve_thsemap<L: Lines>(
+        &mut self,
+        service: ThsemapService,
+        cpu: &mut Cpu,
+        guest: &mut Guest,
+        lines: &mut L,
+    ) -> After
+        requires sound { IsHeld R.stands self.old }
+        requires room { self.old.handler ≡ None → waiting self.old.semaphores < MOST_WAITERS }
+        ensures { (k : State) → Holds R.stands self.old k
+            → TakesBoard R.stands (serves_thsemap (board k cpu.old guest.old) service) result
+            self.new cpu.new guest.new (L.output lines.old) (L.output lines.new) }
+    {
+        let [a0, a1] = [cpu.regs[4], cpu.regs[5]];
+        match service {
+            ThsemapService::CreateSema => self.create_sema(a0, cpu, guest),
+            ThsemapService::DeleteSema => self.delete_sema(a0, cpu),
+            ThsemapService::SignalSema => self.signal_sema(a0, cpu),
+            ThsemapService::WaitSema => self.wait_sema(a0, cpu),
+            ThsemapService::PollSema => self.poll_sema(a0, cpu),
+            ThsemapService::ReferSemaStatus => self.refer_sema_status(a0, a1, cpu, guest, lines),
+        }
     }
 }

@@ -29,9 +29,7 @@ impl<R: Ready> Kernel<R> {
     {
         match wait {
             Some(Wait::Delay) => self.timers.drop_delay(thread),
-            Some(Wait::Semaphore(id)) => self.semaphores.drop_waiter(id, thread),
-            Some(Wait::EventFlag(id)) => self.event_flags.drop_waiter(id, thread),
-            Some(Wait::Mailbox(id)) => self.mailboxes.drop_waiter(id, thread),
+            Some(Wait::Object(kind, id)) => self.drop_waiter(kind, id, thread),
             _ => {}
         }
     }
@@ -42,11 +40,8 @@ impl<R: Ready> Kernel<R> {
             → Holds R.stands self.new (requeues_at k thread priority wait) }
     {
         let priority = priority.number();
-        match wait {
-            Some(Wait::Semaphore(id)) => self.semaphores.requeue(id, thread, priority),
-            Some(Wait::EventFlag(id)) => self.event_flags.requeue(id, thread, priority),
-            Some(Wait::Mailbox(id)) => self.mailboxes.requeue(id, thread, priority),
-            _ => {}
+        if let Some(Wait::Object(kind, id)) = wait {
+            self.requeue_waiter(kind, id, thread, priority);
         }
     }
 

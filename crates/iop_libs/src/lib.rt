@@ -1,11 +1,12 @@
 //! The services of the kernel's libraries `loadcore`, `sysmem` and `stdio`.
 #![tactic(auto)]
 
-mod answer;
-mod calling;
 mod loadcore;
+mod stdio;
+mod sysmem;
 #[cfg(test)]
 mod tests;
 
-pub use answer::Answer;
-pub use calling::call;
+pub use loadcore::serve_loadcore;
+pub use stdio::serve_stdio;
+pub use sysmem::serve_sysmem;

@@ -1,8 +1,8 @@
-use crate::{Answer, call};
-use iop_base::{Line, Lines, Width};
+use crate::{serve_loadcore, serve_stdio, serve_sysmem};
+use iop_base::{GuestFault, Line, Lines, Width};
 use iop_exec::Cpu;
 use iop_registry::Registry;
-use iop_services::Service;
+use iop_services::{LoadcoreService, StdioService, SysmemService};
 use iop_stubs::{Guest, Stub};
 use iop_sysmem::Blocks;
 use std::alloc::Global;
@@ -63,56 +63,100 @@ impl World {
         }
     }
 
-    /// Calls a service from a thread.
-    fn call(&mut self, library: u32, number: u32, a0: u32, a1: u32, a2: u32) -> Answer {
-        let mut regs = [0; 32];
-        regs[4] = a0;
-        regs[5] = a1;
-        regs[6] = a2;
-        let cpu = Cpu {
-            regs,
-            hi: 0,
-            lo: 0,
-            pc: 0,
-            next: 4,
-            in_slot: false,
-        };
-        call(
-            library,
-            number,
-            false,
+    /// Calls a service of `loadcore`.
+    fn loadcore(&mut self, service: LoadcoreService, a0: u32) -> Result<u32, GuestFault> {
+        let cpu = processor(a0, 0, 0);
+        serve_loadcore(service, &cpu, &self.guest, &mut self.registry)
+    }
+
+    /// Calls a service of `sysmem`.
+    fn sysmem(&mut self, service: SysmemService, a0: u32, a1: u32, a2: u32) -> u32 {
+        let cpu = processor(a0, a1, a2);
+        serve_sysmem(
+            service,
             &cpu,
             &self.guest,
             &mut self.blocks,
-            &mut self.registry,
             &mut self.lines,
         )
     }
 }
 
+/// A processor with the arguments of a call.
+fn processor(a0: u32, a1: u32, a2: u32) -> Cpu {
+    let mut regs = [0; 32];
+    regs[4] = a0;
+    regs[5] = a1;
+    regs[6] = a2;
+    Cpu {
+        regs,
+        hi: 0,
+        lo: 0,
+        pc: 0,
+        next: 4,
+        in_slot: false,
+    }
+}
+
 /// The word of a negative code.
-fn refusal(code: i32) -> Answer {
-    Answer::Value(code.cast_unsigned())
+fn refusal(code: i32) -> u32 {
+    code.cast_unsigned()
 }
 
 #[test]
 fn blocks(rt: HostRuntime) -> Result<(), Fail> {
     let mut world = World::new(rt.alloc())?;
-    assert_eq!(rt; world.call(1, 4, 0, 8, 0), Answer::Value(0x1_0000));
-    assert_eq!(rt; world.call(1, 4, 0, 1, 0), Answer::Value(0x1_0100));
-    assert_eq!(rt; world.call(1, 4, 1, 0x200, 0), Answer::Value(0x1F_FE00));
-    assert_eq!(rt; world.call(1, 4, 2, 256, 0x1_0100), Answer::Value(0));
-    assert_eq!(rt; world.call(1, 5, 0x1_0100, 0, 0), Answer::Value(0));
-    assert_eq!(rt; world.call(1, 5, 0x1_0100, 0, 0), refusal(-1));
-    assert_eq!(rt; world.call(1, 5, 0, 0, 0), refusal(-1));
-    assert_eq!(rt; world.call(1, 6, 0, 0, 0), Answer::Value(0x20_0000));
-    assert_eq!(rt; world.call(1, 7, 0, 0, 0), Answer::Value(0x1E_FD00));
-    assert_eq!(rt; world.call(1, 8, 0, 0, 0), Answer::Value(0x1E_FD00));
-    assert_eq!(rt; world.call(1, 9, 0x1_0050, 0, 0), Answer::Value(0x1_0000));
-    assert_eq!(rt; world.call(1, 10, 0x1_0050, 0, 0), Answer::Value(0x100));
     assert_eq!(rt;
-        world.call(1, 9, 0x2_0000, 0, 0),
-        Answer::Value(0xFFFF_FFFF)
+        world.sysmem(SysmemService::AllocSysMemory, 0, 8, 0),
+        0x1_0000
+    );
+    assert_eq!(rt;
+        world.sysmem(SysmemService::AllocSysMemory, 0, 1, 0),
+        0x1_0100
+    );
+    assert_eq!(rt;
+        world.sysmem(SysmemService::AllocSysMemory, 1, 0x200, 0),
+        0x1F_FE00
+    );
+    assert_eq!(rt;
+        world.sysmem(SysmemService::AllocSysMemory, 2, 256, 0x1_0100),
+        0
+    );
+    assert_eq!(rt;
+        world.sysmem(SysmemService::FreeSysMemory, 0x1_0100, 0, 0),
+        0
+    );
+    assert_eq!(rt;
+        world.sysmem(SysmemService::FreeSysMemory, 0x1_0100, 0, 0),
+        refusal(-1)
+    );
+    assert_eq!(rt;
+        world.sysmem(SysmemService::FreeSysMemory, 0, 0, 0),
+        refusal(-1)
+    );
+    assert_eq!(rt;
+        world.sysmem(SysmemService::QueryMemSize, 0, 0, 0),
+        0x20_0000
+    );
+    assert_eq!(rt;
+        world.sysmem(SysmemService::QueryMaxFreeMemSize, 0, 0, 0),
+        0x1E_FD00
+    );
+    assert_eq!(rt;
+        world.sysmem(SysmemService::QueryTotalFreeMemSize, 0, 0, 0),
+        0x1E_FD00
+    );
+    assert_eq!(rt;
+        world.sysmem(SysmemService::QueryBlockTopAddress, 0x1_0050, 0, 0),
+        0x1_0000
+    );
+    assert_eq!(rt;
+        world.sysmem(SysmemService::QueryBlockSize, 0x1_0050, 0, 0),
+        0x100
+    );
+    assert_eq!(rt;
+        world.sysmem(SysmemService::QueryBlockTopAddress, 0x2_0000, 0, 0),
+        0xFFFF_FFFF
     );
     Ok(())
 }
@@ -145,14 +189,38 @@ fn libraries(rt: HostRuntime) -> Result<(), Fail> {
         &[0x41C0_0000, 0, 0x0101, 0x6964_7473, 0x0000_006F],
     );
     bind_stub(&rt, &mut world);
-    assert_eq!(rt; world.call(0, 7, 0x1200, 0, 0), refusal(-215));
-    assert_eq!(rt; world.call(0, 7, 0x1E00, 0, 0), Answer::Value(0));
-    assert_eq!(rt; world.call(0, 7, 0x1E00, 0, 0), refusal(-213));
-    assert_eq!(rt; world.call(0, 6, 0x1E00, 0, 0), Answer::Value(0));
-    assert_eq!(rt; world.call(0, 6, 0x1E00, 0, 0), refusal(-212));
-    assert_eq!(rt; world.call(0, 6, 0x2_0000, 0, 0), refusal(-214));
-    assert_eq!(rt; world.call(0, 6, 0x1E02, 0, 0), Answer::Fault);
-    assert_eq!(rt; world.call(0, 6, 0x1F_FFF0, 0, 0), Answer::Fault);
+    assert_eq!(rt;
+        world.loadcore(LoadcoreService::ReleaseLibraryEntries, 0x1200),
+        Ok(refusal(-215))
+    );
+    assert_eq!(rt;
+        world.loadcore(LoadcoreService::ReleaseLibraryEntries, 0x1E00),
+        Ok(0)
+    );
+    assert_eq!(rt;
+        world.loadcore(LoadcoreService::ReleaseLibraryEntries, 0x1E00),
+        Ok(refusal(-213))
+    );
+    assert_eq!(rt;
+        world.loadcore(LoadcoreService::RegisterLibraryEntries, 0x1E00),
+        Ok(0)
+    );
+    assert_eq!(rt;
+        world.loadcore(LoadcoreService::RegisterLibraryEntries, 0x1E00),
+        Ok(refusal(-212))
+    );
+    assert_eq!(rt;
+        world.loadcore(LoadcoreService::RegisterLibraryEntries, 0x2_0000),
+        Ok(refusal(-214))
+    );
+    assert_eq!(rt;
+        world.loadcore(LoadcoreService::RegisterLibraryEntries, 0x1E02),
+        Err(GuestFault::Address)
+    );
+    assert_eq!(rt;
+        world.loadcore(LoadcoreService::RegisterLibraryEntries, 0x1F_FFF0),
+        Err(GuestFault::Address)
+    );
     Ok(())
 }
 
@@ -160,17 +228,13 @@ fn libraries(rt: HostRuntime) -> Result<(), Fail> {
 fn texts_and_numbers(rt: HostRuntime) -> Result<(), Fail> {
     let mut world = World::new(rt.alloc())?;
     world.put(&rt, 0x2_0000, &[0x000A_6968]);
-    assert_eq!(rt; world.call(1, 14, 0x2_0000, 0, 0), Answer::Value(3));
+    assert_eq!(rt; world.sysmem(SysmemService::Kprintf, 0x2_0000, 0, 0), 3);
     assert_eq!(rt; world.lines.len, 3);
     world.put(&rt, 0x2_0000, &[0x7825_6425, 0x0000_6425]);
-    assert_eq!(rt; world.call(7, 4, 0x2_0000, 0x1F, 100), Answer::Value(5));
+    let cpu = processor(0x2_0000, 0x1F, 100);
+    let printed = serve_stdio(StdioService::Printf, &cpu, &world.guest, &mut world.lines);
+    assert_eq!(rt; printed, 5);
     assert_eq!(rt; world.lines.len, 5);
-    assert_eq!(rt; world.call(0, 4, 0, 0, 0), Answer::Value(0));
-    assert_eq!(rt; world.call(1, 63, 0, 0, 0), Answer::Unlisted);
-    assert_eq!(rt;
-        world.call(3, 4, 0, 0, 0),
-        Answer::Other(Service::CreateThread)
-    );
-    assert_eq!(rt; world.call(3, 26, 0, 0, 0), refusal(-100));
+    assert_eq!(rt; world.loadcore(LoadcoreService::FlushIcache, 0), Ok(0));
     Ok(())
 }

@@ -99,7 +99,7 @@ module _ {w : World} {budget k : ℕ} {m : Program} {a b : Output}
         (most_between * budget + calls_by None false first.kernel)
     settled_waits_less machine =
         waits_less (next_coming (takes_events now))
-        (coming_later now (machine_now machine) settled.delivery idle) waits
+        (coming_later (booted now) (machine_now machine) settled.delivery idle) waits
 
   -- or the run stops, where no instruction is left
   pub settled_stops : is_active now.kernel ≡ true → budget ≡ 0

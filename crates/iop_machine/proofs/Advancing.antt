@@ -16,7 +16,7 @@ use Rattle.iop_machine.specs.World.{World}
 use Rattle.iop_machine.specs.Iop.{Transition}
 use Rattle.iop_machine.proofs.GoingOn.{goes_on_both}
 use Rattle.iop_machine.proofs.Composing.{steps_more, executed_more}
-use Rattle.iop_machine.proofs.Reaching.{here, told, steps_suc}
+use Rattle.iop_machine.proofs.Reaching.{here, told}
 
 -- the same of something else that stands for each state for which it stands
 module _ {P Q : Type 0} (stands_for : P → World → Type 0) (stands : Q → World → Type 0) (now : P)
@@ -217,13 +217,13 @@ module _ {x y a c : Output} (old : SameSeen x a) (new : SameSeen y c) where
 -- the run stops short at one of its pieces
 pub stops_short : {w : World} {budget k : ℕ} {x y : Output} → Faults w budget k x y
     → StopsShort x y (steps (suc k) w).pieces
+unfolding steps
 stops_short {w} {budget} {k} {x} {y} f = record {
   before = (steps k w).pieces ++ f.sent;
   part = f.part;
   piece = f.piece;
   after = f.unsent;
-  pieces_are = ap (λ (d : Transition World). d.pieces) (steps_suc k w)
-      ∙ ap (λ p. (steps k w).pieces ++ p) f.pieces_are
+  pieces_are = ap (λ p. (steps k w).pieces ++ p) f.pieces_are
       ∙ sym (append_assoc (steps k w).pieces f.sent (f.piece ∷ f.unsent));
   is_part = f.is_part;
   adds = f.adds;

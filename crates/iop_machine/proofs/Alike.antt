@@ -2,20 +2,20 @@
 use Rattle.std.proofs.Common.{◌≡◌, ℕ, zero, suc, ◌+◌, ◌-◌, ◌≤◌, None, false, ◌++◌, refl, ap, sym, ◌∙◌, arith, subst}
 use Rattle.iop_base.specs.Numbers.{one_if}
 use Rattle.iop_base.specs.Output.{Output, Gives}
+use Rattle.iop_exec.specs.Row.{row}
 use Rattle.iop_kernel.specs.Deliveries.{delivers}
 use Rattle.iop_kernel.specs.Dispatching.{dispatches}
 use Rattle.iop_kernel.specs.System.{is_active}
 use Rattle.iop_machine.specs.Advancing.{Advances}
 use Rattle.iop_machine.specs.Iop.{Iop, Transition, with_state, core_of}
-use Rattle.iop_machine.specs.Looking.{takes_events}
+use Rattle.iop_machine.specs.Looking.{takes_events, next_coming}
 use Rattle.iop_machine.specs.Running.{GoesOn, GoesOnFor}
-use Rattle.iop_machine.specs.Stepping.{step, steps, executes, executes_by, executed, stops_by, stop_at, delivers_by}
+use Rattle.iop_machine.specs.Stepping.{Turn, turn_by, turn_of, moves_to, performs, waits_by, takes_turn, is_execution, step, steps, executes, executed, stops_by, stop_at}
 use Rattle.iop_machine.specs.World.{World, booted}
 use Rattle.iop_machine.proofs.Composing.{steps_front, executed_front}
 use Rattle.iop_machine.proofs.GoingOn.{goes_on_with}
 use Rattle.iop_machine.proofs.LookingLemmas.{takes_again}
-use Rattle.iop_machine.proofs.Reaching.{steps_zero}
-use Rattle.iop_machine.proofs.Stepping.{step_begins, executes_are}
+use Rattle.iop_machine.proofs.Stepping.{IsTurn, stopped, unbooted, delivery, dispatch, execution, waiting, turn_is, step_is, executes_are}
 
 -- their next steps are the same
 pub record AreAlike (w v : World) : Type 0 where
@@ -56,10 +56,8 @@ module _ (w v : World) (alike : AreAlike w v) where
   -- the pieces of the first steps, and those of the next one
   first_alike : (k : ℕ) (a b : Output) → Gives a b (steps k v).pieces
       → Gives a b (steps k w).pieces
-  first_alike zero a b gives =
-      subst (Gives a b)
-      (ap (λ (t : Transition World). t.pieces) (steps_zero v)
-      ∙ sym (ap (λ (t : Transition World). t.pieces) (steps_zero w))) gives
+  unfolding steps
+  first_alike zero a b gives = gives
   first_alike (suc k) a b gives =
       subst (λ (t : Transition World). Gives a b t.pieces) (sym (steps_alike k)) gives
 
@@ -102,17 +100,34 @@ advances_more {w = w} {most} {k} {left} budget le h =
       last = h.last;
     }
 
--- so it is with a state and the one behind its events that are due
+-- a state and the one behind its events that are due take the same turn
+same_turn : (s : Iop) → turn_of (booted s) ≡ turn_of (booted (takes_events s))
+same_turn s =
+    ap (λ (v : Iop). turn_by v s.over false (delivers (core_of v)) (dispatches (core_of v))
+    (is_active v.kernel)) (sym (takes_again s))
+
+-- which makes the same of them
+same_taken : {s : Iop} {t : Turn} → s.over ≡ None → IsTurn (booted s) t
+    → takes_turn (booted s) t ≡ takes_turn (booted (takes_events s)) t
+same_taken over (stopped stop e) = absurd (cc (over, e))
+same_taken over (unbooted _ new) = absurd (cc new)
+same_taken {s} over (delivery d _ _) =
+    ap (λ v. with_state booted (moves_to v d.core d.line)) (sym (takes_again s))
+same_taken {s} over (dispatch d _ _ _) =
+    ap (λ v. with_state booted (moves_to v d.core d.line)) (sym (takes_again s))
+same_taken {s} over (execution _ _) =
+    let v = takes_events s in
+    ap (λ x. with_state booted (performs x (row v.memory.ram v.cpu))) (sym (takes_again s))
+same_taken {s} over (waiting _ _) =
+    ap (λ x. with_state booted (waits_by x (next_coming (takes_events s)))) (sym (takes_again s))
+
+-- so they are alike
 pub taken_alike : (s : Iop) → s.over ≡ None → AreAlike (booted s) (booted (takes_events s))
 taken_alike s over =
-    let again = takes_again s in
+    let v = booted (takes_events s) in
     record {
       over = refl;
-      executes = executes_are (booted s)
-          ∙ ap (λ (x : Iop). executes_by s.over false (delivers (core_of x))
-          (dispatches (core_of x)) (is_active x.kernel)) (sym again)
-          ∙ sym (executes_are (booted (takes_events s)));
-      step = step_begins (booted s) false over refl
-          ∙ ap (λ (x : Iop). with_state booted (delivers_by x (delivers (core_of x)))) (sym again)
-          ∙ sym (step_begins (booted (takes_events s)) false over refl);
+      executes = executes_are (booted s) ∙ ap is_execution (same_turn s) ∙ sym (executes_are v);
+      step = step_is (booted s) ∙ same_taken over (turn_is (booted s))
+          ∙ ap (takes_turn v) (same_turn s) ∙ sym (step_is v);
     }

@@ -1,102 +1,96 @@
--- How the kernel's area is written, word after word.
-use Rattle.std.proofs.Common.{◌≡◌, ℕ, zero, suc, ◌+◌, ◌*◌, ◌/◌, ◌%◌, ◌<◌, ◌≤◌, Option, Some, None, List, [], ◌++◌, length, drop, refl, ap, sym, ◌∙◌, arith, subst}
-use Rattle.std.proofs.Math.Seq.{take-append_seam}
-use Rattle.std.proofs.lemmas.Bool.{lt-ltb, le-leb}
-use Rattle.std.proofs.lemmas.List.{length-append}
-use Rattle.std.proofs.lemmas.Slice.{drop-append-drop}
-use Rattle.iop_base.specs.Numbers.{with_bytes, bytes_of}
-use Rattle.iop_base.specs.Places.{access_at}
-use Rattle.iop_base.specs.Output.{Output, Gives}
-use Rattle.iop_stubs.specs.Binding.{IsSound}
-use Rattle.iop_stubs.specs.Stubs.{Memory, after_store, store_lines, stub_lines}
-use Rattle.iop_machine.specs.KernelArea.{kernel_word, kernel_words, kernel_area}
+-- What stands at a place of memory, and how the kernel's area is written.
+use Rattle.std.proofs.Common.{◌≡◌, ℕ, zero, suc, ◌+◌, ◌*◌, ◌<◌, ◌≤◌, List, [], ◌++◌, length, take, drop, refl, ap, sym, ◌∙◌, arith, subst, append-nil, append_assoc}
+use Rattle.std.proofs.Math.Seq.{drop-append_seam, take-append_seam}
+use Rattle.std.proofs.lemmas.List.{length-append, length-replicate, take-append-le, take-take, drop-append-le, drop-drop, drop-take}
+use borrow.Author.Count.{below_more}
+use Rattle.iop_base.specs.Numbers.{with_bytes}
+use Rattle.iop_base.proofs.Memory.{length-with_bytes}
+use Rattle.iop_machine.specs.KernelArea.{each}
+use Rattle.iop_machine.specs.World.{zeros}
 
--- a word's place in KUSEG is its address
-low_access : (size p : ℕ) → p % 4 ≡ 0 → p + 4 ≤ size → p < 0x20000000 → access_at size p 4 ≡ Some p
-low_access size p aligned inside low =
-    let segment : p / 0x20000000 ≡ 0 = omega arith in
-    let place : p % 0x20000000 ≡ p = omega arith in
-    let below = lt-ltb p size (omega arith) in
-    let fits = le-leb (p + 4) size inside in
-    rw (aligned, segment, place, below, fits) refl
+pub length-zeros : (n : ℕ) → length (zeros n) ≡ n
+unfolding zeros
+length-zeros n = length-replicate n 0
 
--- bytes behind those at memory's start
-bytes_behind : (memory first next : List ℕ)
-    → with_bytes (with_bytes memory 0 first) (length first) next ≡ with_bytes memory 0
-    (first ++ next)
-bytes_behind memory first next =
+-- these bytes stand at a place
+pub record HasBytes (memory : List ℕ) (at : ℕ) (bytes : List ℕ) : Type 0 where
+  pub part : take (length bytes) (drop at memory) ≡ bytes
+
+-- and so does each part of them
+module _ {memory : List ℕ} {at : ℕ} (a b : List ℕ) (h : HasBytes memory at (a ++ b)) where
+  pub has_first : HasBytes memory at a
+  has_first = record {
+    part = sym (take-take (length a) (length (a ++ b)) (drop at memory)
+        (omega (arith, length-append a b)))
+        ∙ ap (take (length a)) h.part ∙ take-append_seam a b;
+  }
+
+  pub has_second : HasBytes memory (at + length a) b
+  has_second = record {
+    part = ap (take (length b)) (sym (drop-drop (length a) at memory))
+        ∙ sym (drop-take (length a) (length b) (drop at memory))
+        ∙ ap (λ n. drop (length a) (take n (drop at memory))) (sym (length-append a b))
+        ∙ ap (drop (length a)) h.part ∙ drop-append_seam a b;
+  }
+
+-- a row of items that are equally long
+module _ (item : ℕ → List ℕ) (width : ℕ) where
+  abbrev AreLong : ℕ → Type 0
+  AreLong n = (i : ℕ) → i < n → length (item i) ≡ width
+
+  pub length-each : (n : ℕ) → AreLong n → length (each item n) ≡ n * width
+  unfolding each
+  length-each zero long = omega arith
+  length-each (suc n) long =
+      omega (
+        arith,
+        length-append (each item n) (item n),
+        length-each n (λ i lt. long i (omega arith)),
+        long n (omega arith),
+      )
+
+  pub has_item : {memory : List ℕ} {at : ℕ} (n i : ℕ) → AreLong n → i < n
+      → HasBytes memory at (each item n) → HasBytes memory (at + i * width) (item i)
+  unfolding each
+  has_item zero i long lt h = absurd (omega arith)
+  has_item {memory} {at} (suc n) i long lt h =
+      let before : AreLong n = λ k few. long k (omega arith) in
+      below_more (λ k. HasBytes memory (at + k * width) (item k)) n
+      (λ k few. has_item n k before few (has_first (each item n) (item n) h))
+      (subst (λ p. HasBytes memory (at + p) (item n)) (length-each n before)
+      (has_second (each item n) (item n) h))
+      i (omega arith)
+
+-- none of them, and one more
+pub each_zero : (item : ℕ → List ℕ) → each item 0 ≡ []
+unfolding each
+each_zero item = refl
+
+pub each_suc : (item : ℕ → List ℕ) (n : ℕ) → each item (n + 1) ≡ each item n ++ item n
+unfolding each
+each_suc item n = let next : suc n ≡ n + 1 = omega arith in ap (each item) (sym next)
+
+-- behind others
+pub each_none : (item : ℕ → List ℕ) (old : List ℕ) → old ++ each item 0 ≡ old
+unfolding each
+each_none item old = append-nil old
+
+pub each_more : (item : ℕ → List ℕ) (old : List ℕ) (n : ℕ)
+    → old ++ each item (n + 1) ≡ old ++ each item n ++ item n
+each_more item old n =
+    ap (λ row. old ++ row) (each_suc item n) ∙ sym (append_assoc old (each item n) (item n))
+
+pub ruleset rows = (each_zero, each_suc, each_none, each_more)
+
+-- what is stored into the first bytes of memory is stored into these bytes
+pub stored_in_front : (memory first bytes : List ℕ) (p : ℕ) → p + length bytes ≤ length first
+    → with_bytes (with_bytes memory 0 first) p bytes
+    ≡ with_bytes memory 0 (with_bytes first p bytes)
+stored_in_front memory first bytes p inside =
     let rest = drop (0 + length first) memory in
-    let front = take-append_seam first rest in
-    let back = drop-append-drop (0 + length first) memory first (length first + length next)
-    (omega arith) (omega arith) in
-    let long : length first + length next ≡ 0 + length (first ++ next) =
-    omega (arith, length-append first next) in
-    ap (λ t. t ++ next ++ drop (length first + length next) (first ++ rest)) front
-    ∙ ap (λ t. first ++ next ++ t) back ∙ ap (λ n. first ++ next ++ drop n memory) long
-
-pub length-kernel_words : (n : ℕ) → length (kernel_words n) ≡ 4 * n
-unfolding kernel_words
-length-kernel_words zero = refl
-length-kernel_words (suc n) =
-    omega (
-      arith,
-      length-append (kernel_words n) (bytes_of 4 (kernel_word (4 * n))),
-      length-kernel_words n,
-    )
-
--- memory with the first words of the area
-abbrev pub with_words : Memory → ℕ → Memory
-with_words memory n = record memory { ram = with_bytes memory.ram 0 (kernel_words n) }
-
--- and with one word more
-next_word : (memory : Memory) (n : ℕ) → memory.live ≡ []
-    → after_store (with_words memory n) (Some (4 * n)) (bytes_of 4 (kernel_word (4 * n))) ≡
-    with_words memory (suc n)
-unfolding kernel_words
-next_word memory n e =
-    let words = kernel_words n in
-    let next = bytes_of 4 (kernel_word (4 * n)) in
-    let placed = ap (λ p. with_bytes (with_bytes memory.ram 0 words) p next)
-    (sym (length-kernel_words n)) ∙ bytes_behind memory.ram words next in
-    rw (e, placed) refl
-
-pub area_begins : (memory : Memory) → memory ≡ with_words memory 0
-unfolding kernel_words
-area_begins memory = refl
-
-pub area_is : (memory now : Memory) → now ≡ with_words memory 0x4000
-    → now ≡ record memory { ram = with_bytes memory.ram 0 kernel_area }
-unfolding kernel_area
-area_is memory now e = e
-
-module _ (memory before after : Memory) (n word : ℕ) (none : memory.live ≡ [])
-    (so_far : before ≡ with_words memory n) where
-  -- no stub is live
-  none_before : before.live ≡ []
-  none_before = ap (λ (m : Memory). m.live) so_far ∙ none
-
-  pub area_goes_on : IsSound before → word ≡ kernel_word (4 * n) → n < 0x4000
-      → after ≡ after_store before (access_at (length before.ram) (4 * n) 4) (bytes_of 4 word)
-      → after ≡ with_words memory (n + 1)
-  area_goes_on sound is few e =
-      let aligned : (4 * n) % 4 ≡ 0 = omega arith in
-      let place = low_access (length before.ram) (4 * n) aligned (omega (arith, sound.sized, few))
-      (omega (arith, few)) in
-      e ∙ ap (λ p. after_store before p (bytes_of 4 word)) place
-      ∙ ap (λ w. after_store before (Some (4 * n)) (bytes_of 4 w)) is
-      ∙ ap (λ m. after_store m (Some (4 * n)) (bytes_of 4 (kernel_word (4 * n)))) so_far
-      ∙ next_word memory n none
-      ∙ (let one : suc n ≡ n + 1 = omega arith in ap (with_words memory) one)
-
--- a store gives no line where no stub is live
-no_lines : (t : ℕ) (memory : Memory) (place : Option ℕ) (len : ℕ) → memory.live ≡ []
-    → store_lines t memory place len ≡ []
-no_lines t memory None len e = refl
-no_lines t memory (Some p) len e = ap (stub_lines t p len) e
-
-pub area_lines : {a b : Output} (memory before : Memory) (n place len : ℕ) → memory.live ≡ []
-    → before ≡ with_words memory n
-    → Gives a b (store_lines 0 before (access_at (length before.ram) place len) len) → Gives a b []
-area_lines {a} {b} memory before n place len none so_far h =
-    subst (Gives a b) (no_lines 0 before (access_at (length before.ram) place len) len
-    (ap (λ (m : Memory). m.live) so_far ∙ none)) h
+    ap (λ l. l ++ bytes ++ drop (p + length bytes) (first ++ rest))
+    (take-append-le p first rest (omega arith))
+    ∙ ap (λ l. take p first ++ bytes ++ l) (drop-append-le (p + length bytes) first rest inside)
+    ∙ sym (append_assoc (take p first ++ bytes) (drop (p + length bytes) first) rest)
+    ∙ ap (λ n. with_bytes first p bytes ++ drop (0 + n) memory)
+    (sym (length-with_bytes first p bytes inside))

@@ -1,75 +1,42 @@
 -- The kernel's area stays as it is read while modules are loaded.
-use Rattle.std.proofs.Common.{◌≡◌, ℕ, ◌+◌, ◌*◌, ◌%◌, ◌<◌, ◌≤◌, nat_le, true, cond, Option, Some, None, Result, Ok, Err, List, [], ◌∷◌, ◌++◌, length, replicate, take, drop, get_or, slice_index, All, refl, sym, ◌∙◌, arith, subst, inr, length-append, length-take-le, length-drop, get_or-drop, get_or-take, ext_get_or}
+use Rattle.std.proofs.Common.{◌≡◌, ℕ, ◌+◌, ◌<◌, ◌≤◌, Option, Some, None, Result, Ok, Err, List, [], ◌∷◌, length, replicate, drop, slice_index, All, refl, sym, ◌∙◌, arith, subst, inr, length-take-le, length-drop, get_or-drop, get_or-take, ext_get_or}
 use Rattle.std.proofs.lemmas.List.{length-replicate}
 use Rattle.std.proofs.lemmas.List.Elements.{All-head, All-tail}
-use Rattle.iop_base.specs.Numbers.{bytes_of}
-use Rattle.iop_base.specs.Places.{phys, range_at}
 use Rattle.iop_base.specs.declared.code.Code.{Code}
 use Rattle.iop_modload.specs.Laws.{HasBlocks}
 use Rattle.iop_modload.specs.declared.loaded.Loaded.{Loaded}
 use Rattle.iop_modload.proofs.LoadingLemmas.{loading_keeps}
-use Rattle.iop_stubs.specs.Stubs.{Memory, after_store, range_place}
 use Rattle.iop_sysmem.specs.declared.blocks.TheConstants.{KERNEL}
 use Rattle.iop_machine.specs.declared.arguments.TheConstants.{ARGUMENTS, ARGUMENTS_LEN}
 use Rattle.iop_machine.specs.declared.begun_module.BegunModule.{BegunModule}
 use Rattle.iop_machine.specs.AreaLaws.{HasKernel, BootingKeepsKernel}
 use Rattle.iop_machine.specs.Iop.{Iop, Transition}
 use Rattle.iop_machine.specs.Loading.{with_kernel, loading_of, places, passes, enters_or, loads_first, starts_by, boots}
-use Rattle.iop_machine.specs.Modules.{Module, HasRoom, addresses, strings, argument_block}
+use Rattle.iop_machine.specs.Modules.{Module, HasRoom, strings, argument_block}
+use Rattle.iop_machine.specs.Stepping.{Boots}
 use Rattle.iop_machine.specs.Storing.{fills, stores_bytes}
 use Rattle.iop_machine.specs.World.{beginning}
-use Rattle.iop_machine.proofs.AreaLemmas.{HoldsArea, IsOutside, area_holds, store_holds}
+use Rattle.iop_machine.proofs.AreaLemmas.{HoldsArea, area_holds, store_holds}
 use Rattle.iop_machine.proofs.AreaReading.{area_is_read}
-use Rattle.iop_machine.proofs.ArgumentLemmas.{length-addresses}
-use Rattle.iop_machine.proofs.Inside.{range_by}
+use Rattle.iop_machine.proofs.ArgumentLemmas.{length-argument_block}
+use Rattle.iop_machine.proofs.ArgumentReading.{stored}
 use Rattle.iop_machine.proofs.KeepingMachine.{area_blocks, begins_holding}
-use Rattle.iop_machine.proofs.Stepping.{step_begins}
-use Rattle.iop_machine.proofs.StubLemmas.{chosen}
-
--- an address of KUSEG is its place
-place_by : (o : Option ℕ) (size at len p : ℕ) → at < 0x20000000 → phys size at ≡ o
-    → range_at size at len ≡ Some p → p ≡ at
-place_by None size at len p low f e =
-    let none : range_at size at len ≡ None = rw f refl in absurd (cc (none, e))
-place_by (Some q) size at len p low f e =
-    let here : at % 0x20000000 ≡ q = chosen _ _ _ f in
-    let is : range_at size at len ≡ cond (nat_le (q + len) size) (Some q) None = rw f refl in
-    let same : q ≡ p = chosen _ _ _ (sym is ∙ e) in
-    omega (arith, here, same)
-
-store_by : (memory : Memory) (at : ℕ) (bytes : List ℕ) (o : Option ℕ) → at < 0x20000000
-    → range_place memory at (length bytes) ≡ o → IsOutside at (length bytes)
-    → HoldsArea memory.ram → HoldsArea (after_store memory o bytes).ram
-store_by memory at bytes None low e outside holds = holds
-store_by memory at bytes (Some p) low e outside holds =
-    let size = length memory.ram in
-    let is : p ≡ at = place_by (phys size at) size at (length bytes) p low refl e in
-    store_holds holds p bytes (range_by (phys size at) size at (length bytes) p refl e)
-    (subst (λ q. IsOutside q (length bytes)) (sym is) outside)
+use Rattle.iop_machine.proofs.Stepping.{step_as, turn_boots}
 
 -- bytes that fit the argument block
 block_holds : (s : Iop) (bytes : List ℕ) → length bytes ≤ ARGUMENTS_LEN → HoldsArea s.memory.ram
     → HoldsArea (stores_bytes s ARGUMENTS bytes).state.memory.ram
-block_holds s bytes short =
-    store_by s.memory ARGUMENTS bytes _ (omega arith) refl
-    (inr (omega arith, omega (arith, short)))
+block_holds s bytes short holds =
+    let long = holds.long in
+    subst HoldsArea (sym (stored s bytes (omega (arith, long)) short))
+    (store_holds s.memory.ram ARGUMENTS bytes (omega (arith, long, short)) holds
+    (inr (omega arith, omega (arith, short))))
 
 argument_block-short : (m : Module) → HasRoom m → length (argument_block m.words) ≤ ARGUMENTS_LEN
-unfolding argument_block
 argument_block-short m room =
-    let first = addresses (ARGUMENTS + 4 * (length m.words + 1)) m.words in
     let few = room.words in
     let short = room.strings in
-    omega (
-      arith,
-      few,
-      short,
-      length-append first (bytes_of 4 0 ++ strings m.words),
-      length-append (first ++ bytes_of 4 0) (strings m.words),
-      length-append first (bytes_of 4 0),
-      length-append (bytes_of 4 0) (strings m.words),
-      length-addresses (ARGUMENTS + 4 * (length m.words + 1)) m.words,
-    )
+    omega (arith, few, short, length-argument_block m.words)
 
 passes_hold : (s : Iop) (m : Module) → HasRoom m → HoldsArea s.memory.ram
     → HoldsArea (passes s (argument_block m.words)).state.memory.ram
@@ -79,28 +46,23 @@ passes_hold s m room holds =
     (block_holds s (replicate ARGUMENTS_LEN 0)
     (omega (arith, length-replicate {A = ℕ} ARGUMENTS_LEN 0)) holds)
 
--- bytes that are the same one by one
-same_part : (a b : List ℕ) (p n : ℕ) → p + n ≤ length a → length a ≡ length b
-    → ((k : ℕ) → k < n → get_or a (p + k) 0 ≡ get_or b (p + k) 0)
-    → take n (drop p a) ≡ take n (drop p b)
-same_part a b p n fits long same =
-    let first = length-take-le n (drop p a) (omega (arith, fits, length-drop p a)) in
-    let second = length-take-le n (drop p b) (omega (arith, fits, long, length-drop p b)) in
-    ext_get_or 0 _ _ (first ∙ sym second) (λ k lt.
-    let below : k < n = omega (arith, lt, first) in
-    get_or-take n (drop p a) k 0 below ∙ get_or-drop p a k 0 ∙ same k below
-    ∙ sym (get_or-take n (drop p b) k 0 below ∙ get_or-drop p b k 0))
-
 -- memory whose bytes of the kernel's block are as they were
 as_before : (old new : List ℕ) → length new ≡ length old
     → ((p : ℕ) → p < KERNEL.size → slice_index new p ≡ slice_index old p) → HoldsArea old
     → HoldsArea new
 as_before old new size same holds = record {
   long = omega (arith, holds.long, size);
-  word = λ p aligned low fixed.
-      same_part new old p 4 (omega (arith, low, aligned, holds.long, size)) size
-      (λ k lt. same (p + k) (omega (arith, lt, low, aligned)))
-      ∙ holds.word p aligned low fixed;
+  same = λ p n fixed.
+      let inside = fixed.below in
+      let long = holds.long in
+      let first = length-take-le n (drop p new) (omega (arith, size, length-drop p new)) in
+      let second = length-take-le n (drop p old) (omega (arith, length-drop p old)) in
+      ext_get_or 0 _ _ (first ∙ sym second) (λ k lt.
+      let below : k < n = omega (arith, lt, first) in
+      get_or-take n (drop p new) k 0 below ∙ get_or-drop p new k 0
+      ∙ same (p + k) (omega (arith, below))
+      ∙ sym (get_or-take n (drop p old) k 0 below ∙ get_or-drop p old k 0))
+      ∙ holds.same p n fixed;
 }
 
 enters_hold : (next : Iop → Transition Iop) (s : Iop) (m : Module) (r : Result Loaded Code)
@@ -141,5 +103,5 @@ booting_keeps_kernel = λ size modules events sized room.
     let start = beginning size modules events in
     let holds = begins_holding size modules events sized in
     subst (λ (t : Transition _). HasKernel t.state.iop.memory.ram)
-    (sym (step_begins start true refl refl))
+    (sym (step_as start Boots (turn_boots start refl refl)))
     (area_is_read (boots_hold start.iop room holds.whole (holds.none_live refl)))

@@ -1,36 +1,44 @@
 -- The kernel's area as the linker and the processor read it.
-use Rattle.std.proofs.Common.{◌≡◌, ℕ, zero, suc, ◌+◌, ◌*◌, ◌%◌, ◌^◌, ◌<◌, Some, None, List, [], ◌++◌, length, take, drop, get_or, refl, ap, sym, ◌∙◌, subst, arith, nat_eq, cond, inl, inr}
-use Rattle.std.specs.Prelude.{slice_index_or}
-use Rattle.std.specs.List.{enumerate_from, slice_get}
-use Rattle.std.proofs.Math.Seq.{take-add}
+use Rattle.std.proofs.Common.{◌≡◌, ℕ, ◌+◌, ◌*◌, ◌^◌, ◌<◌, Some, None, List, [], ◌++◌, length, take, drop, get_or, refl, ap, sym, ◌∙◌, subst, arith, nat_eq, cond, inl, inr, replicate}
 use Rattle.std.proofs.lemmas.Bool.{eq-eqb}
 use Rattle.std.proofs.lemmas.Bool.Decides.{nat_tests}
-use Rattle.std.proofs.lemmas.List.{drop-drop, get_or-drop, get_or-map, get_or-take}
+use Rattle.std.proofs.lemmas.List.{get_or-drop, get_or-map, get_or-take, length-append}
 use Rattle.std.proofs.lemmas.List.FromFn.{get_or-enumerate_from}
 use Rattle.std.proofs.lemmas.Option.{get_or_from_slice_get, slice_get_within}
+use Rattle.std.specs.List.{enumerate_from, slice_get}
+use Rattle.std.specs.Prelude.{slice_index_or}
+use Rattle.iop_base.proofs.Lists.{number_at-word}
 use Rattle.iop_base.specs.Numbers.{number_at, half_at, word_at, bytes_of}
 use Rattle.iop_base.specs.declared.libraries.TheConstants.{KERNEL_LIBRARIES}
 use Rattle.iop_base.specs.declared.words.TheConstants.{EXPORT_MAGIC, JUMP_BACK}
 use Rattle.iop_isa.specs.Instructions.{inst_of}
 use Rattle.iop_isa.specs.Table.{row_of}
-use Rattle.iop_isa.specs.Words.{opcode_of, function_of, n_of}
+use Rattle.iop_isa.specs.Words.{opcode_of, n_of, function_of as function_field}
 use Rattle.iop_isa.specs.declared.instruction.Inst.TheVariants.{Jr, Syscall}
+use Rattle.iop_kernel.specs.declared.call.TheConstants.{THREAD_RETURN_CALL, HANDLER_RETURN_CALL, MODULE_RETURN_CALL}
 use Rattle.iop_registry.specs.KernelLibraries.{kernel_library, kernel_libraries}
 use Rattle.iop_registry.specs.declared.registry.Entry.{Entry}
+use Rattle.iop_registry.specs.declared.registry.TheConstants.{KERNEL_TABLES_AT, KERNEL_TABLE_LEN}
+use Rattle.iop_services.specs.Codes.{service_code}
+use Rattle.iop_services.specs.declared.codes.TheConstants.{SERVICES}
+use Rattle.iop_thread.specs.declared.thread.TheConstants.{THREAD_RETURN}
+use Rattle.irx_tables.proofs.Exporting.{functions_are, function_is}
 use Rattle.irx_tables.specs.Exports.{header_of, functions}
 use Rattle.irx_tables.specs.Places.{name_at}
 use Rattle.irx_tables.specs.declared.words.TheConstants.{HEADER_BYTES}
-use Rattle.irx_tables.proofs.Exporting.{functions_are, function_is}
 use Rattle.iop_machine.specs.AreaLaws.{HasCall, HasService, HasLibrary, HasKernel, KernelAreaIsRead}
-use Rattle.iop_machine.specs.KernelArea.{syscall_word, name_word, service_at, table_word, kernel_word}
-use Rattle.iop_machine.proofs.AreaLemmas.{IsFixed, HoldsArea, bytes_at, word_is, area_holds, word_of_table, word_of_service}
+use Rattle.iop_machine.specs.KernelArea.{syscall_word, service_at, table_at, each, function_of, table_of, service_of, services_of, return_of, tables, returns, services}
+use Rattle.iop_machine.specs.World.{zeros}
+use Rattle.iop_machine.specs.declared.kernel_area.TheConstants.{VERSION, TABLE_REST, SERVICES_AT, SERVICES_LEN, SERVICE_LEN}
+use Rattle.iop_machine.proofs.Area.{HasBytes, has_first, has_second, has_item}
+use Rattle.iop_machine.proofs.AreaLemmas.{HoldsArea, area_holds, length-name, length-functions, length-table, length-tables, length-services, length-all_services, has_tables, has_returns, has_services, holds_bytes}
 
 calls_with : (word code : ℕ) → word ≡ syscall_word code → code < 2 ^ 20
     → inst_of word ≡ Some (Syscall code)
 unfolding inst_of row_of
 calls_with word code e below =
     let in_opcode : opcode_of word ≡ 0 = omega arith in
-    let in_function : function_of word ≡ 0xC = omega arith in
+    let in_function : function_field word ≡ 0xC = omega arith in
     let in_code : n_of word ≡ code = omega arith in
     rw (in_opcode, in_function, in_code) refl
 
@@ -38,166 +46,189 @@ jumps_back : inst_of JUMP_BACK ≡ Some (Jr 31)
 unfolding inst_of row_of
 jumps_back = refl
 
--- a byte of four that are known
-byte_of : (memory : List ℕ) (p k value : ℕ) → k < 4 → take 4 (drop p memory) ≡ bytes_of 4 value
-    → get_or memory (p + k) 0 ≡ get_or (bytes_of 4 value) k 0
-byte_of memory p k value lt e =
-    sym (get_or-take 4 (drop p memory) k 0 lt ∙ get_or-drop p memory k 0) ∙ ap (λ l. get_or l k 0) e
-
--- the names are eight bytes each
-names : (library : ℕ) → library < 8
-    → bytes_of 4 (name_word library 0) ++ bytes_of 4 (name_word library 4)
-    ≡ slice_index_or KERNEL_LIBRARIES library []
-names zero lt = refl
-names (suc zero) lt = refl
-names (suc (suc zero)) lt = refl
-names (suc (suc (suc zero))) lt = refl
-names (suc (suc (suc (suc zero)))) lt = refl
-names (suc (suc (suc (suc (suc zero))))) lt = refl
-names (suc (suc (suc (suc (suc (suc zero)))))) lt = refl
-names (suc (suc (suc (suc (suc (suc (suc zero))))))) lt = refl
-names (suc (suc (suc (suc (suc (suc (suc (suc n)))))))) lt = absurd (omega arith)
-
-function_word : (library number : ℕ) → number < 64
-    → table_word library (5 + number) ≡ service_at library number
-function_word library number few = grind (arith, nat_tests)
-
 header_by : (word : ℕ) (header : List ℕ × ℕ) → word ≡ EXPORT_MAGIC
     → cond (nat_eq word EXPORT_MAGIC) (Some header) None ≡ Some header
 header_by word header e = rw e refl
 
-module _ {memory : List ℕ} (holds : HoldsArea memory) where
-  call_at : (at code : ℕ) → at % 4 ≡ 0 → at < 0x10000 → IsFixed at → code < 2 ^ 20
-      → kernel_word at ≡ syscall_word code → HasCall memory at code
-  call_at at code aligned below fixed few is =
-      let word = word_is holds at (syscall_word code) aligned below fixed (omega arith) is in
+module _ {memory : List ℕ} {at : ℕ} where
+  -- a byte of those that are known
+  byte_of : (bytes : List ℕ) (k : ℕ) → k < length bytes → HasBytes memory at bytes
+      → get_or memory (at + k) 0 ≡ get_or bytes k 0
+  byte_of bytes k below h =
+      sym (get_or-take (length bytes) (drop at memory) k 0 below ∙ get_or-drop at memory k 0)
+      ∙ ap (λ l. get_or l k 0) h.part
+
+  word_of : (value : ℕ) → value < 2 ^ 32 → HasBytes memory at (bytes_of 4 value)
+      → number_at memory at 4 ≡ value
+  word_of value small h = number_at-word memory at value small h.part
+
+  call_of : (code : ℕ) → code < 2 ^ 20 → HasBytes memory at (bytes_of 4 (syscall_word code))
+      → HasCall memory at code
+  call_of code few h =
+      let word = word_of (syscall_word code) (omega arith) h in
       record { word = word; call = calls_with (number_at memory at 4) code word few }
 
-  thread_return : HasCall memory 0x3000 0xF00
-  unfolding kernel_word
-  thread_return = call_at 0x3000 0xF00 (omega arith) (omega arith) (inr (omega arith)) (omega arith)
-      refl
+  return_is : (code : ℕ) → code < 2 ^ 20 → HasBytes memory at (return_of code)
+      → HasCall memory at code
+  return_is code few h =
+      call_of code few (has_first (bytes_of 4 (syscall_word code)) (replicate 12 0) h)
 
-  handler_return : HasCall memory 0x3010 0xF01
-  unfolding kernel_word
-  handler_return = call_at 0x3010 0xF01 (omega arith) (omega arith) (inr (omega arith))
-      (omega arith) refl
+service_is : {memory : List ℕ} {at : ℕ} (library number : ℕ) → service_code library number < 2 ^ 20
+    → HasBytes memory at (service_of library number)
+    → HasService memory at (service_code library number)
+service_is library number few h =
+    let first = bytes_of 4 (syscall_word (service_code library number)) in
+    let both = has_first (first ++ bytes_of 4 JUMP_BACK) (replicate 8 0) h in
+    let none = has_second (first ++ bytes_of 4 JUMP_BACK) (replicate 8 0) h in
+    let back = word_of JUMP_BACK (omega arith) (has_second first (bytes_of 4 JUMP_BACK) both) in
+    record {
+      calls = call_of (service_code library number) few (has_first first (bytes_of 4 JUMP_BACK) both);
+      back = back;
+      jump = ap inst_of back ∙ jumps_back;
+      slot = word_of 0 (omega arith) (has_first (bytes_of 4 0) (replicate 4 0) none);
+    }
 
-  module_return : HasCall memory 0x3020 0xF02
-  unfolding kernel_word
-  module_return = call_at 0x3020 0xF02 (omega arith) (omega arith) (inr (omega arith)) (omega arith)
-      refl
-
-module _ {memory : List ℕ} (holds : HoldsArea memory) (library : ℕ) (low : library < 8) where
-  abbrev table : ℕ
-  table = 0x1000 + library * 0x200
-
+-- an export table of the kernel at a place
+module _ {memory : List ℕ} (table library : ℕ) (below : library < length KERNEL_LIBRARIES)
+    (h : HasBytes memory table (table_of library)) where
   abbrev name : List ℕ
   name = slice_index_or KERNEL_LIBRARIES library []
 
-  service_is : (number : ℕ) → number < 64
-      → HasService memory (service_at library number) (library * 256 + number)
-  service_is number few =
-      let at = service_at library number in
-      let first : at + 4 * 0 ≡ at = omega arith in
-      let syscall = word_of_service library low number 0 few (omega arith) in
-      let jump = word_of_service library low number 1 few (omega arith) in
-      let slot = word_of_service library low number 2 few (omega arith) in
-      let back = word_is holds (at + 4) JUMP_BACK (omega arith) (omega arith) (inr (omega arith))
-      (omega arith) jump in
-      record {
-        calls = call_at holds at (library * 256 + number) (omega arith) (omega arith)
-            (inr (omega arith))
-            (omega arith) (ap kernel_word (sym first) ∙ syscall);
-        back = back;
-        jump = ap inst_of back ∙ jumps_back;
-        slot = word_is holds (at + 8) 0 (omega arith) (omega arith) (inr (omega arith))
-            (omega arith) slot;
-      }
+  abbrev start : List ℕ
+  start = bytes_of 4 EXPORT_MAGIC ++ bytes_of 4 0 ++ bytes_of 4 VERSION
 
-  -- the bytes and the word of an index of the table
-  table_bytes : (index value : ℕ) → index < 0x80 → table_word library index ≡ value
-      → take 4 (drop (table + 4 * index) memory) ≡ bytes_of 4 value
-  table_bytes index value below is =
-      let there = word_of_table library low index below in
-      bytes_at holds (table + 4 * index) value (omega arith) (omega arith) (inl (omega arith))
-      (there ∙ is)
+  abbrev words : List ℕ
+  words = each (function_of library) SERVICES
 
-  word_in_table : (index value : ℕ) → index < 0x80 → value < 2 ^ 32
-      → table_word library index ≡ value → word_at memory (table + 4 * index) ≡ value
-  unfolding word_at
-  word_in_table index value below small is =
-      let there = word_of_table library low index below in
-      word_is holds (table + 4 * index) value (omega arith) (omega arith) (inl (omega arith)) small
-      (there ∙ is)
+  length-header : length (start ++ name) ≡ HEADER_BYTES
+  length-header = omega (arith, length-append start name, length-name library below)
+
+  to_last : HasBytes memory table (start ++ name ++ words ++ bytes_of 4 0)
+  unfolding table_of
+  to_last = has_first (start ++ name ++ words ++ bytes_of 4 0) (zeros TABLE_REST) h
+
+  to_words : HasBytes memory table (start ++ name ++ words)
+  to_words = has_first (start ++ name ++ words) (bytes_of 4 0) to_last
+
+  to_name : HasBytes memory table (start ++ name)
+  to_name = has_first (start ++ name) words to_words
+
+  to_version : HasBytes memory table start
+  to_version = has_first start name to_name
 
   magic_is : word_at memory table ≡ EXPORT_MAGIC
+  unfolding word_at
   magic_is =
-      let place : table + 4 * 0 ≡ table = omega arith in
-      ap (word_at memory) (sym place)
-      ∙ word_in_table 0 EXPORT_MAGIC (omega arith) (omega arith) refl
+      word_of EXPORT_MAGIC (omega arith)
+      (has_first (bytes_of 4 EXPORT_MAGIC) (bytes_of 4 0 ++ bytes_of 4 VERSION) to_version)
 
-  version_is : half_at memory (table + 8) ≡ 0x0101
+  version_is : half_at memory (table + 8) ≡ VERSION
   unfolding half_at
   version_is =
-      let bytes = table_bytes 2 0x0101 (omega arith) refl in
-      let low_byte = byte_of memory (table + 8) 0 0x0101 (omega arith) bytes in
-      let high_byte = byte_of memory (table + 8) 1 0x0101 (omega arith) bytes in
+      let there = has_second (bytes_of 4 EXPORT_MAGIC ++ bytes_of 4 0) (bytes_of 4 VERSION)
+      to_version in
+      let low_byte = byte_of (bytes_of 4 VERSION) 0 (omega arith) there in
+      let high_byte = byte_of (bytes_of 4 VERSION) 1 (omega arith) there in
       let place : table + 8 + 0 ≡ table + 8 = omega arith in
       omega (arith, low_byte, high_byte, ap (λ q. get_or memory q 0) place)
 
   name_is : name_at memory (table + 12) ≡ name
   unfolding name_at
   name_is =
-      let rest = drop (table + 12) memory in
-      let place : table + 12 + 4 ≡ table + 4 * 4 = omega arith in
-      take-add 4 4 rest
-      ∙ ap (λ l. l ++ take 4 (drop 4 rest)) (table_bytes 3 (name_word library 0) (omega arith) refl)
-      ∙ ap (λ l. bytes_of 4 (name_word library 0) ++ take 4 l)
-      (drop-drop 4 (table + 12) memory ∙ ap (λ q. drop q memory) place)
-      ∙ ap (λ l. bytes_of 4 (name_word library 0) ++ l)
-      (table_bytes 4 (name_word library 4) (omega arith) refl)
-      ∙ names library low
+      subst (λ n. take n (drop (table + 12) memory) ≡ name) (length-name library below)
+      (has_second start name to_name).part
 
-  header_is : header_of memory table ≡ Some (name, 0x0101)
+  header_is : header_of memory table ≡ Some (name, VERSION)
   header_is =
       let there = name_at memory (table + 12) in
       let version = half_at memory (table + 8) in
       header_by (word_at memory table) (there, version) magic_is
       ∙ ap (λ n. Some (n, version)) name_is ∙ ap (λ v. Some (name, v)) version_is
 
-  function_there : (number : ℕ) → number < 64
+  function_there : (number : ℕ) → number < SERVICES → service_at library number < 2 ^ 32
       → word_at memory (table + HEADER_BYTES + 4 * number) ≡ service_at library number
-  function_there number few =
-      let place : table + HEADER_BYTES + 4 * number ≡ table + 4 * (5 + number) = omega arith in
-      let function = function_word library number few in
-      ap (word_at memory) place
-      ∙ word_in_table (5 + number) (service_at library number) (omega arith) (omega arith) function
+  unfolding word_at
+  function_there number few small =
+      let row = has_second (start ++ name) words to_words in
+      let place : table + length (start ++ name) + number * 4 ≡ table + HEADER_BYTES + 4 * number
+      = omega (arith, length-header) in
+      word_of (service_at library number) small
+      (subst (λ p. HasBytes memory p (function_of library number)) place
+      (has_item (function_of library) 4 SERVICES number (λ i lt. refl) few row))
 
-  end_there : word_at memory (table + HEADER_BYTES + 4 * 64) ≡ 0
+  end_there : word_at memory (table + HEADER_BYTES + 4 * SERVICES) ≡ 0
+  unfolding word_at
   end_there =
-      let place : table + HEADER_BYTES + 4 * 64 ≡ table + 4 * 69 = omega arith in
-      ap (word_at memory) place ∙ word_in_table 69 0 (omega arith) (omega arith) refl
+      let place : table + length (start ++ name ++ words) ≡ table + HEADER_BYTES + 4 * SERVICES =
+      omega (
+        arith,
+        length-append (start ++ name) words,
+        length-header,
+        length-functions library,
+      ) in
+      word_of 0 (omega arith)
+      (subst (λ p. HasBytes memory p (bytes_of 4 0)) place
+      (has_second (start ++ name ++ words) (bytes_of 4 0) to_last))
 
-  count_is : length (functions memory table) ≡ 64
-  count_is =
-      let long = holds.long in
-      sym (functions_are memory table 64 (omega arith)
-      (λ j few. let word = function_there j few in grind (arith, nat_tests))
-      (λ more. eq-eqb _ _ end_there))
+module _ {memory : List ℕ} (holds : HoldsArea memory) where
+  all_returns : HasBytes memory THREAD_RETURN returns
+  all_returns =
+      holds_bytes THREAD_RETURN returns holds
+      (record { below = omega arith; apart = inr (omega arith) }) has_returns
 
-  library_is : HasLibrary memory library (kernel_library (library, name))
-  library_is = record {
-    header = header_is;
-    count = count_is;
-    function = λ number few.
-        function_is memory table number (omega (arith, count_is))
-        ∙ ap Some (function_there number few);
-    service = service_is;
-  }
+  first_returns : HasBytes memory THREAD_RETURN
+      (return_of THREAD_RETURN_CALL ++ return_of HANDLER_RETURN_CALL)
+  first_returns =
+      has_first (return_of THREAD_RETURN_CALL ++ return_of HANDLER_RETURN_CALL)
+      (return_of MODULE_RETURN_CALL) all_returns
+
+  module _ (library : ℕ) (below : library < length KERNEL_LIBRARIES) where
+    table_there : HasBytes memory (table_at library) (table_of library)
+    table_there =
+        has_item table_of KERNEL_TABLE_LEN (length KERNEL_LIBRARIES) library length-table below
+        (holds_bytes KERNEL_TABLES_AT tables holds (record {
+          below = omega (arith, length-tables);
+          apart = inl (omega (arith, length-tables));
+        }) has_tables)
+
+    service_there : (number : ℕ) → number < SERVICES
+        → HasBytes memory (service_at library number) (service_of library number)
+    service_there number few =
+        has_item (service_of library) SERVICE_LEN SERVICES number (λ i lt. refl) few
+        (has_item services_of SERVICES_LEN (length KERNEL_LIBRARIES) library
+        (λ i lt. length-services i) below
+        (holds_bytes SERVICES_AT services holds (record {
+          below = omega (arith, length-all_services);
+          apart = inr (omega arith);
+        }) has_services))
+
+    function_in_table : (number : ℕ) → number < SERVICES
+        → word_at memory (table_at library + HEADER_BYTES + 4 * number)
+        ≡ service_at library number
+    function_in_table number few =
+        function_there (table_at library) library below table_there number few (omega arith)
+
+    count_is : length (functions memory (table_at library)) ≡ SERVICES
+    count_is =
+        let long = holds.long in
+        sym (functions_are memory (table_at library) SERVICES (omega arith)
+        (λ j few. let word = function_in_table j few in grind (arith, nat_tests))
+        (λ more. eq-eqb _ _ (end_there (table_at library) library below table_there)))
+
+    library_is : HasLibrary memory library
+        (kernel_library (library, slice_index_or KERNEL_LIBRARIES library []))
+    library_is = record {
+      header = header_is (table_at library) library below table_there;
+      count = count_is;
+      function = λ number few.
+          function_is memory (table_at library) number (omega (arith, count_is))
+          ∙ ap Some (function_in_table number few);
+      service = λ number few.
+          service_is library number (omega arith) (service_there number few);
+    }
 
 module _ (number : ℕ) (entry : Entry) (is : slice_get kernel_libraries number ≡ Some entry) where
-  number_below : number < 8
+  number_below : number < length KERNEL_LIBRARIES
   number_below = slice_get_within kernel_libraries number entry is
 
   entry_is : kernel_library (number, slice_index_or KERNEL_LIBRARIES number []) ≡ entry
@@ -211,14 +242,20 @@ module _ (number : ℕ) (entry : Entry) (is : slice_get kernel_libraries number 
       ∙ get_or_from_slice_get kernel_libraries number entry entry is
 
 pub area_is_read : {memory : List ℕ} → HoldsArea memory → HasKernel memory
-area_is_read {memory} holds = record {
-  library = λ number entry is.
-      subst (HasLibrary memory number) (entry_is number entry is)
-      (library_is holds number (number_below number entry is));
-  thread_return = thread_return holds;
-  handler_return = handler_return holds;
-  module_return = module_return holds;
-}
+area_is_read {memory} holds =
+    let first = first_returns holds in
+    record {
+      library = λ number entry is.
+          subst (HasLibrary memory number) (entry_is number entry is)
+          (library_is holds number (number_below number entry is));
+      thread_return = return_is THREAD_RETURN_CALL (omega arith)
+          (has_first (return_of THREAD_RETURN_CALL) (return_of HANDLER_RETURN_CALL) first);
+      handler_return = return_is HANDLER_RETURN_CALL (omega arith)
+          (has_second (return_of THREAD_RETURN_CALL) (return_of HANDLER_RETURN_CALL) first);
+      module_return = return_is MODULE_RETURN_CALL (omega arith)
+          (has_second (return_of THREAD_RETURN_CALL ++ return_of HANDLER_RETURN_CALL)
+          (return_of MODULE_RETURN_CALL) (all_returns holds));
+    }
 
 pub kernel_area_is_read : KernelAreaIsRead
 kernel_area_is_read = λ ram. area_is_read (area_holds ram)

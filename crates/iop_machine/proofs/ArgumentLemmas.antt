@@ -2,7 +2,8 @@
 use Rattle.std.proofs.Common.{◌≡◌, ℕ, suc, ◌+◌, ◌*◌, ◌/◌, ◌%◌, ◌≤◌, ◌<◌, List, [], ◌∷◌, ◌++◌, length, drop, get_or, refl, ap, sym, ◌∙◌, append_assoc, length-append, drop-cons, arith}
 use Rattle.iop_base.specs.Numbers.{bytes_of}
 use Rattle.iop_base.proofs.Lists.{length-bytes_of}
-use Rattle.iop_machine.specs.Modules.{addresses, strings}
+use Rattle.iop_machine.specs.Modules.{addresses, strings, argument_block}
+use Rattle.iop_machine.specs.declared.arguments.TheConstants.{ARGUMENTS}
 
 pub length-addresses : (at : ℕ) (words : List (List ℕ)) → length (addresses at words) ≡ 4 * length words
 length-addresses at [] = refl
@@ -12,6 +13,18 @@ length-addresses at (word ∷ words) =
       length-append (bytes_of 4 at) (addresses (at + length word + 1) words),
       length-bytes_of 4 at,
       length-addresses (at + length word + 1) words,
+    )
+
+pub length-argument_block : (words : List (List ℕ))
+    → length (argument_block words) ≡ 4 * (length words + 1) + length (strings words)
+unfolding argument_block
+length-argument_block words =
+    let heads = addresses (ARGUMENTS + 4 * (length words + 1)) words in
+    omega (
+      arith,
+      length-append (heads ++ bytes_of 4 0) (strings words),
+      length-append heads (bytes_of 4 0),
+      length-addresses (ARGUMENTS + 4 * (length words + 1)) words,
     )
 
 -- the words that are left at an index

@@ -17,7 +17,7 @@ use Rattle.iop_machine.specs.Loading.{passes}
 use Rattle.iop_machine.specs.Modules.{addresses, strings, argument_block}
 use Rattle.iop_machine.specs.Storing.{fills, stores_bytes}
 use Rattle.iop_machine.proofs.AreaLemmas.{part_of_first}
-use Rattle.iop_machine.proofs.ArgumentLemmas.{length-addresses}
+use Rattle.iop_machine.proofs.ArgumentLemmas.{length-addresses, length-argument_block}
 
 -- a part of bytes that were put into memory
 part_of_bytes : (memory : List ℕ) (p : ℕ) (bytes : List ℕ) (k n : ℕ) → p ≤ length memory
@@ -73,7 +73,7 @@ string_of at (first ∷ words) (suc i) word e =
     later_string at first words i word (string_of (at + length first + 1) words i word e)
 
 -- bytes that the kernel stores into the block
-stored : (s : Iop) (bytes : List ℕ) → ARGUMENTS + ARGUMENTS_LEN ≤ length s.memory.ram
+pub stored : (s : Iop) (bytes : List ℕ) → ARGUMENTS + ARGUMENTS_LEN ≤ length s.memory.ram
     → length bytes ≤ ARGUMENTS_LEN
     → (stores_bytes s ARGUMENTS bytes).state.memory.ram ≡ with_bytes s.memory.ram ARGUMENTS bytes
 stored s bytes long fits =
@@ -136,9 +136,7 @@ module _ (s : Iop) (sized : IsRamSize (length s.memory.ram)) where
     length-heads = omega (arith, length-append heads (bytes_of 4 0), length-addresses at words)
 
     length-block : length block ≡ 4 * (length words + 1) + length (strings words)
-    unfolding argument_block
-    length-block =
-        omega (arith, length-append (heads ++ bytes_of 4 0) (strings words), length-heads)
+    length-block = length-argument_block words
 
     fits : length block ≤ ARGUMENTS_LEN
     fits = omega (arith, length-block, few, short)

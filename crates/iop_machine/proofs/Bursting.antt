@@ -27,7 +27,7 @@ use Rattle.iop_machine.specs.Storing.{Performs}
 use Rattle.iop_machine.specs.World.{World, booted}
 use Rattle.iop_machine.specs.declared.iop.Iop.{Iop as Program}
 use Rattle.iop_machine.proofs.Inside.{length-memory_after}
-use Rattle.iop_machine.proofs.Reaching.{steps_suc, reached_none, reached_more, advanced}
+use Rattle.iop_machine.proofs.Reaching.{reached_none, reached_more, advanced}
 use Rattle.iop_machine.proofs.Stepping.{IsNext, next_executes}
 use Rattle.iop_machine.proofs.Taking.{takes_with, takes_as, silent_then}
 
@@ -160,10 +160,7 @@ pub length-performed : (r : Row) (event : Event) (clock : ℕ) (cpu cpu' : Cpu) 
     → length memory'.ram ≡ length memory.ram
 length-performed (Goes after storing) event clock cpu cpu' memory memory' b c h =
     ap (λ (m : Memory). length m.ram) h.2 ∙ length-memory_after memory storing
-length-performed (Serves code) event clock cpu cpu' memory memory' b c h =
-    ap (λ (m : Memory). length m.ram) h.2
-length-performed (Faults kind) event clock cpu cpu' memory memory' b c h =
-    ap (λ (m : Memory). length m.ram) h.2
+length-performed _ event clock cpu cpu' memory memory' b c h = ap (λ (m : Memory). length m.ram) h.2
 
 -- the burst, of which so many instructions are left, stands before an instruction
 pub record Bursts (w : World) (budget left : ℕ) (m : Program) (a b : Output) : Type 0 where
@@ -171,26 +168,21 @@ pub record Bursts (w : World) (budget left : ℕ) (m : Program) (a b : Output) :
   pub reached : Reached StandsBooted w budget taken left m a b
   pub runs : RunsFor (steps taken w).state.iop left
 
--- the start
-pub bursts_none : (m : Program) (s : Iop) (budget : ℕ) (a : Output) → Stands m s
-    → RunsFor s budget → a.failed ≡ false → Bursts (booted s) budget budget m a a
-unfolding steps
-bursts_none m s budget a h runs well = record {
-  taken = 0;
-  reached = reached_none (booted s) budget m a a (refl, h) (gives_none a) well;
-  runs = runs;
-}
-
--- where its processor and its clock are the machine's own
+-- the start, where its processor and its clock are the machine's own
 pub bursts_first : (m : Program) (registers : Registers) (position : Position) (clock budget : ℕ)
     (a : Output) → registers ≡ registers_of m.cpu → position ≡ position_of m.cpu
     → clock ≡ m.kernel.clock → a.failed ≡ false → (s : Iop) → Stands m s → RunsFor s budget
     → Bursts (booted s) budget budget (held m (cpu_of registers position) m.guest clock) a a
+unfolding steps
 bursts_first m registers position clock budget a r p e well s h runs =
-    subst (λ x. Bursts (booted s) budget budget (held m (cpu_of x position) m.guest clock) a a) (sym r)
-    (subst (λ x. Bursts (booted s) budget budget (held m (cpu_of (registers_of m.cpu) x) m.guest clock) a a) (sym p)
-    (subst (λ x. Bursts (booted s) budget budget (held m m.cpu m.guest x) a a) (sym e)
-    (bursts_none m s budget a h runs well)))
+    let same = ap (λ x. held m (cpu_of x position) m.guest clock) r
+    ∙ ap (λ x. held m (cpu_of (registers_of m.cpu) x) m.guest clock) p
+    ∙ ap (λ n. held m m.cpu m.guest n) e in
+    subst (λ x. Bursts (booted s) budget budget x a a) (sym same) (record {
+      taken = 0;
+      reached = reached_none (booted s) budget m a a (refl, h) (gives_none a) well;
+      runs = runs;
+    })
 
 -- the machine itself, whose memory is now this, stands for a state in which something executes
 pub burst_runs : {first : Program} {budget left clock : ℕ} {cpu : Cpu} {a b : Output} (m : Program)
@@ -223,6 +215,10 @@ module _ {w : World} {budget left : ℕ} {m : Program} {a b c : Output} {event :
   abbrev pub before : Iop
   before = (steps turn.bursts.taken w).state.iop
 
+  -- what the instruction is
+  abbrev executed : Transition Iop
+  executed = performs before (row before.memory.ram before.cpu)
+
   stands : Stands m before
   stands = turn.bursts.reached.state.1
 
@@ -234,27 +230,23 @@ module _ {w : World} {budget left : ℕ} {m : Program} {a b c : Output} {event :
       subst (λ n. Performs (row before.memory.ram before.cpu) event n before.cpu before.memory b cpu'
       memory' c) (sym stands.kernel.holds.clock) s
 
-  performed : Performed before cpu' memory' b c event
-      (performs before (row before.memory.ram before.cpu))
-  performed = performed_by before cpu' memory' b c event (row before.memory.ram before.cpu)
-      performs_now
+  performed : Performed before cpu' memory' b c event executed
+  performed =
+      performed_by before cpu' memory' b c event (row before.memory.ram before.cpu) performs_now
 
-  performed_plain : event ≡ Plain → Performed before cpu' memory' b c Plain
-      (performs before (row before.memory.ram before.cpu))
-  performed_plain e = subst (λ (x : Event). Performed before cpu' memory' b c x
-      (performs before (row before.memory.ram before.cpu))) e performed
+  performed_plain : event ≡ Plain → Performed before cpu' memory' b c Plain executed
+  performed_plain e =
+      subst (λ (x : Event). Performed before cpu' memory' b c x executed) e performed
 
   -- it is the next step
-  next : IsNext true left (steps turn.bursts.taken w).state
-      (with_state booted (performs before (row before.memory.ram before.cpu)))
-  next = subst (λ (v : World). IsNext true left v
-      (with_state booted (performs before (row before.memory.ram before.cpu))))
-      (sym turn.bursts.reached.state.0)
-      (next_executes before left turn.bursts.runs.now turn.some)
+  next : IsNext true left (steps turn.bursts.taken w).state (with_state booted executed)
+  next =
+      subst (λ (v : World). IsNext true left v (with_state booted executed))
+      (sym turn.bursts.reached.state.0) (next_executes before left turn.bursts.runs.now turn.some)
 
   -- the burst with a transition that is the instruction's
   burst_with : {new : Program} {d : Output}
-      → Takes Stands (performs before (row before.memory.ram before.cpu)) new b d
+      → Takes Stands executed new b d
       → Advances StandsBooted w budget turn.bursts.taken (left - 1) new a d
   burst_with {new} {d} h =
       let some = turn.some in
@@ -278,12 +270,12 @@ module _ {w : World} {budget left : ℕ} {m : Program} {a b c : Output} {event :
   pub plain_goes_on : {new : Program} → 0 < left - 1 → event ≡ Plain → c.failed ≡ false
       → ((s : Iop) → Stands m s → Stands new (after s cpu' memory' (m.kernel.clock + 1)))
       → Bursts w budget (left - 1) new a c
+  unfolding steps
   plain_goes_on more e well to = record {
     taken = suc turn.bursts.taken;
     reached = reached_more (plain_advances e to) well;
     runs = subst (λ (v : Iop). RunsFor v (left - 1))
-        ((performed_plain e).0 ∙ sym (ap (λ (d : Transition World). d.state.iop) next.step_is)
-        ∙ sym (ap (λ (d : Transition World). d.state.iop) (steps_suc turn.bursts.taken w)))
+        ((performed_plain e).0 ∙ sym (ap (λ (d : Transition World). d.state.iop) next.step_is))
         (keeps_running before cpu' memory' left more turn.bursts.runs);
   }
 

@@ -16,7 +16,7 @@ use Rattle.iop_machine.specs.Laws.{IsMachine}
 use Rattle.iop_machine.specs.Looking.{IsAhead, takes_events, next_coming}
 use Rattle.iop_machine.specs.Running.{Runs, RunsFor}
 use Rattle.iop_machine.specs.Standing as standing
-use Rattle.iop_machine.specs.World.{booted}
+use Rattle.iop_machine.specs.World.{World, booted}
 use Rattle.iop_machine.specs.declared.iop.Iop.{Iop as Program}
 use Rattle.iop_kernel.proofs.DeliveriesFirst.{deliveries_are_in_order}
 use Rattle.iop_time.proofs.Nexts.{next_moment_is_least}
@@ -150,10 +150,12 @@ idle_may c core idle =
     ∙ ap (λ (o : Option ℕ). not (is_some o && c.cpu.in_slot)) none.1
 
 -- where nothing executes, what comes next is later than now
-pub coming_later : (s : Iop) → IsMachine (booted s)
-    → delivers (core_of (takes_events s)) ≡ None → is_active s.kernel ≡ false
-    → IfSome (next_coming (takes_events s)) (IsBetween (takes_events s).kernel.clock (2 ^ 63))
-coming_later s machine none idle =
+pub coming_later : (w : World) → IsMachine w
+    → delivers (core_of (takes_events w.iop)) ≡ None → is_active w.iop.kernel ≡ false
+    → IfSome (next_coming (takes_events w.iop))
+    (IsBetween (takes_events w.iop).kernel.clock (2 ^ 63))
+coming_later w machine none idle =
+    let s = w.iop in
     let v = takes_events s in
     let may : may_deliver (core_of v) ≡ true =
     ap may_deliver (taken_core s) ∙ idle_may (core_of s) machine.core idle in
@@ -179,5 +181,5 @@ pub coming_after : {s : Iop} {found : Option ℕ} (moment clock : ℕ) → IsMac
 coming_after {s} moment clock machine none idle is some same =
     let v = takes_events s in
     let later = subst (λ o. IfSome o (IsBetween v.kernel.clock (2 ^ 63))) (sym is ∙ some)
-    (coming_later s machine none idle) in
+    (coming_later (booted s) machine none idle) in
     let after = later.0 in omega (arith, after, same)

@@ -7,7 +7,6 @@ use Rattle.iop_machine.specs.Laws.{StepsCompose}
 use Rattle.iop_machine.specs.Stepping.{step, steps, executes, executed}
 use Rattle.iop_machine.specs.World.{World}
 use Rattle.iop_machine.specs.Iop.{Transition, and_then}
-use Rattle.iop_machine.proofs.Reaching.{executed_suc}
 
 abbrev leading_to : World → List Piece → List Stub → Transition World
 leading_to w pieces bound = record { state = w; pieces = pieces; bound = bound }
@@ -52,7 +51,7 @@ pub executed_more : (w : World) (k j : ℕ)
 unfolding executed
 executed_more w k zero = ap (λ n. executed n w) (add-zero k) ∙ sym (add-zero (executed k w))
 executed_more w k (suc j) =
-    let more = ap (λ n. executed n w) (add-suc k j) ∙ executed_suc (k + j) w in
+    let more = ap (λ n. executed n w) (add-suc k j) in
     let same = ap (λ (d : Transition World). one_if (executes d.state)) (steps_more w k j) in
     omega (arith, more, same, executed_more w k j)
 
@@ -78,4 +77,4 @@ unfolding executed steps
 executed_front w zero = omega arith
 executed_front w (suc j) =
     let same = ap (λ (d : Transition World). one_if (executes d.state)) (steps_front w j) in
-    omega (arith, executed_suc (suc j) w, executed_suc j (step w).state, same, executed_front w j)
+    omega (arith, same, executed_front w j)

@@ -1,25 +1,21 @@
 -- Each event of the script is taken once, in the first step at its tick or behind it.
-use Rattle.std.proofs.Common.{◌≡◌, ℕ, zero, suc, ◌<◌, Bool, true, false, Option, Some, None, List, refl, ap, sym, ◌∙◌, arith, subst}
-use Rattle.std.specs.Prelude.{Contains}
+use Rattle.std.proofs.Common.{◌≡◌, ℕ, zero, suc, ◌<◌, false, None, List, refl, ap, sym, ◌∙◌, arith, subst, ◌≤◌}
 use Rattle.std.proofs.lemmas.List.Elements.{All-contains}
-use Rattle.iop_base.specs.declared.stop.Stop.{Stop}
+use Rattle.std.specs.Prelude.{Contains}
 use Rattle.iop_kernel.specs.Laws.{IsCore}
 use Rattle.iop_script.specs.declared.raise.Raise.{Raise}
 use Rattle.iop_machine.specs.EventLaws.{StepsTakeTheirEvents}
 use Rattle.iop_machine.specs.Events.{left_events}
 use Rattle.iop_machine.specs.Iop.{Iop, Transition, core_of}
 use Rattle.iop_machine.specs.Laws.{RunsKeepEvents}
-use Rattle.iop_machine.specs.Loading.{boots}
-use Rattle.iop_machine.specs.Stepping.{step, steps, goes}
+use Rattle.iop_machine.specs.Stepping.{step, steps, Turn, Stays, Boots, turn_of}
 use Rattle.iop_machine.specs.World.{World, beginning}
 use Rattle.iop_machine.proofs.EventLemmas.{left_later}
 use Rattle.iop_machine.proofs.EventsLeft.{left_stood, later_stands}
-use Rattle.iop_machine.proofs.KeepingEvents.{boots_events, goes_events}
-use Rattle.iop_machine.proofs.KeepingMachine.{begins_as_core}
-use Rattle.iop_machine.proofs.Moving.{stands_whole, boots_stand, goes_core}
-use Rattle.iop_machine.proofs.Reaching.{steps_zero, steps_suc}
-use Rattle.iop_machine.proofs.Rising.{goes_rise}
-use Rattle.iop_machine.proofs.Stepping.{step_over, step_begins}
+use Rattle.iop_machine.proofs.KeepingEvents.{events_after, turn_events}
+use Rattle.iop_machine.proofs.KeepingMachine.{begins_as_core, step_core}
+use Rattle.iop_machine.proofs.Rising.{step_rises}
+use Rattle.iop_machine.proofs.Stepping.{IsTurn, stopped, unbooted, turn_is, step_is}
 
 module _ (events : List Raise) where
   -- the events that are left are events of the script, and those of later ticks are among them
@@ -29,62 +25,45 @@ module _ (events : List Raise) where
         → Contains s.events event
     stood : (event : Raise) → Contains s.events event → Contains events event
 
-  -- so are they once it was booted
-  boots_leaves : (s : Iop) → Leaves s → Leaves (boots s).state
-  boots_leaves s h =
-      let same = boots_events s in
-      let stands = boots_stand s in
-      let clock = stands.alone.clock in
-      record {
-        core = stands_whole stands h.core;
-        later = λ event has after.
-            subst (λ (es : List Raise). Contains es event) (sym same)
-            (h.later event has (omega (arith, clock, after)));
-        stood = λ event has.
-            h.stood event (subst (λ (es : List Raise). Contains es event) same has);
-      }
+  -- of the events before a turn those behind it are left
+  turn_leaves : (w : World) (t : Turn) → Leaves w.iop
+      → w.iop.kernel.clock ≤ (step w).state.iop.kernel.clock
+      → IsCore (core_of (step w).state.iop)
+      → (step w).state.iop.events ≡ events_after w t → Leaves (step w).state.iop
+  turn_leaves w t h rises core same = record {
+    core = core;
+    later = λ event has after.
+        let before : w.iop.kernel.clock < event.at = omega (arith, rises, after) in
+        subst (λ (es : List Raise). Contains es event) (sym same)
+        (later_by t event (h.later event has before) before);
+    stood = λ event has.
+        h.stood event (stood_by t event (subst (λ (es : List Raise). Contains es event) same has));
+  }
+    where
+      later_by : (t : Turn) (event : Raise) → Contains w.iop.events event
+          → w.iop.kernel.clock < event.at → Contains (events_after w t) event
+      later_by Stays event has before = has
+      later_by Boots event has before = has
+      later_by other event has before =
+          later_stands w.iop.kernel.clock w.iop.events event has before
 
-  -- and after each step then
-  goes_leaves : (s : Iop) → Leaves s → Leaves (goes s).state
-  goes_leaves s h =
-      let same = goes_events s in
-      let rises = goes_rise s h.core in
-      record {
-        core = goes_core s h.core;
-        later = λ event has after.
-            let before : s.kernel.clock < event.at = omega (arith, rises, after) in
-            subst (λ (es : List Raise). Contains es event) (sym same)
-            (later_stands s.kernel.clock s.events event (h.later event has before) before);
-        stood = λ event has.
-            h.stood event (left_stood s.kernel.clock s.events event
-            (subst (λ (es : List Raise). Contains es event) same has));
-      }
+      stood_by : (t : Turn) (event : Raise) → Contains (events_after w t) event
+          → Contains w.iop.events event
+      stood_by Stays event has = has
+      stood_by Boots event has = has
+      stood_by other event has = left_stood w.iop.kernel.clock w.iop.events event has
 
-  module _ (w : World) (h : Leaves w.iop) where
-    -- by whether it is to be booted
-    begins_leaves : (is_new : Bool) → w.iop.over ≡ None → w.is_new ≡ is_new
-        → Leaves (step w).state.iop
-    begins_leaves true over new =
-        subst (λ (t : Transition World). Leaves t.state.iop) (sym (step_begins w true over new))
-        (boots_leaves w.iop h)
-    begins_leaves false over new =
-        subst (λ (t : Transition World). Leaves t.state.iop) (sym (step_begins w false over new))
-        (goes_leaves w.iop h)
-
-    -- by whether it is stopped
-    step_leaves : (o : Option Stop) → w.iop.over ≡ o → Leaves (step w).state.iop
-    step_leaves None over = begins_leaves w.is_new over refl
-    step_leaves (Some stop) over =
-        subst (λ (t : Transition World). Leaves t.state.iop) (sym (step_over w stop over)) h
+  step_leaves : (w : World) → Leaves w.iop → Leaves (step w).state.iop
+  step_leaves w h =
+      turn_leaves w (turn_of w) h (step_rises w h.core) (step_core w h.core)
+      (ap (λ (t : Transition World). t.state.iop.events) (step_is w)
+      ∙ turn_events w (turn_of w))
 
   -- after all steps
   steps_leave : (w : World) (k : ℕ) → Leaves w.iop → Leaves (steps k w).state.iop
-  steps_leave w zero h =
-      subst (λ (t : Transition World). Leaves t.state.iop) (sym (steps_zero w)) h
-  steps_leave w (suc k) h =
-      let v = (steps k w).state in
-      subst (λ (t : Transition World). Leaves t.state.iop) (sym (steps_suc k w))
-      (step_leaves v (steps_leave w k h) v.iop.over refl)
+  unfolding steps
+  steps_leave w zero h = h
+  steps_leave w (suc k) h = step_leaves (steps k w).state (steps_leave w k h)
 
 -- from the beginning, where all are left
 pub runs_keep_events : RunsKeepEvents
@@ -98,12 +77,18 @@ runs_keep_events = λ size modules events k.
     }) in
     record { taken = left_later s.kernel.clock s.events; later = h.later; stood = h.stood }
 
--- a step leaves those that are not due
+-- a machine that goes on leaves those that are not due
+turn_takes : {w : World} {t : Turn} → w.iop.over ≡ None → w.is_new ≡ false → IsTurn w t
+    → events_after w t ≡ left_events w.iop.kernel.clock w.iop.events
+turn_takes over booted (stopped stop stops) = absurd (cc (over, stops))
+turn_takes over booted (unbooted _ new) = absurd (cc (booted, new))
+turn_takes over booted _ = refl
+
 step_events : (w : World) → w.is_new ≡ false → w.iop.over ≡ None
     → (step w).state.iop.events ≡ left_events w.iop.kernel.clock w.iop.events
-step_events w new over =
-    ap (λ (t : Transition World). t.state.iop.events) (step_begins w false over new)
-    ∙ goes_events w.iop
+step_events w booted over =
+    ap (λ (t : Transition World). t.state.iop.events) (step_is w) ∙ turn_events w (turn_of w)
+    ∙ turn_takes over booted (turn_is w)
 
 pub steps_take_their_events : StepsTakeTheirEvents
 steps_take_their_events = λ w new over.

@@ -8,7 +8,6 @@ use Rattle.iop_machine.specs.Stepping.{steps, executed, stop_at, stops_by}
 use Rattle.iop_machine.specs.World.{World}
 use Rattle.iop_machine.specs.Iop.{Transition}
 use Rattle.iop_machine.proofs.Composing.{steps_more, executed_more}
-use Rattle.iop_machine.proofs.Reaching.{executed_suc}
 
 -- where the run goes on it does so with more left
 more_left : (o : Option Stop) (x : Bool) (l m : ℕ) → stops_by o x l ≡ None → l ≤ m
@@ -33,7 +32,7 @@ within w n zero f = omega arith
 within w n (suc k) f =
     let so_far = within w n k (λ j lt. f j (omega (arith, lt))) in
     let one = one_left _ _ _ (f k (omega arith)) in
-    omega (arith, executed_suc k w, so_far, one)
+    omega (arith, so_far, one)
 
 -- whether it stops behind the first k steps, in which it executed n
 pub at_shift : (w : World) (n m k i : ℕ) → executed k w ≡ n

@@ -1,5 +1,5 @@
 -- What stays of memory and its blocks, whatever is stored, loaded, finished or called.
-use Rattle.std.proofs.Common.{◌≡◌, ◌⊎◌, inl, inr, ℕ, Bool, true, false, Option, Some, None, Result, Ok, Err, List, [], ◌∷◌, ◌++◌, length, replicate, Contains, refl, sym, ◌∙◌, arith, not, subst}
+use Rattle.std.proofs.Common.{◌≡◌, ◌⊎◌, inl, inr, ℕ, true, Option, Some, None, Result, Ok, Err, List, [], ◌∷◌, ◌++◌, length, replicate, Contains, refl, sym, ◌∙◌, arith, not, subst}
 use Rattle.std.proofs.lemmas.List.Elements.{All-filter, All-contains, All-contains_itself, Contains-append_cases, Contains-append_left, Contains-append_right}
 use Rattle.iop_base.specs.Numbers.{width_bytes, bytes_of}
 use Rattle.iop_base.specs.Piece.{Piece}
@@ -8,9 +8,7 @@ use Rattle.iop_base.specs.declared.code.Code.{Code}
 use Rattle.iop_base.specs.declared.line.Line.{Line}
 use Rattle.iop_base.specs.declared.line.Line.TheVariants.{Load, Refused}
 use Rattle.iop_exec.specs.declared.cpu.Cpu.{Cpu}
-use Rattle.iop_exec.specs.Row.{Row, Goes, Serves, Faults, Storing, at_next, row}
-use Rattle.iop_kernel.specs.Deliveries.{Delivered, delivers}
-use Rattle.iop_kernel.specs.Dispatching.{Dispatched, dispatches}
+use Rattle.iop_exec.specs.Row.{Row, Goes, Serves, Faults, Storing, at_next}
 use Rattle.iop_kernel.specs.Laws.{Store, after_stores, stores_lines, Writes, ServiceKeeps}
 use Rattle.iop_kernel.specs.Serving.{services}
 use Rattle.iop_kernel.specs.System.{System, Served, is_active}
@@ -28,15 +26,13 @@ use Rattle.iop_stubs.proofs.Storing.{store_sound}
 use Rattle.iop_sysmem.specs.BlockMap.{BlockMap}
 use Rattle.iop_machine.specs.declared.arguments.TheConstants.{ARGUMENTS, ARGUMENTS_LEN}
 use Rattle.iop_machine.specs.declared.begun_module.BegunModule.{BegunModule}
-use Rattle.iop_machine.specs.Iop.{Iop, Transition, tells, core_of, system_of}
+use Rattle.iop_machine.specs.Iop.{Iop, Transition, tells, system_of}
 use Rattle.iop_machine.specs.Loading.{loading_of, places, passes, enters_or, loads_first, starts_by}
 use Rattle.iop_machine.specs.Modules.{Module, argument_block}
 use Rattle.iop_machine.specs.Services.{calls, calls_by, serves, leaves, returns_by, ends_module, goes_on_by}
-use Rattle.iop_machine.specs.Looking.{takes_events, next_coming}
-use Rattle.iop_machine.specs.Stepping.{performs, stores_it, waits_by, acts_by, dispatches_by, delivers_by, goes}
+use Rattle.iop_machine.specs.Stepping.{performs, stores_it, waits_by}
 use Rattle.iop_machine.specs.Storing.{stores_bytes, fills}
 use Rattle.iop_machine.proofs.Elements.{fails_or_passes}
-use Rattle.iop_machine.proofs.LookingLemmas.{taken_clock}
 use Rattle.iop_machine.proofs.Inside.{LiesInside, LieInside, range_by, number_inside, first_inside, others_inside, length-after_store}
 
 -- what stays of memory at a moment, which has these blocks then, where these pieces were given and these
@@ -276,7 +272,7 @@ calls_keep s behind code active h =
     calls_by_keep s d (serves_keep system d kept h) kept.clock h d.left.after
 
 -- an instruction of it
-performs_keeps : (s : Iop) (r : Row) → is_active s.kernel ≡ true → HasBlocks s.memory s.blocks
+pub performs_keeps : (s : Iop) (r : Row) → is_active s.kernel ≡ true → HasBlocks s.memory s.blocks
     → Keeps s (performs s r)
 performs_keeps s (Goes after None) active h = same s.kernel.clock s.memory s.blocks [] h
 performs_keeps s (Goes after (Some storing)) active h =
@@ -285,30 +281,6 @@ performs_keeps s (Serves code) active h = calls_keep s (at_next s.cpu) code acti
 performs_keeps s (Faults kind) active h = same s.kernel.clock s.memory s.blocks [] h
 
 -- the clock goes on
-waits_keep : (s : Iop) (o : Option ℕ) → HasBlocks s.memory s.blocks → Keeps s (waits_by s o)
+pub waits_keep : (s : Iop) (o : Option ℕ) → HasBlocks s.memory s.blocks → Keeps s (waits_by s o)
 waits_keep s None h = same s.kernel.clock s.memory s.blocks [] h
 waits_keep s (Some moment) h = same s.kernel.clock s.memory s.blocks [] h
-
--- where nothing is delivered or dispatched
-acts_keep : (s : Iop) (active : Bool) → is_active s.kernel ≡ active → HasBlocks s.memory s.blocks
-    → Keeps s (acts_by s active)
-acts_keep s false idle h = waits_keep s (next_coming s) h
-acts_keep s true active h = performs_keeps s (row s.memory.ram s.cpu) active h
-
-dispatches_keep : (s : Iop) (o : Option Dispatched) → HasBlocks s.memory s.blocks
-    → Keeps s (dispatches_by s o)
-dispatches_keep s (Some d) h = same s.kernel.clock s.memory s.blocks _ h
-dispatches_keep s None h = acts_keep s (is_active s.kernel) refl h
-
-delivers_keep : (s : Iop) (o : Option Delivered) → HasBlocks s.memory s.blocks
-    → Keeps s (delivers_by s o)
-delivers_keep s (Some d) h = same s.kernel.clock s.memory s.blocks _ h
-delivers_keep s None h = dispatches_keep s (dispatches (core_of s)) h
-
--- a step of the machine that was booted
-pub goes_keep : (s : Iop) → HasBlocks s.memory s.blocks → Keeps s (goes s)
-goes_keep s h =
-    let v = takes_events s in
-    let t = goes s in
-    subst (λ clock. Stays clock s.memory t.state.memory t.state.blocks t.pieces t.bound)
-    (taken_clock s) (delivers_keep v (delivers (core_of v)) h)

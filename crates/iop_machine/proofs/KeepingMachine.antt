@@ -1,35 +1,41 @@
 -- A machine stays one over its steps.
-use Rattle.std.proofs.Common.{◌≡◌, inl, inr, ℕ, zero, suc, ◌<◌, Bool, true, false, Option, Some, None, List, [], length, All, refl, ap, sym, ◌∙◌, arith, subst}
-use Rattle.std.proofs.lemmas.List.{length-replicate}
+use Rattle.std.proofs.Common.{◌≡◌, inl, inr, ℕ, zero, suc, ◌<◌, true, Option, Some, None, List, [], length, All, refl, ap, sym, ◌∙◌, arith, subst, ◌≤◌, IfSome}
 use Rattle.std.proofs.lemmas.List.Elements.{All-nil}
-use Rattle.iop_base.specs.Places.{IsRamSize}
-use Rattle.iop_base.specs.declared.stop.Stop.{Stop}
 use Rattle.iop_base.proofs.Memory.{length-with_bytes}
+use Rattle.iop_base.specs.Places.{IsRamSize}
+use Rattle.iop_exec.proofs.RowKeeps.{rows_stay_steady}
+use Rattle.iop_exec.specs.Row.{row}
+use Rattle.iop_kernel.proofs.DeliveriesFirst.{deliveries_are_in_order}
+use Rattle.iop_kernel.proofs.KeepingSteps.{opening_core}
+use Rattle.iop_kernel.proofs.Strict.{dispatches_are_strict}
 use Rattle.iop_kernel.specs.Laws.{IsCore}
-use Rattle.iop_kernel.proofs.KeepingCore.{holds_whole}
-use Rattle.iop_kernel.proofs.Steady.{steady_opening}
-use Rattle.iop_kernel.proofs.WaitsHolding.{waits_opening}
+use Rattle.iop_kernel.specs.System.{Kernel}
 use Rattle.iop_modload.specs.Laws.{HasBlocks}
 use Rattle.iop_script.specs.declared.raise.Raise.{Raise}
 use Rattle.iop_stubs.specs.Binding.{IsBound}
 use Rattle.iop_stubs.specs.declared.live_stub.Stub.{Stub}
 use Rattle.iop_sysmem.specs.BlockMap.{AreBlocks, IsBlockSize, block_of, end_of}
 use Rattle.iop_sysmem.specs.declared.blocks.TheConstants.{KERNEL}
+use Rattle.iop_thread.proofs.KeptRegisters.{begun_steady}
 use Rattle.iop_machine.specs.Events.{CanCome}
 use Rattle.iop_machine.specs.Iop.{Iop, Transition, core_of}
 use Rattle.iop_machine.specs.KernelArea.{kernel_area}
 use Rattle.iop_machine.specs.Laws.{IsMachine}
 use Rattle.iop_machine.specs.Loading.{with_kernel, loads_first, boots}
+use Rattle.iop_machine.specs.Looking.{takes_events, next_coming}
 use Rattle.iop_machine.specs.Modules.{Module}
-use Rattle.iop_machine.specs.Stepping.{step, steps}
+use Rattle.iop_machine.specs.Stepping.{step, steps, Turn, Stays as StaysTurn, Boots, turn_of, takes_turn, performs, waits_by}
 use Rattle.iop_machine.specs.World.{World, reset, beginning, zeros}
+use Rattle.iop_machine.proofs.Area.{length-zeros}
 use Rattle.iop_machine.proofs.AreaLemmas.{length-kernel_area}
+use Rattle.iop_machine.proofs.Coming.{IsBetween, coming_later}
 use Rattle.iop_machine.proofs.EventLemmas.{left_comes}
-use Rattle.iop_machine.proofs.Keeping.{Stays, Keeps, same, loads_first_keeps, starts_keep, goes_keep}
-use Rattle.iop_machine.proofs.KeepingEvents.{boots_events, goes_events}
-use Rattle.iop_machine.proofs.Moving.{AreNumbered, stands_whole, boots_stand, goes_core, goes_numbered}
-use Rattle.iop_machine.proofs.Reaching.{steps_zero, steps_suc}
-use Rattle.iop_machine.proofs.Stepping.{step_over, step_begins}
+use Rattle.iop_machine.proofs.Keeping.{Stays, Keeps, same, loads_first_keeps, starts_keep, performs_keeps, waits_keep}
+use Rattle.iop_machine.proofs.KeepingEvents.{events_after, turn_events}
+use Rattle.iop_machine.proofs.LookingLemmas.{taken_clock, taken_active}
+use Rattle.iop_machine.proofs.Moving.{AreNumbered, boots_stand, takes_move, performs_move, waits_core, waits_numbered, delivery_numbers}
+use Rattle.iop_machine.proofs.Raising.{dispatch_kernel}
+use Rattle.iop_machine.proofs.Stepping.{IsTurn, stopped, unbooted, delivery, dispatch, execution, waiting, turn_is}
 
 -- memory behind the kernel's area
 behind_area : (size : ℕ) → IsRamSize size → 0x10000 < size
@@ -77,94 +83,130 @@ pub holds_of : {w : World} → IsMachine w → Holds w
 holds_of h = record { whole = h.whole; none_live = h.none_live; core = h.core }
 
 -- what a step keeps of it
+abbrev StaysOver : World → Transition World → Type 0
+StaysOver w t =
+    Stays w.iop.kernel.clock w.iop.memory t.state.iop.memory t.state.iop.blocks t.pieces t.bound
+
 pub record StepKeeps (w : World) (t : Transition World) : Type 0 where
-  pub stays : Stays w.iop.kernel.clock w.iop.memory t.state.iop.memory t.state.iop.blocks t.pieces t.bound
+  pub stays : StaysOver w t
   pub holds : Holds t.state
 
-module _ (w : World) (h : Holds w) where
-  -- what is not stopped boots or goes on
-  begins_keeps : (is_new : Bool) → w.iop.over ≡ None → w.is_new ≡ is_new → StepKeeps w (step w)
-  begins_keeps true e f =
-      let stays = boots_keep w.iop h.whole (h.none_live f) in
-      subst (StepKeeps w) (sym (step_begins w true e f)) (record {
-        stays = stays;
-        holds = record {
-          whole = stays.whole;
-          none_live = λ x. absurd (cc x);
-          core = stands_whole (boots_stand w.iop) h.core;
-        };
-      })
-  begins_keeps false e f =
-      let stays = goes_keep w.iop h.whole in
-      subst (StepKeeps w) (sym (step_begins w false e f)) (record {
-        stays = stays;
-        holds = record {
-          whole = stays.whole;
-          none_live = λ x. absurd (cc x);
-          core = goes_core w.iop h.core;
-        };
-      })
+-- a turn keeps what holds of the kernel
+turn_core : (w : World) {t : Turn} → IsCore (core_of w.iop) → IsTurn w t
+    → IsCore (core_of (takes_turn w t).state.iop)
+turn_core w core (stopped stop over) = core
+turn_core w core (unbooted over new) = (boots_stand w.iop).core core
+turn_core w core (delivery d goes is) =
+    (deliveries_are_in_order.delivered (core_of (takes_events w.iop)) d
+    ((takes_move w.iop).core core) is).core
+turn_core w core (dispatch d goes none is) =
+    (dispatches_are_strict.dispatched (core_of (takes_events w.iop)) d
+    ((takes_move w.iop).core core) is).core
+turn_core w core (execution goes looks) =
+    let v = takes_events w.iop in
+    (performs_move v (row v.memory.ram v.cpu) looks.active_is
+    (rows_stay_steady v.memory.ram v.cpu)).core ((takes_move w.iop).core core)
+turn_core w core (waiting goes looks) =
+    waits_core (takes_events w.iop) (next_coming (takes_events w.iop))
+    ((takes_move w.iop).core core)
 
-  step_by : (o : Option Stop) → w.iop.over ≡ o → StepKeeps w (step w)
-  step_by (Some stop) e =
-      subst (StepKeeps w) (sym (step_over w stop e)) (record {
-        stays = same w.iop.kernel.clock w.iop.memory w.iop.blocks [] h.whole;
-        holds = h;
-      })
-  step_by None e = begins_keeps w.is_new e refl
+pub step_core : (w : World) → IsCore (core_of w.iop) → IsCore (core_of (step w).state.iop)
+unfolding step
+step_core w core = turn_core w core (turn_is w)
 
-  pub step_keeps : StepKeeps w (step w)
-  step_keeps = step_by w.iop.over refl
+-- and memory with its blocks
+turn_stays : (w : World) {t : Turn} → Holds w → IsTurn w t → StaysOver w (takes_turn w t)
+turn_stays w h (stopped stop over) = same w.iop.kernel.clock w.iop.memory w.iop.blocks [] h.whole
+turn_stays w h (unbooted over new) = boots_keep w.iop h.whole (h.none_live new)
+turn_stays w h (delivery d goes is) = same w.iop.kernel.clock w.iop.memory w.iop.blocks _ h.whole
+turn_stays w h (dispatch d goes none is) =
+    same w.iop.kernel.clock w.iop.memory w.iop.blocks _ h.whole
+turn_stays w h (execution goes looks) =
+    let v = takes_events w.iop in
+    let t = performs v (row v.memory.ram v.cpu) in
+    subst (λ clock. Stays clock v.memory t.state.memory t.state.blocks t.pieces t.bound)
+    (taken_clock w.iop) (performs_keeps v (row v.memory.ram v.cpu) looks.active_is h.whole)
+turn_stays w h (waiting goes looks) =
+    let v = takes_events w.iop in
+    let t = waits_by v (next_coming v) in
+    subst (λ clock. Stays clock v.memory t.state.memory t.state.blocks t.pieces t.bound)
+    (taken_clock w.iop) (waits_keep v (next_coming v) h.whole)
 
--- and of the rest
-record KeepsRest (w : World) : Type 0 where
-  numbers : AreNumbered w.iop.kernel
-  events : CanCome w.iop.events
+-- no stub is live before it is booted
+turn_none : (w : World) (t : Turn) → (w.is_new ≡ true → w.iop.memory.live ≡ [])
+    → (takes_turn w t).state.is_new ≡ true → (takes_turn w t).state.iop.memory.live ≡ []
+turn_none w StaysTurn none = none
+turn_none w other none = λ new. absurd (cc new)
 
-module _ (w : World) (machine : IsMachine w) where
-  -- what is not stopped boots or goes on
-  begins_rest : (is_new : Bool) → w.iop.over ≡ None → w.is_new ≡ is_new
-      → KeepsRest (step w).state
-  begins_rest true e f =
-      let stands = boots_stand w.iop in
-      let few = stands.alone.numbers in
-      let clock = stands.alone.clock in
-      let numbers = machine.numbers in
-      subst (λ (t : Transition World). KeepsRest t.state) (sym (step_begins w true e f)) (record {
-        numbers = omega (arith, few, clock, numbers);
-        events = subst CanCome (sym (boots_events w.iop)) machine.events;
-      })
-  begins_rest false e f =
-      subst (λ (t : Transition World). KeepsRest t.state) (sym (step_begins w false e f)) (record {
-        numbers = goes_numbered w.iop (record {
-          whole = machine.whole;
-          none_live = λ x. absurd (cc x);
-          core = machine.core;
-          numbers = machine.numbers;
-          events = machine.events;
-        });
-        events = subst CanCome (sym (goes_events w.iop))
-            (left_comes w.iop.kernel.clock w.iop.events machine.events);
-      })
+pub step_keeps : (w : World) → Holds w → StepKeeps w (step w)
+unfolding step
+step_keeps w h =
+    let stays = turn_stays w h (turn_is w) in
+    record {
+      stays = stays;
+      holds = record {
+        whole = stays.whole;
+        none_live = turn_none w (turn_of w) h.none_live;
+        core = turn_core w h.core (turn_is w);
+      };
+    }
 
-  rest_by : (o : Option Stop) → w.iop.over ≡ o → KeepsRest (step w).state
-  rest_by (Some stop) e =
-      subst (λ (t : Transition World). KeepsRest t.state) (sym (step_over w stop e))
-      (record { numbers = machine.numbers; events = machine.events })
-  rest_by None e = begins_rest w.is_new e refl
+-- the script's events can come that are left
+turn_comes : (w : World) (t : Turn) → CanCome w.iop.events → CanCome (events_after w t)
+turn_comes w StaysTurn come = come
+turn_comes w Boots come = come
+turn_comes w other come = left_comes w.iop.kernel.clock w.iop.events come
 
-  -- each step keeps a machine
-  pub keeps_machine : IsMachine (step w).state
-  keeps_machine =
-      let holds = (step_keeps w (holds_of machine)).holds in
-      let rest = rest_by w.iop.over refl in
-      record {
-        whole = holds.whole;
-        none_live = holds.none_live;
-        core = holds.core;
-        numbers = rest.numbers;
-        events = rest.events;
-      }
+-- and each alarm and each delay took an instruction
+turn_numbers : (w : World) {t : Turn} → IsMachine w → IsTurn w t
+    → AreNumbered (takes_turn w t).state.iop.kernel
+turn_numbers w machine (stopped stop over) = machine.numbers
+turn_numbers w machine (unbooted over new) =
+    let stands = boots_stand w.iop in
+    let next = stands.next in
+    let clock = stands.clock in
+    let numbers = machine.numbers in
+    omega (arith, next, clock, numbers)
+turn_numbers w machine (delivery d goes is) =
+    let v = takes_events w.iop in
+    let moved = takes_move w.iop in
+    let kept = deliveries_are_in_order.delivered (core_of v) d (moved.core machine.core) is in
+    let clock = ap (λ (k : Kernel). k.clock) kept.kernel in
+    let same = delivery_numbers (core_of v) d kept.first in
+    let numbers = moved.numbers machine.numbers in
+    omega (arith, numbers, clock, same)
+turn_numbers w machine (dispatch d goes none is) =
+    subst AreNumbered (sym (dispatch_kernel (core_of (takes_events w.iop)) d is))
+    ((takes_move w.iop).numbers machine.numbers)
+turn_numbers w machine (execution goes looks) =
+    let v = takes_events w.iop in
+    (performs_move v (row v.memory.ram v.cpu) looks.active_is
+    (rows_stay_steady v.memory.ram v.cpu)).numbers ((takes_move w.iop).numbers machine.numbers)
+turn_numbers w machine (waiting goes looks) =
+    let v = takes_events w.iop in
+    waits_numbered v (next_coming v)
+    (no_earlier _ _ (next_coming v)
+    (coming_later w machine looks.delivery_is (sym (taken_active w.iop) ∙ looks.active_is)))
+    ((takes_move w.iop).numbers machine.numbers)
+  where
+    no_earlier : (low high : ℕ) (o : Option ℕ) → IfSome o (IsBetween low high)
+        → IfSome o (λ moment. low ≤ moment)
+    no_earlier low high None h = h
+    no_earlier low high (Some moment) h = let later = h.0 in omega (arith, later)
+
+-- each step keeps a machine
+keeps_machine : (w : World) → IsMachine w → IsMachine (step w).state
+unfolding step
+keeps_machine w machine =
+    let holds = (step_keeps w (holds_of machine)).holds in
+    record {
+      whole = holds.whole;
+      none_live = holds.none_live;
+      core = holds.core;
+      numbers = turn_numbers w machine (turn_is w);
+      events = subst CanCome (sym (turn_events w (turn_of w)))
+          (turn_comes w (turn_of w) machine.events);
+    }
 
 -- also one that is not stopped
 pub step_keeps_machine : (w : World) → IsMachine w → w.iop.over ≡ None → IsMachine (step w).state
@@ -172,15 +214,10 @@ step_keeps_machine w machine over = keeps_machine w machine
 
 -- so do all steps
 pub steps_keep_machine : (w : World) (k : ℕ) → IsMachine w → IsMachine (steps k w).state
-steps_keep_machine w zero machine =
-    subst IsMachine (sym (ap (λ (t : Transition World). t.state) (steps_zero w))) machine
+unfolding steps
+steps_keep_machine w zero machine = machine
 steps_keep_machine w (suc k) machine =
-    subst IsMachine (sym (ap (λ (t : Transition World). t.state) (steps_suc k w)))
-    (keeps_machine (steps k w).state (steps_keep_machine w k machine))
-
-pub length-zeros : (size : ℕ) → length (zeros size) ≡ size
-unfolding zeros
-length-zeros size = length-replicate size 0
+    keeps_machine (steps k w).state (steps_keep_machine w k machine)
 
 -- the block of the kernel alone is used
 kernel_blocks : (size : ℕ) → IsRamSize size → AreBlocks (reset size [] []).blocks
@@ -204,13 +241,7 @@ kernel_blocks size sized =
 -- the loader's thread alone stands, dormant
 pub begins_as_core : (size : ℕ) (modules : List Module) (events : List Raise)
     → IsCore (core_of (reset size modules events))
-begins_as_core size modules events = holds_whole waits_opening (record {
-  placed = waits_opening.placed.threads;
-  awake = λ none. record { dispatching = refl; interrupts = λ outside. refl };
-  straight = (λ out. refl, refl);
-  threads = steady_opening;
-  handler = tt;
-})
+begins_as_core size modules events = opening_core _ (begun_steady _ _ refl refl)
 
 module _ (size : ℕ) (modules : List Module) (events : List Raise) (sized : IsRamSize size) where
   pub begins_holding : Holds (beginning size modules events)

@@ -1,5 +1,5 @@
 -- What holds in each state that a machine reaches.
-use Rattle.std.proofs.Common.{◌⊎◌, inl, inr, ℕ, zero, suc, List, Contains, sym, arith, subst}
+use Rattle.std.proofs.Common.{◌⊎◌, inl, inr, ℕ, zero, suc, List, Contains, arith}
 use Rattle.std.proofs.lemmas.List.Elements.{Contains-append_left, Contains-append_right}
 use Rattle.iop_base.specs.Places.{IsRamSize}
 use Rattle.iop_script.specs.declared.raise.Raise.{Raise}
@@ -10,7 +10,6 @@ use Rattle.iop_machine.specs.Modules.{Module}
 use Rattle.iop_machine.specs.Stepping.{step, steps}
 use Rattle.iop_machine.specs.World.{World, beginning}
 use Rattle.iop_machine.proofs.KeepingMachine.{Holds, holds_of, step_keeps, begins_holding}
-use Rattle.iop_machine.proofs.Reaching.{steps_zero, steps_suc}
 
 pub stubs_leave_with_their_line : StubsLeaveWithTheirLine
 stubs_leave_with_their_line = λ w stub machine has.
@@ -38,11 +37,9 @@ next_descends w t h =
     }
 
 descends : (w : World) (k : ℕ) → Holds w → Descends w (steps k w)
-descends w zero holds =
-    subst (Descends w) (sym (steps_zero w)) (record { holds = holds; live = λ stub x. inl x })
-descends w (suc k) holds =
-    subst (Descends w) (sym (steps_suc k w))
-    (next_descends w (steps k w) (descends w k holds))
+unfolding steps
+descends w zero holds = record { holds = holds; live = λ stub x. inl x }
+descends w (suc k) holds = next_descends w (steps k w) (descends w k holds)
 
 pub runs_keep_stubs : RunsKeepStubs
 runs_keep_stubs = λ w k stub machine. (descends w k (holds_of machine)).live stub

@@ -12,15 +12,16 @@ use Rattle.iop_machine.specs.Iop.{Transition, silent, and_then}
 use Rattle.iop_machine.proofs.Composing.{steps_more, steps_front, executed_front}
 use Rattle.iop_machine.proofs.GoingOn.{one_left, within, at_shift, goes_on_with, goes_on_both}
 use Rattle.iop_machine.proofs.KeepingMachine.{step_keeps_machine, steps_keep_machine}
-use Rattle.iop_machine.proofs.Reaching.{steps_zero, steps_suc, executed_suc, not_over}
+use Rattle.iop_machine.proofs.Reaching.{not_over}
 use Rattle.iop_machine.proofs.Rests.{rest, rest_few}
 use Rattle.iop_machine.proofs.Resting.{rest_step}
 use Rattle.iop_machine.proofs.Stepping.{step_over}
 
 over_steps : (w : World) (k : ℕ) (stop : Stop) → w.iop.over ≡ Some stop → steps k w ≡ silent w
-over_steps w zero stop e = steps_zero w
+unfolding steps
+over_steps w zero stop e = refl
 over_steps w (suc k) stop e =
-    steps_suc k w ∙ ap (λ d. and_then d step) (over_steps w k stop e)
+    ap (λ d. and_then d step) (over_steps w k stop e)
     ∙ ap (λ (d : Transition World). record {
       state = d.state;
       pieces = [] ++ d.pieces;
@@ -28,10 +29,10 @@ over_steps w (suc k) stop e =
     }) (step_over w stop e)
 
 over_ends : (w : World) (n : ℕ) (stop : Stop) → w.iop.over ≡ Some stop → Ends w n 0 stop
+unfolding steps
 over_ends w n stop e = record {
   before = λ j lt. absurd (omega (arith, lt));
-  now = ap (λ (d : Transition World). stop_at d.state (n - executed 0 w)) (steps_zero w)
-      ∙ ap (λ o. stops_by o (executes w) (n - executed 0 w)) e;
+  now = ap (λ o. stops_by o (executes w) (n - executed 0 w)) e;
 }
 
 pub over_stays : OverStays
@@ -110,13 +111,11 @@ ends_later w n k stop h = record {
 computed_at : (f : ℕ) (w : World) (n k : ℕ) (stop : Stop) → Ends w n k stop → k < f
     → run_within f n w ≡ record
     { world = (steps k w).state; pieces = (steps k w).pieces; stop = stop }
-unfolding run_within
+unfolding run_within steps
 computed_at zero w n k stop h lt = absurd (omega (arith, lt))
 computed_at (suc f) w n zero stop h lt =
     ap (λ o. ran_by o w (run_within f (n - one_if (executes w)) (step w).state))
     (first_stops w n stop h)
-    ∙ sym (ap (λ (d : Transition World). record { world = d.state; pieces = d.pieces; stop = stop })
-    (steps_zero w))
 computed_at (suc f) w n (suc k) stop h lt =
     ap (λ o. ran_by o w (run_within f (n - one_if (executes w)) (step w).state))
     (first_goes w n (h.before 0 (omega arith)))
@@ -134,8 +133,7 @@ few_steps w n (suc k) machine f =
     let v = (steps k w).state in
     let so_far = few_steps w n k machine (λ j lt. f j (omega (arith, lt))) in
     let next = rest_step v (steps_keep_machine w k machine) (not_over v _ (f k (omega arith))) in
-    let same = ap (λ (d : Transition World). rest d.state) (steps_suc k w) in
-    omega (arith, so_far, next, same, executed_suc k w)
+    omega (arith, so_far, next)
 
 ends_soon : (w : World) (n k : ℕ) (stop : Stop) → IsMachine w → Ends w n k stop
     → k < most_steps n w

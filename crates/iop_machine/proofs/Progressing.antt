@@ -19,7 +19,8 @@ use Rattle.iop_machine.specs.declared.progress.Progress.TheVariants.{Stopped, Ad
 use Rattle.iop_machine.proofs.Advancing.{progresses_as, then_advances, then_stops}
 use Rattle.iop_machine.proofs.Bounding.{calls_left, few_turns, is_less}
 use Rattle.iop_machine.proofs.KeepingMachine.{steps_keep_machine}
-use Rattle.iop_machine.proofs.Timing.{boots_kernel, steps_clock}
+use Rattle.iop_machine.proofs.LoadingLands.{boots_leave}
+use Rattle.iop_machine.proofs.Timing.{steps_clock}
 
 -- what the booted machine does of a run, the whole machine does
 pub progresses_booted : (m : Machine) (new : Program) (p : Progress) (budget : ℕ) (a b : Output)
@@ -71,7 +72,7 @@ pub boots_less : {m new : Program} {s : Iop} (budget : ℕ) → Stands m s
     → IsLess (Advanced budget) failed new.over false new.kernel
     (most_between * budget + calls_by None true m.kernel)
 boots_less {s = s} budget h g =
-    let same = ap calls_left (boots_kernel s) in
+    let same = ap calls_left (boots_leave s).kernel in
     let turns = few_turns (boots s).state.over in
     is_less h g budget budget None true (omega (arith, same, turns))
 

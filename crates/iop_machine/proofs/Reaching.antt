@@ -7,23 +7,10 @@ use Rattle.iop_base.proofs.Giving.{gives_none, gives_then}
 use Rattle.iop_base.specs.declared.stop.Stop.{Stop}
 use Rattle.iop_machine.specs.Advancing.{Reached, Advances, Stops}
 use Rattle.iop_machine.specs.Running.{GoesOn}
-use Rattle.iop_machine.specs.Stepping.{step, steps, executes, executed, stop_at, stops_by}
+use Rattle.iop_machine.specs.Stepping.{steps, executes, executed, stop_at, stops_by}
 use Rattle.iop_machine.specs.World.{World}
-use Rattle.iop_machine.specs.Iop.{Transition, Takes, silent, and_then}
+use Rattle.iop_machine.specs.Iop.{Transition, Takes}
 use Rattle.iop_machine.proofs.Stepping.{IsNext}
-
-pub steps_zero : (w : World) → steps 0 w ≡ silent w
-unfolding steps
-steps_zero w = refl
-
-pub steps_suc : (k : ℕ) (w : World) → steps (suc k) w ≡ and_then (steps k w) step
-unfolding steps
-steps_suc k w = refl
-
-pub executed_suc : (k : ℕ) (w : World)
-    → executed (suc k) w ≡ executed k w + one_if (executes (steps k w).state)
-unfolding executed
-executed_suc k w = refl
 
 over_by : (o : Option Stop) (b : Bool) (left : ℕ) → stops_by o b left ≡ None → o ≡ None
 over_by None b left h = refl
@@ -62,9 +49,8 @@ module _ {P : Type 0} {stands_for : P → World → Type 0} where
   -- all pieces of the steps were given
   pub told : {w : World} {budget k left : ℕ} {now : P} {a c : Output}
       → Advances stands_for w budget k left now a c → Gives a c (steps (suc k) w).pieces
-  told {w} {budget} {k} {left} {now} {a} {c} h =
-      subst (Gives a c) (sym (ap (λ (d : Transition World). d.pieces) (steps_suc k w)))
-      (gives_then h.first h.last)
+  unfolding steps
+  told h = gives_then h.first h.last
 
   -- where no write failed the run goes on from here
   pub reached_more : {w : World} {budget k left : ℕ} {now : P} {a c : Output}
@@ -87,20 +73,14 @@ module _ {P : Type 0} {stands_for : P → World → Type 0} where
     pub advanced : {executing : Bool} {t : Transition World} {new : P} {c : Output} (rest : ℕ)
         → rest + one_if executing ≡ left → IsNext executing left (steps k w).state t
         → Takes stands_for t new b c → Advances stands_for w budget k rest new a c
+    unfolding steps executed
     advanced {executing} {t} {new} {c} rest sum next h =
         record {
           before = λ j lt. below_more (GoesOn w budget) k r.before (here None next.goes_on) j
               (omega (arith, lt));
           state = subst (stands_for new)
-              (sym (ap (λ (d : Transition World). d.state) (steps_suc k w)
-              ∙ ap (λ (d : Transition World). d.state) next.step_is)) h.state;
-          left_is = omega (
-            arith,
-            r.left_is,
-            sum,
-            executed_suc k w,
-            ap one_if next.executing_is,
-          );
+              (sym (ap (λ (d : Transition World). d.state) next.step_is)) h.state;
+          left_is = omega (arith, r.left_is, sum, ap one_if next.executing_is);
           seen = b;
           first = r.gives;
           well = r.well;

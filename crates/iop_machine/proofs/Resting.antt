@@ -19,22 +19,23 @@ use Rattle.iop_time.specs.Turns.{next_moment}
 use Rattle.iop_time.specs.declared.ticks.TheConstants.{NEVER}
 use Rattle.iop_time.proofs.Nexts.{next_moment_is_least}
 use Rattle.iop_machine.specs.Events.{earlier, next_tick}
-use Rattle.iop_machine.specs.Iop.{Iop, Transition, core_of, with_core}
+use Rattle.iop_machine.specs.Iop.{Iop, core_of, with_core}
 use Rattle.iop_machine.specs.Laws.{IsMachine}
 use Rattle.iop_machine.specs.Loading.{boots}
 use Rattle.iop_machine.specs.Looking.{takes_events, next_coming, at_moment}
-use Rattle.iop_machine.specs.Stepping.{step, executes, executes_by, performs, waits_by, acts_by, dispatches_by, delivers_by, goes, most_between}
+use Rattle.iop_machine.specs.Stepping.{Turn, takes_turn, is_execution, step, executes, performs, waits_by, most_between}
 use Rattle.iop_machine.specs.World.{World, booted}
 use Rattle.iop_machine.proofs.CallsLeft.{delivery_leaves_fewer}
 use Rattle.iop_machine.proofs.Coming.{idle_may}
 use Rattle.iop_machine.proofs.EventLemmas.{AreLater, IsNextTick, next_tick_is, left_few, left_fewer}
-use Rattle.iop_machine.proofs.KeepingEvents.{boots_events, performs_events}
+use Rattle.iop_machine.proofs.KeepingEvents.{performs_events}
 use Rattle.iop_machine.proofs.KeepingMachine.{step_keeps_machine}
+use Rattle.iop_machine.proofs.LoadingLands.{boots_leave}
 use Rattle.iop_machine.proofs.LookingLemmas.{taken_irqs, taken_kernel, taken_active, taken_later, taken_core, dispatches_taken}
 use Rattle.iop_machine.proofs.Moving.{takes_move}
 use Rattle.iop_machine.proofs.Raising.{dispatched_with}
 use Rattle.iop_machine.proofs.Rests.{deliveries, turns_by, turns_delivered, turns_dispatched, turns_are, behind, behind_is, rest, rest_is, rest_over, rest_booted, rest_later, rest_bounded, HasFewDelays, few_delays, taken_deliveries}
-use Rattle.iop_machine.proofs.Stepping.{step_begins, executes_as, looks_now}
+use Rattle.iop_machine.proofs.Stepping.{IsTurn, stopped, unbooted, delivery, dispatch, execution, waiting, turn_is}
 
 -- where no handler was active and the same thread runs, nothing executes now only if nothing did
 idle_before : (handler now : Option ActiveHandler) (running runs : Option ℕ) → handler ≡ None
@@ -168,82 +169,46 @@ module _ (v : Iop) (core : IsCore (core_of v)) (later : AreLater v.kernel.clock 
       rest_waits (Some moment) is =
           rest_then moment is (delivers (core_of (takes_events (at_moment v moment)))) refl
 
-    -- by whether a thread or a handler executes
-    rest_acts : (active : Bool) → is_active v.kernel ≡ active
-        → HasFewDelays (acts_by v active).state
-        → rest (booted (acts_by v active).state) + 1
-        ≤ behind v + (most_between + 1) * one_if active
-    rest_acts false idle few =
-        let waits = rest_waits idle (next_coming v) refl in omega (arith, waits)
-    rest_acts true active few =
-        let r = row v.memory.ram v.cpu in
-        let left = rest_bounded (performs v r).state few in
-        let same = ap length (performs_events v r) in
-        let old = behind_is v in
-        omega (arith, left, same, old)
+-- a turn that executes no instruction leaves fewer such steps, and one that executes an
+-- instruction at most `most_between` more; the delays that it leaves are few
+turn_rests : (w : World) {t : Turn} → IsMachine w → w.iop.over ≡ None
+    → HasFewDelays (takes_turn w t).state.iop → IsTurn w t
+    → rest (takes_turn w t).state + 1
+    ≤ rest w + (most_between + 1) * one_if (is_execution t)
+turn_rests w machine over few (stopped stop stops) = absurd (cc (over, stops))
+turn_rests w machine over few (unbooted _ new) =
+    let left = rest_bounded (boots w.iop).state few in
+    let events = ap length (boots_leave w.iop).events in
+    let before = rest_is w true over new in
+    omega (arith, left, events, before)
+turn_rests w machine over few (delivery d goes is) =
+    let v = takes_events w.iop in
+    let less = rest_delivered v ((takes_move w.iop).core machine.core) (taken_later w.iop) d is in
+    let before = rest_is w false over goes.booted in
+    omega (arith, less, before)
+turn_rests w machine over few (dispatch d goes none is) =
+    let v = takes_events w.iop in
+    let less = rest_dispatched v ((takes_move w.iop).core machine.core) (taken_later w.iop) d is in
+    let before = rest_is w false over goes.booted in
+    omega (arith, less, before)
+turn_rests w machine over few (execution goes looks) =
+    let v = takes_events w.iop in
+    let r = row v.memory.ram v.cpu in
+    let left = rest_bounded (performs v r).state few in
+    let same = ap length (performs_events v r) in
+    let old = behind_is v in
+    let before = rest_is w false over goes.booted in
+    omega (arith, left, same, old, before)
+turn_rests w machine over few (waiting goes looks) =
+    let v = takes_events w.iop in
+    let less = rest_waits v ((takes_move w.iop).core machine.core) (taken_later w.iop)
+    looks.delivery_is looks.dispatch_is looks.active_is (next_coming v) refl in
+    let before = rest_is w false over goes.booted in
+    omega (arith, less, before)
 
-  -- where nothing is delivered, by what is dispatched
-  rest_dispatches : (o : Option Dispatched) → delivers (core_of v) ≡ None
-      → dispatches (core_of v) ≡ o → HasFewDelays (dispatches_by v o).state
-      → rest (booted (dispatches_by v o).state) + 1
-      ≤ behind v + (most_between + 1) * one_if (executes_by None false None o (is_active v.kernel))
-  rest_dispatches (Some d) none is few =
-      let less = rest_dispatched d is in omega (arith, less)
-  rest_dispatches None none is few = rest_acts none is (is_active v.kernel) refl few
-
-  -- by what is delivered
-  rest_delivers : (o : Option Delivered) → delivers (core_of v) ≡ o
-      → HasFewDelays (delivers_by v o).state
-      → rest (booted (delivers_by v o).state) + 1
-      ≤ behind v + (most_between + 1)
-      * one_if (executes_by None false o (dispatches (core_of v)) (is_active v.kernel))
-  rest_delivers (Some d) is few = let less = rest_delivered d is in omega (arith, less)
-  rest_delivers None is few = rest_dispatches (dispatches (core_of v)) is refl few
-
--- so is it after each step of a machine that was booted
-rest_goes : (s : Iop) → IsMachine (booted s) → s.over ≡ None → HasFewDelays (goes s).state
-    → rest (booted (goes s).state) + 1
-    ≤ rest (booted s) + (most_between + 1) * one_if (executes (booted s))
-rest_goes s machine over few =
-    let v = takes_events s in
-    let less = rest_delivers v ((takes_move s).core machine.core) (taken_later s)
-    (delivers (core_of v)) refl few in
-    let same = rest_is (booted s) false over refl in
-    let executing = ap one_if (executes_as (booted s) false _ _ _ over refl (looks_now s)) in
-    omega (arith, less, same, executing)
-
-module _ (w : World) (machine : IsMachine w) (over : w.iop.over ≡ None) where
-  -- the delays are few after the step, whatever it is
-  few_after : (t : Iop) → (step w).state ≡ booted t → HasFewDelays t
-  few_after t is =
-      subst (λ (x : World). HasFewDelays x.iop) is
-      (few_delays (step w).state (step_keeps_machine w machine over))
-
-  -- by whether it is to be booted
-  rest_after : (is_new : Bool) → w.is_new ≡ is_new
-      → rest (step w).state + 1 ≤ rest w + (most_between + 1) * one_if (executes w)
-  rest_after true new =
-      let t = (boots w.iop).state in
-      let is : (step w).state ≡ booted t =
-      ap (λ (x : Transition World). x.state) (step_begins w true over new) in
-      let left = rest_bounded t (few_after t is) in
-      let events = ap length (boots_events w.iop) in
-      let before = rest_is w true over new in
-      let after = ap rest is in
-      omega (arith, left, events, before, after)
-  rest_after false new =
-      let t = (goes w.iop).state in
-      let is : (step w).state ≡ booted t =
-      ap (λ (x : Transition World). x.state) (step_begins w false over new) in
-      let same : booted w.iop ≡ w =
-      ap (λ b. record { is_new = b; iop = w.iop }) (sym new) in
-      let goes_on = rest_goes w.iop (subst IsMachine (sym same) machine) over (few_after t is) in
-      let executing = ap (λ x. one_if (executes x)) same in
-      let before = ap rest same in
-      let after = ap rest is in
-      omega (arith, goes_on, executing, before, after)
-
-  -- each step that executes no instruction leaves fewer of them, and one that executes an
-  -- instruction at most `most_between` more
-  pub rest_step : rest (step w).state + 1 ≤ rest w + (most_between + 1) * one_if (executes w)
-  rest_step = rest_after w.is_new refl
+pub rest_step : (w : World) → IsMachine w → w.iop.over ≡ None
+    → rest (step w).state + 1 ≤ rest w + (most_between + 1) * one_if (executes w)
+unfolding step executes
+rest_step w machine over =
+    turn_rests w machine over (few_delays (step w).state (step_keeps_machine w machine over))
+    (turn_is w)

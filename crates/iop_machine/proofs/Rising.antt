@@ -1,23 +1,22 @@
 -- The clock is never put back.
-use Rattle.std.proofs.Common.{◌≡◌, ℕ, ◌≤◌, ◌^◌, Bool, true, false, Option, Some, None, List, [], refl, arith}
+use Rattle.std.proofs.Common.{◌≡◌, ℕ, ◌≤◌, ◌^◌, Option, Some, None, List, [], arith}
 use Rattle.std.specs.Prelude.{IfSome, MatchOption}
 use Rattle.iop_exec.specs.Row.{row}
-use Rattle.iop_kernel.specs.Deliveries.{Delivered, delivers}
-use Rattle.iop_kernel.specs.Dispatching.{Dispatched, dispatches}
 use Rattle.iop_kernel.specs.Laws.{IsCore}
-use Rattle.iop_kernel.specs.System.{is_active}
 use Rattle.iop_kernel.proofs.Settling.{dispatch_clock}
 use Rattle.iop_script.specs.declared.raise.Raise.{Raise}
 use Rattle.iop_time.specs.Turns.{next_moment}
 use Rattle.iop_machine.specs.Events.{earlier, next_tick}
 use Rattle.iop_machine.specs.Iop.{Iop, core_of}
 use Rattle.iop_machine.specs.Looking.{takes_events, next_coming}
-use Rattle.iop_machine.specs.Stepping.{waits_by, acts_by, dispatches_by, delivers_by, goes}
+use Rattle.iop_machine.specs.Stepping.{Turn, takes_turn, waits_by, step}
+use Rattle.iop_machine.specs.World.{World}
 use Rattle.iop_machine.proofs.CallsLeft.{delivery_leaves_fewer}
 use Rattle.iop_machine.proofs.Coming.{IsBetween, idle_may, moment_later}
 use Rattle.iop_machine.proofs.EventLemmas.{AreLater, IsNextTick, next_tick_is}
 use Rattle.iop_machine.proofs.LookingLemmas.{taken_clock, taken_later}
-use Rattle.iop_machine.proofs.Moving.{takes_move}
+use Rattle.iop_machine.proofs.Moving.{takes_move, boots_stand}
+use Rattle.iop_machine.proofs.Stepping.{IsTurn, stopped, unbooted, delivery, dispatch, execution, waiting, turn_is}
 use Rattle.iop_machine.proofs.Timing.{performs_clock}
 
 -- it is not before what it was
@@ -44,36 +43,32 @@ waits_rise : (s : Iop) (o : Option ℕ) → IfSome o (λ moment. s.kernel.clock 
 waits_rise s None later = omega arith
 waits_rise s (Some moment) later = later
 
-module _ (v : Iop) (core : IsCore (core_of v)) (later : AreLater v.kernel.clock v.events) where
-  -- by whether a thread or a handler executes
-  acts_rise : (active : Bool) → is_active v.kernel ≡ active → delivers (core_of v) ≡ None
-      → Rises v (acts_by v active).state
-  acts_rise false idle none =
-      waits_rise v (next_coming v)
-      (earlier_rises v.kernel.clock (2 ^ 63) v.events (next_tick v.events)
-      (next_moment v.kernel.timers) (next_tick_is v.events) later
-      (moment_later (core_of v) none (idle_may (core_of v) core idle)))
-  acts_rise true active none = (performs_clock v (row v.memory.ram v.cpu) active).rises
+-- a turn does not put the clock back
+turn_rises : (w : World) {t : Turn} → IsCore (core_of w.iop) → IsTurn w t
+    → Rises w.iop (takes_turn w t).state.iop
+turn_rises w core (stopped stop over) = omega arith
+turn_rises w core (unbooted over new) =
+    let clock = (boots_stand w.iop).clock in omega (arith, clock)
+turn_rises w core (delivery d goes is) =
+    let clock = (delivery_leaves_fewer (core_of (takes_events w.iop)) d is).clock in
+    omega (arith, clock, taken_clock w.iop)
+turn_rises w core (dispatch d goes none is) =
+    let clock = dispatch_clock (core_of (takes_events w.iop)) d is in
+    omega (arith, clock, taken_clock w.iop)
+turn_rises w core (execution goes looks) =
+    let v = takes_events w.iop in
+    let rises = (performs_clock v (row v.memory.ram v.cpu) looks.active_is).rises in
+    omega (arith, rises, taken_clock w.iop)
+turn_rises w core (waiting goes looks) =
+    let v = takes_events w.iop in
+    let rises = waits_rise v (next_coming v)
+    (earlier_rises v.kernel.clock (2 ^ 63) v.events (next_tick v.events)
+    (next_moment v.kernel.timers) (next_tick_is v.events) (taken_later w.iop)
+    (moment_later (core_of v) looks.delivery_is
+    (idle_may (core_of v) ((takes_move w.iop).core core) looks.active_is))) in
+    omega (arith, rises, taken_clock w.iop)
 
-  -- by what is dispatched
-  dispatches_rise : (o : Option Dispatched) → dispatches (core_of v) ≡ o
-      → delivers (core_of v) ≡ None → Rises v (dispatches_by v o).state
-  dispatches_rise (Some d) is none =
-      let same = dispatch_clock (core_of v) d is in omega (arith, same)
-  dispatches_rise None is none = acts_rise (is_active v.kernel) refl none
-
-  -- by what is delivered
-  delivers_rise : (o : Option Delivered) → delivers (core_of v) ≡ o
-      → Rises v (delivers_by v o).state
-  delivers_rise (Some d) is =
-      let same = (delivery_leaves_fewer (core_of v) d is).clock in omega (arith, same)
-  delivers_rise None is = dispatches_rise (dispatches (core_of v)) refl is
-
--- a step of the machine that was booted does not put the clock back
-pub goes_rise : (s : Iop) → IsCore (core_of s) → Rises s (goes s).state
-goes_rise s core =
-    let v = takes_events s in
-    let same = taken_clock s in
-    let rises = delivers_rise v ((takes_move s).core core) (taken_later s)
-    (delivers (core_of v)) refl in
-    omega (arith, same, rises)
+-- nor does a step
+pub step_rises : (w : World) → IsCore (core_of w.iop) → Rises w.iop (step w).state.iop
+unfolding step
+step_rises w core = turn_rises w core (turn_is w)

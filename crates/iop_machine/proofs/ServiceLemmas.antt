@@ -29,7 +29,7 @@ use Rattle.iop_machine.specs.Standing.{iop_of, Stands}
 use Rattle.iop_kernel.proofs.Faulting.{services_alone}
 use Rattle.iop_kernel.proofs.KeepingServices.{services_keep}
 use Rattle.iop_machine.proofs.Inside.{length-after_stores}
-use Rattle.iop_machine.proofs.LoadingLands.{loads_first_lands}
+use Rattle.iop_machine.proofs.LoadingLands.{returns_leave}
 use Rattle.iop_machine.proofs.StandingLemmas.{IsMoment, carried}
 use Rattle.iop_machine.proofs.Taking.{takes_as, takes_then, takes_with}
 
@@ -111,22 +111,6 @@ returns_takes {m} {now} {a} {b} o value is g s h =
     subst (λ x. Takes Stands (returns_by s x value) now a b)
     (sym (ap (λ (x : Iop). x.begun) h.rest ∙ is)) (g s h)
 
--- the end of the loader's thread takes no time
-goes_on_clock : (s : Iop) (o : Option BegunModule) → (goes_on_by s o).kernel.clock ≡ s.kernel.clock
-goes_on_clock s None = refl
-goes_on_clock s (Some begun) = refl
-
--- nor does the return of a module
-pub returns_clock : (s : Iop) (o : Option BegunModule) (value : ℕ)
-    → (returns_by s o value).state.kernel.clock ≡ s.kernel.clock
-unfolding ends_module
-returns_clock s None value = refl
-returns_clock s (Some m) value =
-    let l = finishes s.kernel.clock s.memory s.blocks s.libraries m.number m.loaded value in
-    let loaded = loads_first s.modules (leaves s l).state in
-    goes_on_clock loaded.state loaded.state.begun
-    ∙ ap (λ (k : Kernel). k.clock) (loads_first_lands s.modules (leaves s l).state).kernel
-
 -- the processor stands again where it stood before
 pub stands_restored : (m : Program) (before : Position) (cpu : Cpu) → cpu ≡ standing_at before m.cpu
     → (s : Iop) → Stands m s
@@ -178,14 +162,7 @@ module _ {m left : Program} {code : ℕ} {after : After} {a b : Output}
       record {
         state = record {
           kernel = record { holds = taken.core.kernel; placed = done.placed };
-          rest = ap (λ (v : Cpu). record now
-              { cpu = v; memory = x.memory; blocks = x.blocks; libraries = x.libraries })
-              (sym taken.core.processor)
-              ∙ ap (λ (v : Memory). record now
-              { memory = v; blocks = x.blocks; libraries = x.libraries }) (sym taken.ram)
-              ∙ ap (λ (v : BlockMap). record now { blocks = v; libraries = x.libraries })
-              (sym taken.map)
-              ∙ ap (λ (v : List Library). record now { libraries = v }) (sym taken.registry);
+          rest = cc (taken.core.processor, taken.ram, taken.map, taken.registry);
         };
         gives = taken.gives;
       })
@@ -244,4 +221,5 @@ module _ {m left : Program} {code : ℕ} {after : After} {a b : Output}
 pub clock_returned : {v now : Program} {a b : Output} (value : ℕ) (s : Iop) → Stands v s
     → Takes Stands (returns_by s s.begun value) now a b → now.kernel.clock ≡ v.kernel.clock
 clock_returned value s stands t =
-    sym t.state.kernel.holds.clock ∙ returns_clock s s.begun value ∙ stands.kernel.holds.clock
+    let clock = ap (λ (k : Kernel). k.clock) (returns_leave s s.begun value).kernel in
+    sym t.state.kernel.holds.clock ∙ clock ∙ stands.kernel.holds.clock

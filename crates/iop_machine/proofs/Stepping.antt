@@ -7,31 +7,11 @@ use Rattle.iop_kernel.specs.Deliveries.{Delivered, delivers}
 use Rattle.iop_kernel.specs.Dispatching.{Dispatched, dispatches}
 use Rattle.iop_kernel.specs.System.{is_active}
 use Rattle.iop_machine.specs.Iop.{Iop, Transition, silent, with_state, core_of}
-use Rattle.iop_machine.specs.Loading.{boots}
 use Rattle.iop_machine.specs.Looking.{takes_events, next_coming}
 use Rattle.iop_machine.specs.Running.{Runs}
-use Rattle.iop_machine.specs.Stepping.{performs, waits_by, acts_by, dispatches_by, delivers_by, begins_by, step, steps_by, executes, executes_by, stops_by, stop_at}
+use Rattle.iop_machine.specs.Stepping.{performs, Turn, Stays, Boots, Delivers, Dispatches, Executes, Waits, turn_by, turn_of, takes_turn, is_execution, step, executes, stops_by, stop_at}
 use Rattle.iop_machine.specs.World.{World, booted}
 use Rattle.iop_machine.proofs.LookingLemmas.{takes_none}
-
--- what is stopped stays as it is
-pub step_over : (w : World) (stop : Stop) → w.iop.over ≡ Some stop → step w ≡ silent w
-unfolding step
-step_over w stop e = ap (steps_by w) e
-
--- what is not stopped boots or goes on
-pub step_begins : (w : World) (is_new : Bool) → w.iop.over ≡ None → w.is_new ≡ is_new
-    → step w ≡ with_state booted (begins_by w.iop is_new)
-unfolding step
-step_begins w is_new e f =
-    ap (steps_by w) e ∙ ap (λ x. with_state booted (begins_by w.iop x)) f
-
--- whether an instruction is executed, by all that it depends on
-pub executes_are : (w : World) → executes w
-    ≡ executes_by w.iop.over w.is_new (delivers (core_of (takes_events w.iop)))
-    (dispatches (core_of (takes_events w.iop))) (is_active (takes_events w.iop).kernel)
-unfolding executes
-executes_are w = refl
 
 -- what is to be done before an instruction, and whether a thread or a handler executes then
 pub record Looks (s : Iop) (delivery : Option Delivered) (dispatch : Option Dispatched)
@@ -40,28 +20,87 @@ pub record Looks (s : Iop) (delivery : Option Delivered) (dispatch : Option Disp
   pub dispatch_is : dispatches (core_of (takes_events s)) ≡ dispatch
   pub active_is : is_active (takes_events s).kernel ≡ active
 
--- where it is not stopped
-pub executes_as : (w : World) (is_new : Bool) (delivery : Option Delivered)
-    (dispatch : Option Dispatched) (active : Bool) → w.iop.over ≡ None → w.is_new ≡ is_new
-    → Looks w.iop delivery dispatch active
-    → executes w ≡ executes_by None is_new delivery dispatch active
-executes_as w is_new delivery dispatch active over new h =
-    let v = takes_events w.iop in
-    executes_are w
-    ∙ ap (λ x. executes_by x w.is_new (delivers (core_of v)) (dispatches (core_of v))
-    (is_active v.kernel)) over
-    ∙ ap (λ x. executes_by None x (delivers (core_of v)) (dispatches (core_of v))
-    (is_active v.kernel)) new
-    ∙ ap (λ x. executes_by None is_new x (dispatches (core_of v)) (is_active v.kernel))
-    h.delivery_is
-    ∙ ap (λ x. executes_by None is_new delivery x (is_active v.kernel)) h.dispatch_is
-    ∙ ap (executes_by None is_new delivery dispatch) h.active_is
+-- it was booted, and is not stopped
+pub record GoesOn (w : World) : Type 0 where
+  pub over : w.iop.over ≡ None
+  pub booted : w.is_new ≡ false
 
--- whatever is to be done
-pub looks_now : (s : Iop)
-    → Looks s (delivers (core_of (takes_events s))) (dispatches (core_of (takes_events s)))
-    (is_active (takes_events s).kernel)
-looks_now s = record { delivery_is = refl; dispatch_is = refl; active_is = refl }
+-- a turn, with what is known where it is taken
+pub data IsTurn (w : World) : Turn → Type 0 where
+  stopped : (stop : Stop) → w.iop.over ≡ Some stop → IsTurn w Stays
+  unbooted : w.iop.over ≡ None → w.is_new ≡ true → IsTurn w Boots
+  delivery : (d : Delivered) → GoesOn w → delivers (core_of (takes_events w.iop)) ≡ Some d
+      → IsTurn w (Delivers d)
+  dispatch : (d : Dispatched) → GoesOn w → delivers (core_of (takes_events w.iop)) ≡ None
+      → dispatches (core_of (takes_events w.iop)) ≡ Some d → IsTurn w (Dispatches d)
+  execution : GoesOn w → Looks w.iop None None true
+      → IsTurn w (Executes (row (takes_events w.iop).memory.ram (takes_events w.iop).cpu))
+  waiting : GoesOn w → Looks w.iop None None false
+      → IsTurn w (Waits (next_coming (takes_events w.iop)))
+
+turn_case : (w : World) (o : Option Stop) (is_new : Bool) (delivering : Option Delivered)
+    (dispatching : Option Dispatched) (active : Bool) → w.iop.over ≡ o → w.is_new ≡ is_new
+    → Looks w.iop delivering dispatching active
+    → IsTurn w (turn_by (takes_events w.iop) o is_new delivering dispatching active)
+turn_case w (Some stop) is_new _ _ active over new h = stopped stop over
+turn_case w None true _ _ active over new h = unbooted over new
+turn_case w None false (Some d) _ active over new h =
+    delivery d (record { over = over; booted = new }) h.delivery_is
+turn_case w None false None (Some d) active over new h =
+    dispatch d (record { over = over; booted = new }) h.delivery_is h.dispatch_is
+turn_case w None false None None true over new h =
+    execution (record { over = over; booted = new }) h
+turn_case w None false None None false over new h =
+    waiting (record { over = over; booted = new }) h
+
+-- each step takes a turn
+pub turn_is : (w : World) → IsTurn w (turn_of w)
+turn_is w =
+    turn_case w _ _ _ _ _ refl refl
+    (record { delivery_is = refl; dispatch_is = refl; active_is = refl })
+
+pub step_is : (w : World) → step w ≡ takes_turn w (turn_of w)
+unfolding step
+step_is w = refl
+
+pub executes_are : (w : World) → executes w ≡ is_execution (turn_of w)
+unfolding executes
+executes_are w = refl
+
+-- that turn
+pub step_as : (w : World) (t : Turn) → turn_of w ≡ t → step w ≡ takes_turn w t
+step_as w t e = step_is w ∙ ap (takes_turn w) e
+
+-- which one, where it is stopped, is still to be booted, or goes on
+pub turn_over : (w : World) (stop : Stop) → w.iop.over ≡ Some stop → turn_of w ≡ Stays
+turn_over w stop e =
+    let v = takes_events w.iop in
+    ap (λ o. turn_by v o w.is_new (delivers (core_of v)) (dispatches (core_of v))
+    (is_active v.kernel)) e
+
+pub turn_boots : (w : World) → w.iop.over ≡ None → w.is_new ≡ true → turn_of w ≡ Boots
+turn_boots w e f =
+    let v = takes_events w.iop in
+    ap (λ o. turn_by v o w.is_new (delivers (core_of v)) (dispatches (core_of v))
+    (is_active v.kernel)) e
+    ∙ ap (λ b. turn_by v None b (delivers (core_of v)) (dispatches (core_of v))
+    (is_active v.kernel)) f
+
+pub turn_as : (s : Iop) (delivering : Option Delivered) (dispatching : Option Dispatched)
+    (active : Bool) → s.over ≡ None → Looks s delivering dispatching active
+    → turn_of (booted s) ≡ turn_by (takes_events s) None false delivering dispatching active
+turn_as s delivering dispatching active over h =
+    let v = takes_events s in
+    ap (λ o. turn_by v o false (delivers (core_of v)) (dispatches (core_of v))
+    (is_active v.kernel)) over
+    ∙ ap (λ x. turn_by v None false x (dispatches (core_of v)) (is_active v.kernel))
+    h.delivery_is
+    ∙ ap (λ x. turn_by v None false delivering x (is_active v.kernel)) h.dispatch_is
+    ∙ ap (turn_by v None false delivering dispatching) h.active_is
+
+-- what is stopped stays as it is
+pub step_over : (w : World) (stop : Stop) → w.iop.over ≡ Some stop → step w ≡ silent w
+step_over w stop e = step_as w Stays (turn_over w stop e)
 
 -- why a run stops, by whether it is stopped and executes
 stop_is : (w : World) (left : ℕ) (o : Option Stop) (b : Bool) → w.iop.over ≡ o → executes w ≡ b
@@ -84,85 +123,65 @@ pub record IsNext (executing : Bool) (left : ℕ) (w : World) (t : Transition Wo
   pub executing_is : executes w ≡ executing
   pub step_is : step w ≡ t
 
--- a step that executes no instruction
-next_without : (w : World) (left : ℕ) (t : Transition World) → w.iop.over ≡ None
-    → executes w ≡ false → step w ≡ t → IsNext false left w t
-next_without w left t over executing is = record {
-  goes_on = stop_is w left None false over executing;
-  executing_is = executing;
-  step_is = is;
-}
+-- a turn that executes no instruction
+next_without : (w : World) (left : ℕ) (t : Turn) → w.iop.over ≡ None → turn_of w ≡ t
+    → is_execution t ≡ false → IsNext false left w (takes_turn w t)
+next_without w left t over is none =
+    let executing = executes_are w ∙ ap is_execution is ∙ none in
+    record {
+      goes_on = stop_is w left None false over executing;
+      executing_is = executing;
+      step_is = step_as w t is;
+    }
 
 -- it boots
 pub next_boots : (w : World) (left : ℕ) → w.iop.over ≡ None → w.is_new ≡ true
-    → IsNext false left w (with_state booted (boots w.iop))
-next_boots w left e f =
-    next_without w left _ e (executes_as w true _ _ _ e f (looks_now w.iop))
-    (step_begins w true e f)
+    → IsNext false left w (takes_turn w Boots)
+next_boots w left e f = next_without w left Boots e (turn_boots w e f) refl
 
 module _ (s : Iop) (left : ℕ) (over : s.over ≡ None) where
-  -- once it was booted it goes on, behind the script's events that are due
+  -- behind the script's events that are due
   abbrev pub taken : Iop
   taken = takes_events s
 
-  -- by what is delivered
-  goes_as : (delivery : Option Delivered) → delivers (core_of taken) ≡ delivery
-      → step (booted s) ≡ with_state booted (delivers_by taken delivery)
-  goes_as delivery e =
-      step_begins (booted s) false over refl ∙ ap (λ x. with_state booted (delivers_by taken x)) e
-
-  -- where nothing is, by what is dispatched
-  dispatches_as : (dispatch : Option Dispatched) → delivers (core_of taken) ≡ None
-      → dispatches (core_of taken) ≡ dispatch
-      → step (booted s) ≡ with_state booted (dispatches_by taken dispatch)
-  dispatches_as dispatch e f =
-      goes_as None e ∙ ap (λ x. with_state booted (dispatches_by taken x)) f
-
-  -- where nothing is, by whether a thread or a handler executes
-  acts_as : (active : Bool) → Looks s None None active
-      → step (booted s) ≡ with_state booted (acts_by taken active)
-  acts_as active h =
-      dispatches_as None h.delivery_is h.dispatch_is
-      ∙ ap (λ x. with_state booted (acts_by taken x)) h.active_is
-
   -- a line, an alarm or a delay is delivered
   pub next_delivers : (d : Delivered) → delivers (core_of taken) ≡ Some d
-      → IsNext false left (booted s) (with_state booted (delivers_by taken (Some d)))
+      → IsNext false left (booted s) (takes_turn (booted s) (Delivers d))
   next_delivers d e =
-      next_without (booted s) left _ over
-      (executes_as (booted s) false (Some d) _ _ over refl
-      (record { delivery_is = e; dispatch_is = refl; active_is = refl }))
-      (goes_as (Some d) e)
+      next_without (booted s) left (Delivers d) over
+      (turn_as s (Some d) _ _ over
+      (record { delivery_is = e; dispatch_is = refl; active_is = refl })) refl
 
   -- a thread is dispatched
   pub next_dispatches : (d : Dispatched) → delivers (core_of taken) ≡ None
       → dispatches (core_of taken) ≡ Some d
-      → IsNext false left (booted s) (with_state booted (dispatches_by taken (Some d)))
+      → IsNext false left (booted s) (takes_turn (booted s) (Dispatches d))
   next_dispatches d e f =
-      next_without (booted s) left _ over
-      (executes_as (booted s) false None (Some d) _ over refl
-      (record { delivery_is = e; dispatch_is = f; active_is = refl }))
-      (dispatches_as (Some d) e f)
+      next_without (booted s) left (Dispatches d) over
+      (turn_as s None (Some d) _ over
+      (record { delivery_is = e; dispatch_is = f; active_is = refl })) refl
 
   -- the clock goes on, or all is quiet
   pub next_waits : Looks s None None false
-      → IsNext false left (booted s) (with_state booted (waits_by taken (next_coming taken)))
+      → IsNext false left (booted s) (takes_turn (booted s) (Waits (next_coming taken)))
   next_waits h =
-      next_without (booted s) left _ over (executes_as (booted s) false None None false over refl h)
-      (acts_as false h)
+      next_without (booted s) left (Waits (next_coming taken)) over
+      (turn_as s None None false over h) refl
 
   -- what is executed is executed
   module _ (h : Looks s None None true) where
+    abbrev turn : Turn
+    turn = Executes (row taken.memory.ram taken.cpu)
+
     is_executing : executes (booted s) ≡ true
-    is_executing = executes_as (booted s) false None None true over refl h
+    is_executing = executes_are (booted s) ∙ ap is_execution (turn_as s None None true over h)
 
     -- an instruction is executed, where one is left
-    pub next_performs : 0 < left → IsNext true left (booted s)
-        (with_state booted (performs taken (row taken.memory.ram taken.cpu)))
+    pub next_performs : 0 < left → IsNext true left (booted s) (takes_turn (booted s) turn)
     next_performs some = record {
       goes_on = stop_is (booted s) left None true over is_executing ∙ goes_with left some;
       executing_is = is_executing;
-      step_is = acts_as true h;
+      step_is = step_as (booted s) turn (turn_as s None None true over h);
     }
 
     -- where none is left the run stops

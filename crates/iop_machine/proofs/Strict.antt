@@ -14,7 +14,7 @@ use Rattle.iop_time.specs.declared.ticks.TheConstants.{NEVER}
 use Rattle.iop_machine.specs.Iop.{Iop, Transition, core_of, with_core, with_state}
 use Rattle.iop_machine.specs.Laws.{IsMachine, StepsTo, IsStrict, RunsAreStrict, RunsAreOnTime, IsAwake, RunsAreAwake}
 use Rattle.iop_machine.specs.Looking.{takes_events, next_coming}
-use Rattle.iop_machine.specs.Stepping.{step, steps, waits_by}
+use Rattle.iop_machine.specs.Stepping.{Turn, takes_turn, step, steps, waits_by}
 use Rattle.iop_machine.specs.World.{World, booted, beginning}
 use Rattle.iop_machine.proofs.Coming.{IsBetween, coming_later, idle_by}
 use Rattle.iop_machine.proofs.Executing.{executes_so}
@@ -22,8 +22,7 @@ use Rattle.iop_machine.proofs.KeepingMachine.{begins_as_machine, steps_keep_mach
 use Rattle.iop_machine.proofs.Landing.{runs_stay_sound}
 use Rattle.iop_machine.proofs.LookingLemmas.{taken_active}
 use Rattle.iop_machine.proofs.Moving.{takes_move}
-use Rattle.iop_machine.proofs.Reaching.{steps_zero, steps_suc}
-use Rattle.iop_machine.proofs.Stepping.{Looks, step_over, step_begins, next_delivers, next_dispatches, next_waits}
+use Rattle.iop_machine.proofs.Stepping.{Looks, IsTurn, stopped, turn_is, next_delivers, next_dispatches, next_waits}
 
 -- where a step does no more
 steps_to : (w : World) (core : Core) (line : Piece)
@@ -53,24 +52,23 @@ is_strict s core over =
           (executes_so (booted s) e).looks.dispatch_is may;
     }
 
--- a step leaves booted what was booted
-step_booted : (w : World) (o : Option Stop) → w.iop.over ≡ o → w.is_new ≡ false
+-- a turn leaves booted what is not stopped, or was booted
+turn_booted : {w : World} {t : Turn} → IsTurn w t
+    → ((stop : Stop) → w.iop.over ≡ Some stop → w.is_new ≡ false)
+    → (takes_turn w t).state.is_new ≡ false
+turn_booted (stopped stop over) was = was stop over
+turn_booted _ was = refl
+
+step_booted : (w : World) → ((stop : Stop) → w.iop.over ≡ Some stop → w.is_new ≡ false)
     → (step w).state.is_new ≡ false
-step_booted w None over new =
-    ap (λ (t : Transition World). t.state.is_new) (step_begins w false over new)
-step_booted w (Some stop) over new =
-    ap (λ (t : Transition World). t.state.is_new) (step_over w stop over) ∙ new
+unfolding step
+step_booted w = turn_booted (turn_is w)
 
 -- behind the first step it is booted
 runs_booted : (w : World) (k : ℕ) → w.iop.over ≡ None → (steps (suc k) w).state.is_new ≡ false
-runs_booted w zero over =
-    ap (λ (t : Transition World). t.state.is_new) (steps_suc 0 w)
-    ∙ ap (λ (t : Transition World). (step t.state).state.is_new) (steps_zero w)
-    ∙ ap (λ (t : Transition World). t.state.is_new) (step_begins w w.is_new over refl)
-runs_booted w (suc k) over =
-    let v = (steps (suc k) w).state in
-    ap (λ (t : Transition World). t.state.is_new) (steps_suc (suc k) w)
-    ∙ step_booted v v.iop.over refl (runs_booted w k over)
+unfolding steps
+runs_booted w zero over = step_booted w (λ stop is. absurd (cc (over, is)))
+runs_booted w (suc k) over = step_booted (steps (suc k) w).state (λ stop is. runs_booted w k over)
 
 run_is_booted : (w : World) (k : ℕ) → w.iop.over ≡ None
     → booted (steps (suc k) w).state.iop ≡ (steps (suc k) w).state
@@ -137,7 +135,7 @@ is_awake s machine over =
       switches = idle_switches (core_of v) ((takes_move s).core machine.core);
       later = λ idle none moment is.
           comes_between v.kernel.clock NEVER moment (next_coming v)
-          (coming_later s machine none (sym (taken_active s) ∙ idle)) is;
+          (coming_later (booted s) machine none (sym (taken_active s) ∙ idle)) is;
       goes_on = λ idle none still moment is.
           waits idle none still ∙ ap (λ x. with_state booted (waits_by v x)) is;
       ends = λ idle none still is.

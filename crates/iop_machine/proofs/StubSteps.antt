@@ -3,7 +3,7 @@ use Rattle.std.proofs.Common.{◌≡◌, ℕ, ◌+◌, Bool, true, false, cond, 
 use Rattle.std.specs.Prelude.{Contains, is_some, option_map}
 use Rattle.iop_base.specs.Places.{phys}
 use Rattle.iop_base.specs.declared.guest_fault.GuestFault.TheVariants.{BranchInSlot}
-use Rattle.iop_exec.proofs.Following.{row_follows}
+use Rattle.iop_exec.proofs.RowKeeps.{rows_go_to_next}
 use Rattle.iop_exec.specs.Laws.{GoesToNext}
 use Rattle.iop_exec.specs.Row.{Row, Goes, Faults, Storing, row}
 use Rattle.iop_exec.specs.declared.cpu.Cpu.{Cpu}
@@ -22,7 +22,6 @@ use Rattle.iop_machine.specs.World.{World, booted}
 use Rattle.iop_machine.proofs.Executing.{Executes, executes_so}
 use Rattle.iop_machine.proofs.LookingLemmas.{taken_irqs, taken_active, taken_core, dispatches_taken}
 use Rattle.iop_machine.proofs.Raising.{dispatched_with}
-use Rattle.iop_machine.proofs.Reaching.{steps_zero, steps_suc}
 use Rattle.iop_machine.proofs.Stepping.{next_performs}
 use Rattle.iop_machine.proofs.StubLemmas.{reaches}
 
@@ -41,10 +40,8 @@ performs_as s r h e =
     ∙ ap (λ x. with_state booted (performs (takes_events s) x)) e
 
 two_steps : (w : World) → (steps 2 w).state ≡ (step (step w).state).state
-two_steps w =
-    ap (λ (t : Transition World). t.state) (steps_suc 1 w)
-    ∙ ap (λ (t : Transition World). (step t.state).state) (steps_suc 0 w)
-    ∙ ap (λ (t : Transition World). (step (step t.state).state).state) (steps_zero w)
+unfolding steps
+two_steps w = refl
 
 -- in a slot nothing may be delivered to a thread that runs, and to a handler nothing may ever
 closed_by : (interrupts : Bool) (handler : Option ActiveHandler) (running : Option ℕ) (slot : Bool)
@@ -106,7 +103,7 @@ module _ (s : Iop) (stub : Stub) (h : Executes s) (sound : IsSound s.memory)
       ∙ ap (λ (t : Transition World). t.state.iop.cpu.pc)
       (performs_as behind (Goes after storing) goes_on e)
       ∙ ap (λ (c : Cpu). c.pc) (cpu_of (takes_events behind) after storing)
-      ∙ subst (GoesToNext behind.cpu) e (row_follows s.memory.ram behind.cpu).next
+      ∙ subst (GoesToNext behind.cpu) e (rows_go_to_next s.memory.ram behind.cpu)
 
 pub stubs_are_followed : StubsAreFollowed
 stubs_are_followed = λ s stub e sound has place out.

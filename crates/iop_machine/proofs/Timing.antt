@@ -1,34 +1,27 @@
 -- How far steps take the clock: never back, and on by one tick for each instruction at most, but for
 -- what comes before 2^63.
-use Rattle.std.proofs.Common.{◌≡◌, ℕ, zero, suc, ◌+◌, ◌-◌, ◌≤◌, ◌^◌, max, Bool, true, false, Option, Some, None, refl, ap, sym, ◌∙◌, arith, subst}
+use Rattle.std.proofs.Common.{◌≡◌, ℕ, zero, suc, ◌+◌, ◌-◌, ◌≤◌, ◌^◌, max, true, Option, Some, None, refl, ap, sym, ◌∙◌, arith, subst}
 use Rattle.std.specs.Prelude.{IfSome}
 use Rattle.iop_base.specs.Numbers.{one_if}
-use Rattle.iop_base.specs.declared.stop.Stop.{Stop}
 use Rattle.iop_exec.specs.Row.{Row, Goes, Serves, Faults, at_next, row}
-use Rattle.iop_kernel.specs.Deliveries.{Delivered, delivers}
-use Rattle.iop_kernel.specs.Dispatching.{Dispatched, dispatches}
 use Rattle.iop_kernel.proofs.KeepingServices.{services_keep}
 use Rattle.iop_kernel.specs.Serving.{services}
 use Rattle.iop_kernel.specs.System.{Kernel, Served, is_active}
 use Rattle.iop_kernel.specs.declared.after.After.{After}
 use Rattle.iop_kernel.specs.declared.after.After.TheVariants.{Resume, Switch, ModuleReturned, Fault}
-use Rattle.iop_machine.specs.declared.begun_module.BegunModule.{BegunModule}
-use Rattle.iop_machine.specs.Iop.{Iop, Transition, core_of, system_of}
+use Rattle.iop_machine.specs.Iop.{Iop, core_of, system_of}
 use Rattle.iop_machine.specs.Laws.{IsMachine}
-use Rattle.iop_machine.specs.Loading.{loads_first, with_kernel, starts_by, boots}
 use Rattle.iop_machine.specs.Looking.{takes_events, next_coming}
 use Rattle.iop_machine.specs.Services.{calls, calls_by, serves}
-use Rattle.iop_machine.specs.Stepping.{performs, waits_by, acts_by, dispatches_by, delivers_by, goes, step, steps, executes, executed, executes_by}
-use Rattle.iop_machine.specs.World.{World, booted}
+use Rattle.iop_machine.specs.Stepping.{Turn, takes_turn, is_execution, performs, waits_by, step, steps, executes, executed}
+use Rattle.iop_machine.specs.World.{World}
 use Rattle.iop_machine.proofs.CallsLeft.{delivery_leaves_fewer}
 use Rattle.iop_machine.proofs.Coming.{IsBetween, coming_later}
 use Rattle.iop_machine.proofs.KeepingMachine.{steps_keep_machine}
-use Rattle.iop_machine.proofs.LoadingLands.{loads_first_lands}
+use Rattle.iop_machine.proofs.LoadingLands.{boots_leave, returns_leave}
 use Rattle.iop_machine.proofs.LookingLemmas.{taken_clock, taken_active}
 use Rattle.iop_machine.proofs.Raising.{dispatch_kernel}
-use Rattle.iop_machine.proofs.Reaching.{steps_zero, steps_suc, executed_suc}
-use Rattle.iop_machine.proofs.ServiceLemmas.{returns_clock}
-use Rattle.iop_machine.proofs.Stepping.{step_over, step_begins, executes_as, looks_now}
+use Rattle.iop_machine.proofs.Stepping.{IsTurn, stopped, unbooted, delivery, dispatch, execution, waiting, turn_is}
 
 -- the clock is not put back, and goes on by so many ticks at most, or up to the last moment that comes
 pub record GoesTo (old ticks new : ℕ) : Type 0 where
@@ -42,22 +35,6 @@ still old ticks new is = record { rises = omega (arith, is); latest = omega (ari
 one_more : (old new : ℕ) → new ≡ old + 1 → GoesTo old 1 new
 one_more old new is = record { rises = omega (arith, is); latest = omega (arith, is) }
 
--- booting changes the threads of the kernel alone
-starts_kernel : (v : Iop) (o : Option BegunModule)
-    → (starts_by v o).kernel ≡ record v.kernel { threads = (starts_by v o).kernel.threads }
-starts_kernel v None = refl
-starts_kernel v (Some begun) = refl
-
--- whatever module begins
-pub boots_kernel : (s : Iop)
-    → (boots s).state.kernel ≡ record s.kernel { threads = (boots s).state.kernel.threads }
-unfolding boots
-boots_kernel s =
-    let left = (loads_first s.modules (with_kernel s)).state in
-    starts_kernel left left.begun
-    ∙ ap (λ (k : Kernel). record k { threads = (starts_by left left.begun).kernel.threads })
-    (loads_first_lands s.modules (with_kernel s)).kernel
-
 -- a call takes one tick, but for one that faults
 calls_clock : (s : Iop) (d : Served) (after : After)
     → d.left.state.core.kernel.clock ≡ s.kernel.clock
@@ -66,7 +43,8 @@ calls_clock s d Resume same = one_more _ _ (ap (λ n. n + 1) same)
 calls_clock s d Switch same = one_more _ _ (ap (λ n. n + 1) same)
 calls_clock s d (ModuleReturned value) same =
     let now = (serves s d).state in
-    one_more _ _ (ap (λ n. n + 1) (returns_clock now now.begun value ∙ same))
+    let clock = ap (λ (k : Kernel). k.clock) (returns_leave now now.begun value).kernel in
+    one_more _ _ (ap (λ n. n + 1) (clock ∙ same))
 calls_clock s d (Fault kind) same = still _ 1 _ refl
 
 -- so does an instruction
@@ -90,82 +68,48 @@ waits_clock v ticks (Some moment) between =
     let comes = between.1 in
     record { rises = omega (arith, later); latest = omega (arith, later, comes) }
 
-module _ (s : Iop) (machine : IsMachine (booted s)) where
-  abbrev taken : Iop
-  taken = takes_events s
+-- what is done behind the script's events that are due is done at this moment
+behind_events : (s : Iop) {ticks new : ℕ} → GoesTo (takes_events s).kernel.clock ticks new
+    → GoesTo s.kernel.clock ticks new
+behind_events s {ticks} {new} = subst (λ old. GoesTo old ticks new) (taken_clock s)
 
-  -- by whether a thread or a handler executes
-  acts_clock : (active : Bool) → delivers (core_of taken) ≡ None → is_active taken.kernel ≡ active
-      → GoesTo taken.kernel.clock (one_if active) (acts_by taken active).state.kernel.clock
-  acts_clock false none idle =
-      waits_clock taken 0 (next_coming taken)
-      (coming_later s machine none (sym (taken_active s) ∙ idle))
-  acts_clock true none active = performs_clock taken (row taken.memory.ram taken.cpu) active
+-- a turn takes it on by a tick for an instruction
+turn_clock : (w : World) {t : Turn} → IsMachine w → IsTurn w t
+    → GoesTo w.iop.kernel.clock (one_if (is_execution t)) (takes_turn w t).state.iop.kernel.clock
+turn_clock w machine (stopped stop over) = still _ 0 _ refl
+turn_clock w machine (unbooted over new) =
+    still _ 0 _ (ap (λ (k : Kernel). k.clock) (boots_leave w.iop).kernel)
+turn_clock w machine (delivery d goes is) =
+    behind_events w.iop
+    (still _ 0 _ (delivery_leaves_fewer (core_of (takes_events w.iop)) d is).clock)
+turn_clock w machine (dispatch d goes none is) =
+    behind_events w.iop
+    (still _ 0 _ (ap (λ (k : Kernel). k.clock)
+    (dispatch_kernel (core_of (takes_events w.iop)) d is)))
+turn_clock w machine (execution goes looks) =
+    let v = takes_events w.iop in
+    behind_events w.iop (performs_clock v (row v.memory.ram v.cpu) looks.active_is)
+turn_clock w machine (waiting goes looks) =
+    let v = takes_events w.iop in
+    behind_events w.iop (waits_clock v 0 (next_coming v)
+    (coming_later w machine looks.delivery_is (sym (taken_active w.iop) ∙ looks.active_is)))
 
-  -- by what is dispatched
-  dispatches_clock : (o : Option Dispatched) → delivers (core_of taken) ≡ None
-      → dispatches (core_of taken) ≡ o
-      → GoesTo taken.kernel.clock (one_if (executes_by None false None o (is_active taken.kernel)))
-      (dispatches_by taken o).state.kernel.clock
-  dispatches_clock None none is = acts_clock (is_active taken.kernel) none refl
-  dispatches_clock (Some d) none is =
-      still _ 0 _ (ap (λ (k : Kernel). k.clock) (dispatch_kernel (core_of taken) d is))
-
-  -- by what is delivered
-  delivers_clock : (o : Option Delivered) → delivers (core_of taken) ≡ o
-      → GoesTo taken.kernel.clock
-      (one_if (executes_by None false o (dispatches (core_of taken)) (is_active taken.kernel)))
-      (delivers_by taken o).state.kernel.clock
-  delivers_clock None is = dispatches_clock (dispatches (core_of taken)) is refl
-  delivers_clock (Some d) is = still _ 0 _ (delivery_leaves_fewer (core_of taken) d is).clock
-
-  -- a step of a machine that was booted
-  goes_clock : s.over ≡ None
-      → GoesTo s.kernel.clock (one_if (executes (booted s))) (goes s).state.kernel.clock
-  goes_clock over =
-      subst (λ n. GoesTo n (one_if (executes (booted s))) (goes s).state.kernel.clock)
-      (taken_clock s)
-      (subst (λ b. GoesTo taken.kernel.clock (one_if b) (goes s).state.kernel.clock)
-      (sym (executes_as (booted s) false _ _ _ over refl (looks_now s)))
-      (delivers_clock (delivers (core_of taken)) refl))
-
-module _ (w : World) (machine : IsMachine w) where
-  -- a step, by whether it is to be booted
-  begins_clock : (is_new : Bool) → w.is_new ≡ is_new → w.iop.over ≡ None
-      → GoesTo w.iop.kernel.clock (one_if (executes w)) (step w).state.iop.kernel.clock
-  begins_clock true new over =
-      still _ (one_if (executes w)) _
-      (ap (λ (t : Transition World). t.state.iop.kernel.clock) (step_begins w true over new)
-      ∙ ap (λ (k : Kernel). k.clock) (boots_kernel w.iop))
-  begins_clock false new over =
-      let is : w ≡ booted w.iop = ap (λ x. record { is_new = x; iop = w.iop }) new in
-      subst (λ n. GoesTo w.iop.kernel.clock (one_if (executes w)) n)
-      (sym (ap (λ (t : Transition World). t.state.iop.kernel.clock) (step_begins w false over new)))
-      (subst (λ (v : World). GoesTo w.iop.kernel.clock (one_if (executes v))
-      (goes w.iop).state.kernel.clock) (sym is)
-      (goes_clock w.iop (subst IsMachine is machine) over))
-
-  -- by whether it is stopped
-  step_by : (o : Option Stop) → w.iop.over ≡ o
-      → GoesTo w.iop.kernel.clock (one_if (executes w)) (step w).state.iop.kernel.clock
-  step_by None over = begins_clock w.is_new refl over
-  step_by (Some stop) over =
-      still _ (one_if (executes w)) _
-      (ap (λ (t : Transition World). t.state.iop.kernel.clock) (step_over w stop over))
+-- so does a step
+step_clock : (w : World) → IsMachine w
+    → GoesTo w.iop.kernel.clock (one_if (executes w)) (step w).state.iop.kernel.clock
+unfolding step executes
+step_clock w machine = turn_clock w machine (turn_is w)
 
 -- so many steps take it on by one tick for each instruction
 pub steps_clock : (w : World) (k : ℕ) → IsMachine w
     → GoesTo w.iop.kernel.clock (executed k w) (steps k w).state.iop.kernel.clock
-steps_clock w zero machine =
-    still _ (executed 0 w) _
-    (ap (λ (t : Transition World). t.state.iop.kernel.clock) (steps_zero w))
+unfolding steps executed
+steps_clock w zero machine = still _ 0 _ refl
 steps_clock w (suc k) machine =
     let v = (steps k w).state in
     let before = steps_clock w k machine in
-    let next = step_by v (steps_keep_machine w k machine) v.iop.over refl in
-    let same = ap (λ (t : Transition World). t.state.iop.kernel.clock) (steps_suc k w) in
-    let more = executed_suc k w in
+    let next = step_clock v (steps_keep_machine w k machine) in
     record {
-      rises = omega (arith, before.rises, next.rises, same);
-      latest = omega (arith, before.latest, next.latest, same, more);
+      rises = omega (arith, before.rises, next.rises);
+      latest = omega (arith, before.latest, next.latest);
     }

@@ -13,7 +13,9 @@ use Rattle.iop_registry.specs.declared.registry.Entry.{Entry}
 use Rattle.iop_script.specs.declared.raise.Raise.{Raise}
 use Rattle.irx_tables.specs.Exports.{header_of, functions}
 use Rattle.iop_machine.specs.declared.arguments.TheConstants.{MODULE_RETURN}
-use Rattle.iop_kernel.specs.declared.call.TheConstants.{SERVICES, THREAD_RETURN_CALL, HANDLER_RETURN_CALL, MODULE_RETURN_CALL}
+use Rattle.iop_kernel.specs.declared.call.TheConstants.{THREAD_RETURN_CALL, HANDLER_RETURN_CALL, MODULE_RETURN_CALL}
+use Rattle.iop_services.specs.Codes.{service_code}
+use Rattle.iop_services.specs.declared.codes.TheConstants.{SERVICES}
 use Rattle.iop_thread.specs.declared.thread.TheConstants.{THREAD_RETURN}
 use Rattle.iop_kernel.specs.declared.active_handler.TheConstants.{HANDLER_RETURN}
 use Rattle.iop_machine.specs.KernelArea.{syscall_word, service_at, kernel_area}
@@ -41,7 +43,7 @@ pub record HasLibrary (memory : List ℕ) (library : ℕ) (entry : Entry) : Type
   pub function : (number : ℕ) → number < SERVICES
       → slice_get (functions memory entry.table) number ≡ Some (service_at library number)
   pub service : (number : ℕ) → number < SERVICES
-      → HasService memory (service_at library number) (library * 256 + number)
+      → HasService memory (service_at library number) (service_code library number)
 
 -- the export tables of all kernel libraries stand where the registry has them, and the returns of a
 -- thread, a handler and a module in their places

@@ -1,5 +1,5 @@
 -- The steps of the machine, and its whole runs: this project's profile.
-use Rattle.std.specs.Prelude.{ℕ, zero, suc, ◌+◌, ◌-◌, ◌*◌, Bool, true, false, Option, Some, None, List, [], ◌∷◌, ◌++◌, length}
+use Rattle.std.specs.Prelude.{ℕ, zero, suc, ◌+◌, ◌-◌, ◌*◌, Bool, true, false, Option, Some, None, [], ◌∷◌, ◌++◌, length, List}
 use Rattle.iop_base.specs.Numbers.{one_if}
 use Rattle.iop_base.specs.Piece.{Piece}
 use Rattle.iop_base.specs.declared.stop.Stop.{Stop}
@@ -7,7 +7,7 @@ use Rattle.iop_base.specs.declared.stop.Stop.TheVariants.{Quiet, Budget}
 use Rattle.iop_exec.specs.Row.{Row, Goes, Serves, Faults, Storing, at_next, row}
 use Rattle.iop_kernel.specs.Deliveries.{Delivered, delivers}
 use Rattle.iop_kernel.specs.Dispatching.{Dispatched, dispatches}
-use Rattle.iop_kernel.specs.System.{is_active}
+use Rattle.iop_kernel.specs.System.{Core, is_active}
 use Rattle.iop_time.specs.declared.clock.TheConstants.{MOST_DELAYS}
 use Rattle.iop_machine.specs.Loading.{boots}
 use Rattle.iop_machine.specs.Looking.{takes_events, next_coming, at_moment}
@@ -32,54 +32,63 @@ abbrev pub waits_by : Iop → (coming : Option ℕ) → Transition Iop
 waits_by s None = silent (record s { over = Some Quiet })
 waits_by s (Some moment) = silent (at_moment s moment)
 
--- where nothing is delivered or dispatched an instruction is executed, if a thread runs or a
--- handler is active
-abbrev pub acts_by : Iop → (active : Bool) → Transition Iop
-acts_by s false = waits_by s (next_coming s)
-acts_by s true = performs s (row s.memory.ram s.cpu)
+-- what a step does
+pub data Turn : Type 0 where
+  -- nothing more, where it is stopped
+  Stays : Turn
+  -- it is booted
+  Boots : Turn
+  -- a line, an alarm or a delay is delivered
+  Delivers : Delivered → Turn
+  -- a thread is dispatched
+  Dispatches : Dispatched → Turn
+  -- an instruction is executed, or faults
+  Executes : Row → Turn
+  -- the clock goes on to what comes, or all is quiet
+  Waits : (coming : Option ℕ) → Turn
 
--- before that a thread is dispatched, if one is to be
-abbrev pub dispatches_by : Iop → Option Dispatched → Transition Iop
-dispatches_by s (Some d) = record { state = with_core s d.core; pieces = d.line ∷ []; bound = [] }
-dispatches_by s None = acts_by s (is_active s.kernel)
+-- by all that is looked at, in this order: whether it is stopped; whether it is still to be booted;
+-- what is delivered; what is dispatched; whether a thread runs or a handler is active
+abbrev pub turn_by : Iop → Option Stop → (is_new : Bool) → Option Delivered → Option Dispatched
+    → (active : Bool) → Turn
+turn_by s (Some stop) is_new delivery dispatch active = Stays
+turn_by s None true delivery dispatch active = Boots
+turn_by s None false (Some d) dispatch active = Delivers d
+turn_by s None false None (Some d) active = Dispatches d
+turn_by s None false None None true = Executes (row s.memory.ram s.cpu)
+turn_by s None false None None false = Waits (next_coming s)
 
--- before that a line, an alarm or a delay is delivered, if one is to be
-abbrev pub delivers_by : Iop → Option Delivered → Transition Iop
-delivers_by s (Some d) = record { state = with_core s d.core; pieces = d.line ∷ []; bound = [] }
-delivers_by s None = dispatches_by s (dispatches (core_of s))
+-- the script's events that are due are taken first of all: the rest looks at the state behind them
+abbrev pub turn_of : World → Turn
+turn_of w =
+    let s = takes_events w.iop in
+    turn_by s w.iop.over w.is_new (delivers (core_of s)) (dispatches (core_of s))
+    (is_active s.kernel)
 
--- and first of all the script's events that are due are taken: the rest of a step looks at the state
--- behind them
-abbrev pub goes : Iop → Transition Iop
-goes s = let v = takes_events s in delivers_by v (delivers (core_of v))
+-- what was delivered or dispatched leaves this, and gives its line
+abbrev pub moves_to : Iop → Core → Piece → Transition Iop
+moves_to s core line = record { state = with_core s core; pieces = line ∷ []; bound = [] }
 
--- before all that it is booted
-abbrev pub begins_by : Iop → (is_new : Bool) → Transition Iop
-begins_by s true = boots s
-begins_by s false = goes s
+-- what a turn makes of a machine
+abbrev pub takes_turn : World → Turn → Transition World
+takes_turn w Stays = silent w
+takes_turn w Boots = with_state booted (boots w.iop)
+takes_turn w (Delivers d) = with_state booted (moves_to (takes_events w.iop) d.core d.line)
+takes_turn w (Dispatches d) = with_state booted (moves_to (takes_events w.iop) d.core d.line)
+takes_turn w (Executes r) = with_state booted (performs (takes_events w.iop) r)
+takes_turn w (Waits coming) = with_state booted (waits_by (takes_events w.iop) coming)
 
--- where it is stopped nothing more happens
-abbrev pub steps_by : World → Option Stop → Transition World
-steps_by w (Some stop) = silent w
-steps_by w None = with_state booted (begins_by w.iop w.is_new)
-
+-- a step takes the turn of its state
 unfoldable pub step : World → Transition World
-step w = steps_by w w.iop.over
+step w = takes_turn w (turn_of w)
 
-abbrev pub executes_by : Option Stop → (is_new : Bool) → Option Delivered → Option Dispatched
-    → (active : Bool) → Bool
-executes_by (Some stop) is_new delivery dispatch active = false
-executes_by None true delivery dispatch active = false
-executes_by None false (Some d) dispatch active = false
-executes_by None false None (Some d) active = false
-executes_by None false None None active = active
+abbrev pub is_execution : Turn → Bool
+is_execution (Executes r) = true
+is_execution other = false
 
 -- whether the next step executes an instruction, or faults at one
 unfoldable pub executes : World → Bool
-executes w =
-    let s = takes_events w.iop in
-    executes_by w.iop.over w.is_new (delivers (core_of s)) (dispatches (core_of s))
-    (is_active s.kernel)
+executes w = is_execution (turn_of w)
 
 -- whether a run stops here with so many instructions left, and why
 abbrev pub stops_by : Option Stop → Bool → ℕ → Option Stop
@@ -119,10 +128,10 @@ run_within (suc most) budget w =
     ran_by (stop_at w budget) w (run_within most (budget - one_if (executes w)) (step w).state)
 
 -- how many steps at most stand before the first instruction, between two, and behind the last, but
--- for those in which the clock goes on to the tick of an event: one that boots; two for each delay and
--- for a handler that begins, one in which the clock goes on to its moment and one in which it is
--- delivered; one in which a thread is dispatched, one more in which the clock goes on, and one in which
--- all is quiet
+-- for those in which the clock goes on to the tick of an event: one that boots; two for each delay
+-- and for a handler that begins, one in which the clock goes on to its moment and one in which it
+-- is delivered; one in which a thread is dispatched, one more in which the clock goes on, and one
+-- in which all is quiet
 abbrev pub most_between : ℕ
 most_between = 2 * (MOST_DELAYS + 1) + 4
 

@@ -1,21 +1,52 @@
 //! The kernel's area of memory.
 
-ghost use Rattle.std.specs.Prelude.{◌≡◌, ◌<◌, ◌≤◌, [], length};
-ghost use Rattle.iop_base.specs.Numbers.{with_bytes};
+ghost use Rattle.std.specs.Prelude.{◌≡◌, ◌+◌, ◌*◌, ◌^◌, ◌<◌, ◌≤◌, ◌++◌, [], length};
+ghost use Rattle.arrayvec.specs.ArrayVec.{array_vec_len};
+ghost use Rattle.iop_base.specs.Numbers.{bytes_of, with_bytes};
 ghost use Rattle.iop_base.specs.Output.{Gives};
-ghost use Rattle.iop_machine.specs.KernelArea.{syscall_word, name_word, service_at, table_word, service_word, kernel_word, kernel_area};
+ghost use Rattle.iop_machine.specs.KernelArea.{syscall_word, service_at, each, function_of, table_of, service_of, services_of, return_of, tables, returns, services, kernel_area};
+ghost use Rattle.iop_machine.specs.World.{zeros};
+ghost use Rattle.iop_services.specs.Codes.{service_code};
 
-use crate::arguments::MODULE_RETURN;
-use iop_base::{EXPORT_MAGIC, JUMP_BACK, KERNEL_LIBRARIES, Lines, Width};
-use iop_kernel::{HANDLER_RETURN, HANDLER_RETURN_CALL, MODULE_RETURN_CALL, THREAD_RETURN_CALL};
+use crate::arguments::ARGUMENTS;
+use arrayvec::ArrayVec;
+use iop_base::{EXPORT_MAGIC, JUMP_BACK, KERNEL_LIBRARIES, Lines};
+use iop_kernel::{HANDLER_RETURN_CALL, MODULE_RETURN_CALL, THREAD_RETURN_CALL};
+use iop_registry::{KERNEL_TABLE_LEN, KERNEL_TABLES_AT};
+use iop_services::{SERVICES, service_code};
 use iop_stubs::Guest;
+use iop_text::append;
 use iop_thread::THREAD_RETURN;
 
-/// The version of the kernel's libraries, and mode 0.
-const VERSION: u32 = 0x0101;
+/// How many bytes the kernel's area has.
+pub(crate) const AREA_LEN: u32 = 0x10000;
 
-/// How many words the kernel's area has.
-const WORDS: u32 = 0x4000;
+/// The version of the kernel's libraries, and mode 0.
+pub(crate) const VERSION: u32 = 0x0101;
+
+/// How many bytes the export tables may have: they end where the argument block begins.
+const TABLES_LEN: usize = (ARGUMENTS - KERNEL_TABLES_AT) as usize;
+
+/// How many zeros stand between an export table and the next one.
+pub(crate) const TABLE_REST: usize = 0xE8;
+
+/// The place of the first service.
+pub(crate) const SERVICES_AT: u32 = 0x4000;
+
+/// How many bytes a service has.
+pub(crate) const SERVICE_LEN: u32 = 0x10;
+
+/// How many bytes the services of a library have.
+pub(crate) const SERVICES_LEN: u32 = SERVICES * SERVICE_LEN;
+
+/// How many bytes the services of all libraries may have.
+const ALL_SERVICES_LEN: usize = 0x2000;
+
+/// How many bytes a return has, with the zeros up to the next one.
+const RETURN_LEN: usize = 0x10;
+
+/// How many bytes the three returns have.
+const RETURNS_LEN: usize = 3 * RETURN_LEN;
 
 /// Encodes `syscall` with a code below 2^20.
 fn syscall(code: u32) -> u32
@@ -25,71 +56,127 @@ fn syscall(code: u32) -> u32
     (code << 6) + 0xC
 }
 
-/// Gives four bytes of the name of a kernel library.
-fn name_word(library: u32, at: usize) -> u32
-    requires library { library < 8 }
-    requires inside { at ≤ 4 }
-    ensures { result ≡ name_word library at }
+/// Appends a word.
+fn append_word<const ROOM: usize>(bytes: &mut ArrayVec<u8, ROOM>, word: u32)
+    requires { array_vec_len bytes.old + 4 ≤ ROOM }
+    ensures bytes { bytes.new.items ≡ bytes.old.items ++ bytes_of 4 word }
+    ensures long { array_vec_len bytes.new ≡ array_vec_len bytes.old + 4 }
 {
-    let name = KERNEL_LIBRARIES[library as usize];
-    u32::from_le_bytes([name[at], name[at + 1], name[at + 2], name[at + 3]])
+    append(bytes, &word.to_le_bytes());
 }
 
-/// Gives the place of a service of a kernel library.
-fn service_at(library: u32, number: u32) -> u32
-    requires library { library < 8 }
-    requires number { number < 64 }
-    ensures { result ≡ service_at library number }
+/// Appends the export table of a kernel library, whose functions are its services.
+#[tactic(auto, using(crate::proofs::Area::rows))]
+fn append_table(tables: &mut ArrayVec<u8, TABLES_LEN>, library: u32)
+    requires library { library < length KERNEL_LIBRARIES }
+    requires room { array_vec_len tables.old + KERNEL_TABLE_LEN ≤ TABLES_LEN }
+    ensures bytes { tables.new.items ≡ tables.old.items ++ table_of library }
+    ensures long { array_vec_len tables.new ≡ array_vec_len tables.old + KERNEL_TABLE_LEN }
 {
-    0x4000 + library * 0x400 + number * 0x10
+    append_word(tables, EXPORT_MAGIC);
+    append_word(tables, 0);
+    append_word(tables, VERSION);
+    append(tables, &KERNEL_LIBRARIES[library as usize]);
+    for number in 0..SERVICES {
+        let place = SERVICES_AT + library * SERVICES_LEN + number * SERVICE_LEN;
+        append_word(tables, place);
+    }
+    append_word(tables, 0);
+    append(tables, &[0; TABLE_REST]);
 }
 
-/// Gives a word of the export table of a kernel library.
-fn table_word(library: u32, index: u32) -> u32
-    requires { library < 8 }
-    ensures { result ≡ table_word library index }
+/// Makes the export tables of the kernel's libraries.
+#[tactic(auto, using(crate::proofs::Area::rows))]
+fn tables() -> ArrayVec<u8, TABLES_LEN>
+    ensures { result.items ≡ tables }
 {
-    match index {
-        0 => EXPORT_MAGIC,
-        2 => VERSION,
-        3 => name_word(library, 0),
-        4 => name_word(library, 4),
-        5..=68 => service_at(library, index - 5),
-        _ => 0,
+    let mut tables = ArrayVec::new();
+    for library in 0..KERNEL_LIBRARIES.len() {
+        append_table(&mut tables, library as u32);
+    }
+    tables
+}
+
+/// Appends a return.
+fn append_return(returns: &mut ArrayVec<u8, RETURNS_LEN>, code: u32)
+    requires code { code < 0x100000 }
+    requires room { array_vec_len returns.old + RETURN_LEN ≤ RETURNS_LEN }
+    ensures bytes { returns.new.items ≡ returns.old.items ++ return_of code }
+    ensures long { array_vec_len returns.new ≡ array_vec_len returns.old + RETURN_LEN }
+{
+    append_word(returns, syscall(code));
+    append(returns, &[0; RETURN_LEN - 4]);
+}
+
+/// Makes the returns of a thread, a handler and a module.
+fn returns() -> ArrayVec<u8, RETURNS_LEN>
+    ensures { result.items ≡ returns }
+{
+    let mut returns = ArrayVec::new();
+    append_return(&mut returns, THREAD_RETURN_CALL);
+    append_return(&mut returns, HANDLER_RETURN_CALL);
+    append_return(&mut returns, MODULE_RETURN_CALL);
+    returns
+}
+
+/// Appends a service.
+fn append_service(services: &mut ArrayVec<u8, ALL_SERVICES_LEN>, library: u32, number: u32)
+    requires code { service_code library number < 0x100000 }
+    requires room { array_vec_len services.old + SERVICE_LEN ≤ ALL_SERVICES_LEN }
+    ensures bytes { services.new.items ≡ services.old.items ++ service_of library number }
+    ensures long { array_vec_len services.new ≡ array_vec_len services.old + SERVICE_LEN }
+{
+    append_word(services, syscall(service_code(library, number)));
+    append_word(services, JUMP_BACK);
+    append(services, &[0; 8]);
+}
+
+/// Appends the services of a kernel library.
+#[tactic(auto, using(crate::proofs::Area::rows))]
+fn append_services(services: &mut ArrayVec<u8, ALL_SERVICES_LEN>, library: u32)
+    requires library { library < length KERNEL_LIBRARIES }
+    requires room { array_vec_len services.old + SERVICES_LEN ≤ ALL_SERVICES_LEN }
+    ensures bytes { services.new.items ≡ services.old.items ++ services_of library }
+    ensures long { array_vec_len services.new ≡ array_vec_len services.old + SERVICES_LEN }
+{
+    for number in 0..SERVICES {
+        append_service(services, library, number);
     }
 }
 
-/// Gives a word of a service of a kernel library.
-fn service_word(library: u32, number: u32, index: u32) -> u32
-    requires library { library < 8 }
-    requires number { number < 64 }
-    ensures { result ≡ service_word library number index }
+/// Makes the services of the kernel's libraries.
+#[tactic(auto, using(crate::proofs::Area::rows))]
+fn services() -> ArrayVec<u8, ALL_SERVICES_LEN>
+    ensures { result.items ≡ services }
 {
-    match index {
-        0 => syscall(library * 256 + number),
-        1 => JUMP_BACK,
-        _ => 0,
+    let mut services = ArrayVec::new();
+    for library in 0..KERNEL_LIBRARIES.len() {
+        append_services(&mut services, library as u32);
     }
+    services
 }
 
-/// Gives the word at a place of the kernel's area.
-#[tactic(auto, unfolding(crate::specs::KernelArea::kernel_word))]
-fn kernel_word(place: u32) -> u32
-    requires { place < 0x10000 }
-    ensures { result ≡ kernel_word place }
+/// Fills the first bytes of the area with zeros, where no stub is live.
+#[tactic(auto, unfolding(crate::specs::World::zeros))]
+fn clear<L: Lines>(guest: &mut Guest, len: u32, lines: &mut L)
+    requires none_live { guest.old.live ≡ [] }
+    requires inside { len ≤ AREA_LEN }
+    ensures memory { guest.new ≡ record guest.old { ram = with_bytes guest.old.ram 0 (zeros len) } }
+    ensures has_area { AREA_LEN ≤ length guest.old.ram }
+    ensures lines { Gives (L.output lines.old) (L.output lines.new) [] }
 {
-    match place {
-        0x1000..=0x1FFF => table_word(place % 0x1000 / 0x200, place % 0x200 / 4),
-        THREAD_RETURN => syscall(THREAD_RETURN_CALL),
-        HANDLER_RETURN => syscall(HANDLER_RETURN_CALL),
-        MODULE_RETURN => syscall(MODULE_RETURN_CALL),
-        0x4000..=0x5FFF => service_word(
-            place % 0x2000 / 0x400,
-            place % 0x400 / 0x10,
-            place % 0x10 / 4,
-        ),
-        _ => 0,
-    }
+    let _ = guest.fill(0, len, 0, 0, lines);
+}
+
+/// Stores a region of the area, where no stub is live.
+fn store<L: Lines>(guest: &mut Guest, at: u32, bytes: &[u8], lines: &mut L)
+    requires none_live { guest.old.live ≡ [] }
+    requires inside { at + length bytes.now ≤ AREA_LEN }
+    ensures memory { guest.new
+        ≡ record guest.old { ram = with_bytes guest.old.ram at bytes.now } }
+    ensures lines { Gives (L.output lines.old) (L.output lines.new) [] }
+{
+    let _ = guest.store_bytes(at, bytes, 0, lines);
 }
 
 /// Writes the kernel's area, where no stub is live.
@@ -99,8 +186,8 @@ pub(crate) fn write_kernel_area<L: Lines>(guest: &mut Guest, lines: &mut L)
     ensures lines { Gives (L.output lines.old) (L.output lines.new) [] }
     ensures same_size { length guest.new.ram ≡ length guest.old.ram }
 {
-    for index in 0..WORDS {
-        let place = 4 * index;
-        let _ = guest.store(place, Width::Word, kernel_word(place), 0, lines);
-    }
+    clear(guest, AREA_LEN, lines);
+    store(guest, KERNEL_TABLES_AT, &tables(), lines);
+    store(guest, THREAD_RETURN, &returns(), lines);
+    store(guest, SERVICES_AT, &services(), lines);
 }

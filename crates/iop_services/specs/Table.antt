@@ -2,11 +2,20 @@
 -- (loadcore.h, sysmem.h, intrman.h, thbase.h, thsemap.h, thevent.h, thmsgbx.h, stdio.h). Which libraries
 -- and numbers the kernel has, and from where each may be called, is this project's own profile.
 use Rattle.std.specs.Prelude.{ℕ, ◌==◌, if◌then◌else◌, Bool, true, not, Option, List, [], ◌∷◌, find, option_map}
+use Rattle.iop_services.specs.declared.codes.TheConstants.{LOADCORE, SYSMEM, INTRMAN, THBASE, THSEMAP, THEVENT, THMSGBX, STDIO}
 use Rattle.iop_services.specs.declared.context.Context.{Context}
 use Rattle.iop_services.specs.declared.context.Context.TheVariants.{Thread, Handler, Both}
 use Rattle.iop_services.specs.declared.row.Row.{Row}
 use Rattle.iop_services.specs.declared.service.Service.{Service}
-use Rattle.iop_services.specs.declared.service.Service.TheVariants.{FlushIcache, FlushDcache, RegisterLibraryEntries, ReleaseLibraryEntries, AllocSysMemory, FreeSysMemory, QueryMemSize, QueryMaxFreeMemSize, QueryTotalFreeMemSize, QueryBlockTopAddress, QueryBlockSize, Kprintf, RegisterIntrHandler, ReleaseIntrHandler, EnableIntr, DisableIntr, CpuDisableIntr, CpuEnableIntr, CpuSuspendIntr, CpuResumeIntr, QueryIntrContext, CreateThread, DeleteThread, StartThread, ExitThread, ExitDeleteThread, TerminateThread, DisableDispatchThread, EnableDispatchThread, ChangeThreadPriority, RotateThreadReadyQueue, ReleaseWaitThread, GetThreadId, ReferThreadStatus, SleepThread, WakeupThread, CancelWakeupThread, SuspendThread, ResumeThread, DelayThread, GetSystemTime, SetAlarm, CancelAlarm, USec2SysClock, SysClock2USec, CreateSema, DeleteSema, SignalSema, WaitSema, PollSema, ReferSemaStatus, CreateEventFlag, DeleteEventFlag, SetEventFlag, ClearEventFlag, WaitEventFlag, PollEventFlag, ReferEventFlagStatus, CreateMbx, DeleteMbx, SendMbx, ReceiveMbx, PollMbx, ReferMbxStatus, Printf}
+use Rattle.iop_services.specs.declared.service.Service.TheVariants.{Loadcore, Sysmem, Intrman, Thbase, Thsemap, Thevent, Thmsgbx, Stdio}
+use Rattle.iop_services.specs.declared.intrman_service.IntrmanService.TheVariants.{RegisterIntrHandler, ReleaseIntrHandler, EnableIntr, DisableIntr, CpuDisableIntr, CpuEnableIntr, CpuSuspendIntr, CpuResumeIntr, QueryIntrContext}
+use Rattle.iop_services.specs.declared.loadcore_service.LoadcoreService.TheVariants.{FlushIcache, FlushDcache, RegisterLibraryEntries, ReleaseLibraryEntries}
+use Rattle.iop_services.specs.declared.stdio_service.StdioService.TheVariants.{Printf}
+use Rattle.iop_services.specs.declared.sysmem_service.SysmemService.TheVariants.{AllocSysMemory, FreeSysMemory, QueryMemSize, QueryMaxFreeMemSize, QueryTotalFreeMemSize, QueryBlockTopAddress, QueryBlockSize, Kprintf}
+use Rattle.iop_services.specs.declared.thbase_service.ThbaseService.TheVariants.{CreateThread, DeleteThread, StartThread, ExitThread, ExitDeleteThread, TerminateThread, DisableDispatchThread, EnableDispatchThread, ChangeThreadPriority, RotateThreadReadyQueue, ReleaseWaitThread, GetThreadId, ReferThreadStatus, SleepThread, WakeupThread, CancelWakeupThread, SuspendThread, ResumeThread, DelayThread, GetSystemTime, SetAlarm, CancelAlarm, USec2SysClock, SysClock2USec}
+use Rattle.iop_services.specs.declared.thevent_service.TheventService.TheVariants.{CreateEventFlag, DeleteEventFlag, SetEventFlag, ClearEventFlag, WaitEventFlag, PollEventFlag, ReferEventFlagStatus}
+use Rattle.iop_services.specs.declared.thmsgbx_service.ThmsgbxService.TheVariants.{CreateMbx, DeleteMbx, SendMbx, ReceiveMbx, PollMbx, ReferMbxStatus}
+use Rattle.iop_services.specs.declared.thsemap_service.ThsemapService.TheVariants.{CreateSema, DeleteSema, SignalSema, WaitSema, PollSema, ReferSemaStatus}
 
 -- a number, the service that it lists, and from where it may be called
 pub record Numbered : Type 0 where
@@ -14,11 +23,14 @@ pub record Numbered : Type 0 where
   pub service : Service
   pub context : Context
 
-abbrev pub lists : ℕ → Service → Context → Numbered
-lists number service context = record { number = number; service = service; context = context }
+-- the same, of a library
+abbrev pub of : {A : Type 0} → (A → Service) → ℕ → A → Context → Numbered
+of library number service context =
+    record { number = number; service = library service; context = context }
 
 abbrev pub loadcore : List Numbered
 loadcore =
+    let lists = of Loadcore in
     lists 4 FlushIcache Both
     ∷ lists 5 FlushDcache Both
     ∷ lists 6 RegisterLibraryEntries Thread
@@ -27,6 +39,7 @@ loadcore =
 
 abbrev pub sysmem : List Numbered
 sysmem =
+    let lists = of Sysmem in
     lists 4 AllocSysMemory Both
     ∷ lists 5 FreeSysMemory Both
     ∷ lists 6 QueryMemSize Both
@@ -39,6 +52,7 @@ sysmem =
 
 abbrev pub intrman : List Numbered
 intrman =
+    let lists = of Intrman in
     lists 4 RegisterIntrHandler Thread
     ∷ lists 5 ReleaseIntrHandler Thread
     ∷ lists 6 EnableIntr Both
@@ -52,6 +66,7 @@ intrman =
 
 abbrev pub thbase : List Numbered
 thbase =
+    let lists = of Thbase in
     lists 4 CreateThread Thread
     ∷ lists 5 DeleteThread Thread
     ∷ lists 6 StartThread Thread
@@ -91,6 +106,7 @@ thbase =
 
 abbrev pub thsemap : List Numbered
 thsemap =
+    let lists = of Thsemap in
     lists 4 CreateSema Thread
     ∷ lists 5 DeleteSema Thread
     ∷ lists 6 SignalSema Thread
@@ -103,6 +119,7 @@ thsemap =
 
 abbrev pub thevent : List Numbered
 thevent =
+    let lists = of Thevent in
     lists 4 CreateEventFlag Thread
     ∷ lists 5 DeleteEventFlag Thread
     ∷ lists 6 SetEventFlag Thread
@@ -117,6 +134,7 @@ thevent =
 
 abbrev pub thmsgbx : List Numbered
 thmsgbx =
+    let lists = of Thmsgbx in
     lists 4 CreateMbx Thread
     ∷ lists 5 DeleteMbx Thread
     ∷ lists 6 SendMbx Thread
@@ -129,20 +147,21 @@ thmsgbx =
 
 abbrev pub stdio : List Numbered
 stdio =
+    let lists = of Stdio in
     lists 4 Printf Both
     ∷ []
 
 -- the rows of a library by its number
 abbrev pub rows_of : ℕ → List Numbered
 rows_of library =
-    if library == 0 then loadcore
-    else if library == 1 then sysmem
-    else if library == 2 then intrman
-    else if library == 3 then thbase
-    else if library == 4 then thsemap
-    else if library == 5 then thevent
-    else if library == 6 then thmsgbx
-    else if library == 7 then stdio
+    if library == LOADCORE then loadcore
+    else if library == SYSMEM then sysmem
+    else if library == INTRMAN then intrman
+    else if library == THBASE then thbase
+    else if library == THSEMAP then thsemap
+    else if library == THEVENT then thevent
+    else if library == THMSGBX then thmsgbx
+    else if library == STDIO then stdio
     else []
 
 -- what the row of a number says

@@ -1,14 +1,35 @@
-//! The services of the kernel's libraries: the table of their numbers.
+//! The services of the kernel's libraries: their codes, and the table of their numbers.
 #![tactic(auto)]
 
+mod codes;
 mod context;
+mod intrman_service;
+mod loadcore_service;
 mod row;
 mod service;
+mod stdio_service;
+mod sysmem_service;
 mod table;
 #[cfg(test)]
 mod tests;
+mod thbase_service;
+mod thevent_service;
+mod thmsgbx_service;
+mod thsemap_service;
 
+pub use codes::{
+    INTRMAN, LIBRARY_CODES, LOADCORE, SERVICES, STDIO, SYSMEM, THBASE, THEVENT, THMSGBX, THSEMAP,
+    service_code,
+};
 pub use context::Context;
+pub use intrman_service::IntrmanService;
+pub use loadcore_service::LoadcoreService;
 pub use row::Row;
 pub use service::Service;
+pub use stdio_service::StdioService;
+pub use sysmem_service::SysmemService;
 pub use table::row_of;
+pub use thbase_service::ThbaseService;
+pub use thevent_service::TheventService;
+pub use thmsgbx_service::ThmsgbxService;
+pub use thsemap_service::ThsemapService;

@@ -3,16 +3,28 @@
 ghost use Rattle.std.specs.Prelude.{◌≡◌};
 ghost use Rattle.iop_services.specs.Table.{find_row, row_of, loadcore, sysmem, intrman, thbase, thsemap, thevent, thmsgbx, stdio};
 
+use crate::codes::{INTRMAN, LOADCORE, STDIO, SYSMEM, THBASE, THEVENT, THMSGBX, THSEMAP};
 use crate::context::Context;
+use crate::intrman_service::IntrmanService;
+use crate::loadcore_service::LoadcoreService;
 use crate::row::Row;
 use crate::service::Service;
+use crate::stdio_service::StdioService;
+use crate::sysmem_service::SysmemService;
+use crate::thbase_service::ThbaseService;
+use crate::thevent_service::TheventService;
+use crate::thmsgbx_service::ThmsgbxService;
+use crate::thsemap_service::ThsemapService;
 
-/// Finds the row of a number: a number, a service, and from where it may be called.
+/// Finds the row of a number in those of a library: a number, a service, and from where it may be
+/// called.
 macro_rules! find_row {
-    ($number:ident { $($row:literal $service:ident $context:ident)* }) => {
+    ($number:ident $library:ident $services:ident {
+        $($row:literal $service:ident $context:ident)*
+    }) => {
         match $number {
             $($row => Some(Row {
-                service: Service::$service,
+                service: Service::$library($services::$service),
                 context: Context::$context,
             }),)*
             _ => None,
@@ -24,7 +36,7 @@ macro_rules! find_row {
 fn loadcore(number: u32) -> Option<Row>
     ensures { result ≡ find_row number loadcore }
 {
-    find_row!(number {
+    find_row!(number Loadcore LoadcoreService {
         4 FlushIcache Both
         5 FlushDcache Both
         6 RegisterLibraryEntries Thread
@@ -36,7 +48,7 @@ fn loadcore(number: u32) -> Option<Row>
 fn sysmem(number: u32) -> Option<Row>
     ensures { result ≡ find_row number sysmem }
 {
-    find_row!(number {
+    find_row!(number Sysmem SysmemService {
         4 AllocSysMemory Both
         5 FreeSysMemory Both
         6 QueryMemSize Both
@@ -52,7 +64,7 @@ fn sysmem(number: u32) -> Option<Row>
 fn intrman(number: u32) -> Option<Row>
     ensures { result ≡ find_row number intrman }
 {
-    find_row!(number {
+    find_row!(number Intrman IntrmanService {
         4 RegisterIntrHandler Thread
         5 ReleaseIntrHandler Thread
         6 EnableIntr Both
@@ -69,7 +81,7 @@ fn intrman(number: u32) -> Option<Row>
 fn thbase(number: u32) -> Option<Row>
     ensures { result ≡ find_row number thbase }
 {
-    find_row!(number {
+    find_row!(number Thbase ThbaseService {
         4 CreateThread Thread
         5 DeleteThread Thread
         6 StartThread Thread
@@ -112,7 +124,7 @@ fn thbase(number: u32) -> Option<Row>
 fn thsemap(number: u32) -> Option<Row>
     ensures { result ≡ find_row number thsemap }
 {
-    find_row!(number {
+    find_row!(number Thsemap ThsemapService {
         4 CreateSema Thread
         5 DeleteSema Thread
         6 SignalSema Thread
@@ -128,7 +140,7 @@ fn thsemap(number: u32) -> Option<Row>
 fn thevent(number: u32) -> Option<Row>
     ensures { result ≡ find_row number thevent }
 {
-    find_row!(number {
+    find_row!(number Thevent TheventService {
         4 CreateEventFlag Thread
         5 DeleteEventFlag Thread
         6 SetEventFlag Thread
@@ -146,7 +158,7 @@ fn thevent(number: u32) -> Option<Row>
 fn thmsgbx(number: u32) -> Option<Row>
     ensures { result ≡ find_row number thmsgbx }
 {
-    find_row!(number {
+    find_row!(number Thmsgbx ThmsgbxService {
         4 CreateMbx Thread
         5 DeleteMbx Thread
         6 SendMbx Thread
@@ -162,7 +174,7 @@ fn thmsgbx(number: u32) -> Option<Row>
 fn stdio(number: u32) -> Option<Row>
     ensures { result ≡ find_row number stdio }
 {
-    find_row!(number {
+    find_row!(number Stdio StdioService {
         4 Printf Both
     })
 }
@@ -173,14 +185,14 @@ pub fn row_of(library: u32, number: u32) -> Option<Row>
     ensures { result ≡ row_of library number }
 {
     match library {
-        0 => loadcore(number),
-        1 => sysmem(number),
-        2 => intrman(number),
-        3 => thbase(number),
-        4 => thsemap(number),
-        5 => thevent(number),
-        6 => thmsgbx(number),
-        7 => stdio(number),
+        LOADCORE => loadcore(number),
+        SYSMEM => sysmem(number),
+        INTRMAN => intrman(number),
+        THBASE => thbase(number),
+        THSEMAP => thsemap(number),
+        THEVENT => thevent(number),
+        THMSGBX => thmsgbx(number),
+        STDIO => stdio(number),
         _ => None,
     }
 }

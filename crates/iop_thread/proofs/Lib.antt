@@ -7,6 +7,7 @@ pub mod EachThread
 pub mod FindingThreads
 pub mod Handling
 pub mod Holding
+pub mod KeptRegisters
 pub mod LiveThreads
 pub mod MappedLists
 pub mod Moving
@@ -17,7 +18,6 @@ pub mod ReadyIds
 pub mod Settling
 pub mod Sleepers
 pub mod Starting
-pub mod Straight
 pub mod Strict
 pub mod WaitingOn
 pub mod Waits

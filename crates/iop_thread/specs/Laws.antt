@@ -1,6 +1,7 @@
 -- What the laws of the operations say.
 use Rattle.std.specs.Prelude.{◌≡◌, ℕ, ◌<◌, ◌≤◌, Some, None, IfSome, option_map, List, [], ◌∷◌, ◌++◌, All, ⊤}
 use Rattle.iop_exec.specs.declared.cpu.Cpu.{Cpu}
+use Rattle.iop_exec.specs.Laws.{IsSteady}
 use Rattle.iop_exec.specs.Processors.{IsStraight}
 use Rattle.iop_thread.specs.declared.param.Param.{Param}
 use Rattle.iop_thread.specs.declared.wait.Wait.{Wait}
@@ -58,6 +59,16 @@ KeepsStraight = Keeps AreStraight IsStraight (λ s wait. ⊤)
 
 abbrev pub OperationsKeepStraight : Type 0
 OperationsKeepStraight = OperationsKeep AreStraight IsStraight (λ s wait. ⊤)
+
+-- what each thread keeps is steady
+abbrev pub AreSteady : ThreadTable → Type 0
+AreSteady s = All (λ t. IfSome (kept_registers t.state) IsSteady) s.live
+
+abbrev pub KeepsSteady : ThreadTable → Type 0
+KeepsSteady = Keeps AreSteady IsSteady (λ s wait. ⊤)
+
+abbrev pub OperationsKeepSteady : Type 0
+OperationsKeepSteady = OperationsKeep AreSteady IsSteady (λ s wait. ⊤)
 
 -- a thread that sleeps has no wakeups
 abbrev pub SleepersAreUnwoken : ThreadTable → Type 0

@@ -4,12 +4,13 @@ use Rattle.std.specs.Prelude.{ℕ, ◌+◌, ◌-◌, ◌^◌, Bool, true, false,
 use Rattle.iop_base.specs.Numbers.{wrapped}
 use Rattle.iop_exec.specs.declared.cpu.Cpu.{Cpu}
 use Rattle.iop_exec.specs.Row.{with_reg}
+use Rattle.iop_thread.specs.declared.kind.Kind.TheVariants.{Semaphore, EventFlag, Mailbox}
 use Rattle.iop_thread.specs.declared.state.State.{State}
 use Rattle.iop_thread.specs.declared.state.State.TheVariants.{Dormant, Running, Ready, Waiting, Suspended, WaitingSuspended}
 use Rattle.iop_thread.specs.declared.thread.Thread.{Thread}
 use Rattle.iop_thread.specs.declared.thread.TheConstants.{THREAD_RETURN}
 use Rattle.iop_thread.specs.declared.wait.Wait.{Wait}
-use Rattle.iop_thread.specs.declared.wait.Wait.TheVariants.{Sleep, Delay, Semaphore, EventFlag, Mailbox}
+use Rattle.iop_thread.specs.declared.wait.Wait.TheVariants.{Sleep, Delay, Object}
 
 abbrev pub is_dormant : State → Bool
 is_dormant Dormant = true
@@ -54,16 +55,14 @@ state_number Dormant = 0x10
 abbrev pub kind_number : Wait → ℕ
 kind_number Sleep = 1
 kind_number Delay = 2
-kind_number (Semaphore id) = 3
-kind_number (EventFlag id) = 4
-kind_number (Mailbox id) = 5
+kind_number (Object Semaphore id) = 3
+kind_number (Object EventFlag id) = 4
+kind_number (Object Mailbox id) = 5
 
 abbrev pub object_of : Wait → ℕ
 object_of Sleep = 0
 object_of Delay = 0
-object_of (Semaphore id) = id
-object_of (EventFlag id) = id
-object_of (Mailbox id) = id
+object_of (Object kind id) = id
 
 -- a thread that is suspended, which had these registers if it was running
 abbrev pub suspended_state : Cpu → State → State

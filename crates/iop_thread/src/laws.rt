@@ -1,7 +1,7 @@
 //! Facts about the definitions that no call computes. Each is the contract of a function that does
 //! nothing.
 
-ghost use Rattle.iop_thread.specs.Laws.{OperationsKeepPlaces, OperationsKeepStraight, OperationsKeepSleepers, DispatchIsStrict};
+ghost use Rattle.iop_thread.specs.Laws.{OperationsKeepPlaces, OperationsKeepStraight, OperationsKeepSteady, OperationsKeepSleepers, DispatchIsStrict};
 ghost use Rattle.iop_thread.specs.Waits.{OperationsMoveWaits};
 
 /// Each thread that is ready is once in the ready list, which has no other, the one that runs is in
@@ -14,6 +14,12 @@ pub fn operations_keep_places()
 /// operation.
 pub fn operations_keep_straight()
     ensures { OperationsKeepStraight }
+{}
+
+/// What each thread keeps is straight and has 32 registers, of which register 0 holds 0: at first,
+/// and after each operation.
+pub fn operations_keep_steady()
+    ensures { OperationsKeepSteady }
 {}
 
 /// A thread that sleeps has no wakeups: at first, and after each operation, if none sleeps while it has

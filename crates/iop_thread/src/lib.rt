@@ -2,6 +2,7 @@
 #![tactic(auto)]
 
 mod found;
+mod kind;
 pub mod laws;
 mod moves;
 mod param;
@@ -14,6 +15,7 @@ mod thread;
 mod threads;
 mod wait;
 
+pub use kind::Kind;
 pub use param::Param;
 pub use state::State;
 pub use thread::{

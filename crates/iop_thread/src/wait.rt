@@ -1,3 +1,5 @@
+use crate::kind::Kind;
+
 /// What a thread waits for.
 #[derive(Clone, Copy, Debug, PartialEq, Eq)]
 pub enum Wait {
@@ -5,12 +7,8 @@ pub enum Wait {
     Sleep,
     /// For a time.
     Delay,
-    /// For the semaphore of this id.
-    Semaphore(u32),
-    /// For the event flag of this id.
-    EventFlag(u32),
-    /// For a message in the mailbox of this id.
-    Mailbox(u32),
+    /// For the object of this kind and id.
+    Object(Kind, u32),
 }
 
 impl Wait {
@@ -24,9 +22,9 @@ impl Wait {
         match self {
             Wait::Sleep => 1,
             Wait::Delay => 2,
-            Wait::Semaphore(_) => 3,
-            Wait::EventFlag(_) => 4,
-            Wait::Mailbox(_) => 5,
+            Wait::Object(Kind::Semaphore, _) => 3,
+            Wait::Object(Kind::EventFlag, _) => 4,
+            Wait::Object(Kind::Mailbox, _) => 5,
         }
     }
 
@@ -36,7 +34,7 @@ impl Wait {
     {
         match self {
             Wait::Sleep | Wait::Delay => 0,
-            Wait::Semaphore(id) | Wait::EventFlag(id) | Wait::Mailbox(id) => id,
+            Wait::Object(_, id) => id,
         }
     }
 }

@@ -1,5 +1,5 @@
-use Rattle.iop_exec.proofs.Following.{row_follows}
+use Rattle.iop_exec.proofs.RowKeeps.{rows_stay_straight}
 use Rattle.iop_exec.proofs.laws.rows_stay_straight.Goals as goal
 
 pub returns : goal.returns
-returns c = λ memory cpu. (row_follows memory cpu).straight
+returns c = rows_stay_straight

@@ -1,4 +1,4 @@
-use Rattle.iop_kernel.proofs.PlacingServices.{begins_place}
+use Rattle.iop_kernel.proofs.PlacingBasics.{stand_on, places, moves}
 use Rattle.iop_kernel.proofs.Standing.{holds_with}
 use Rattle.iop_kernel.proofs.kernel.Kernel.begin.Goals as goal
 
@@ -6,5 +6,7 @@ pub returns : goal.returns
 returns g c = λ k h.
     record {
       holds = holds_with g.R.Ready.stands h.holds (c.begin.ensures k.threads h.holds.threads);
-      placed = begins_place k c.args.registers.now h.placed;
+      placed = let registers = c.args.registers.now in
+          stand_on k h.placed ((places k h.placed).begins registers tt)
+          ((moves k h.placed).begins registers);
     }

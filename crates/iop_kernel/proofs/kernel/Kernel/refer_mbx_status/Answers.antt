@@ -1,9 +1,12 @@
-use Rattle.std.proofs.Common.{ap, sym, ◌∙◌}
-use Rattle.std.specs.Prelude.{option_map, unwrap_or}
-use Rattle.iop_mbx.specs.Mailboxes.{without_messages}
+use Rattle.std.proofs.Common.{ap, ◌∙◌}
+use Rattle.std.specs.Prelude.{unwrap_or}
 use Rattle.iop_objects.specs.Objects.{state_of}
+use Rattle.iop_thread.specs.declared.kind.Kind.TheVariants.{Mailbox}
+use Rattle.iop_kernel.specs.Mailboxes.{mailbox_words}
 use Rattle.iop_kernel.specs.Standing.{board}
-use Rattle.iop_kernel.proofs.MailboxCalls.{refers_live, refers_none}
+use Rattle.iop_kernel.specs.declared.mailboxes.TheConstants.{MAILBOX_STATUS_WORDS}
+use Rattle.iop_kernel.proofs.MailboxCalls.{refers_live, no_mailbox}
+use Rattle.iop_kernel.proofs.StatusCalls.{told_none}
 use Rattle.iop_kernel.proofs.Standing.{takes_quiet}
 use Rattle.iop_kernel.proofs.kernel.Kernel.refer_mbx_status.Goals as goal
 
@@ -11,9 +14,9 @@ pub returns-in_default-get : goal.returns-in_default-get
 returns-in_default-get g c = λ k h.
     let id = c.args.id in
     let b = board k c.args.cpu.now c.args.guest.now in
-    rw (refers_none b id c.args.at c.in-Some.place c.in-Some.ensures.place
-    (c.in_default-get.ensures
-    ∙ ap (λ s. option_map without_messages (state_of s id)) (sym h.mailboxes)))
+    rw (told_none Mailbox mailbox_words b MAILBOX_STATUS_WORDS id c.args.at c.in-Some.place
+    c.in-Some.ensures.place (ap (λ s. state_of s id) h.mailboxes
+    ∙ no_mailbox c.args.self.now.mailboxes id c.in_default-get.ensures))
     (takes_quiet c.args.guest.now (g.L.Lines.output c.args.lines.now) (record {
       answer = c.answer.ensures.after;
       kernel = h;

@@ -1,8 +1,12 @@
 use Rattle.std.proofs.Common.{ap, sym, ◌∙◌}
 use Rattle.iop_objects.specs.Objects.{state_of, waiters_of}
 use Rattle.std.proofs.Common.{length}
+use Rattle.iop_thread.specs.declared.kind.Kind.TheVariants.{Semaphore}
+use Rattle.iop_kernel.specs.Semaphores.{semaphore_words}
 use Rattle.iop_kernel.specs.Standing.{board}
-use Rattle.iop_kernel.proofs.SemaphoreCalls.{refers_live, refers_none}
+use Rattle.iop_kernel.specs.declared.semaphores.TheConstants.{SEMAPHORE_STATUS_WORDS}
+use Rattle.iop_kernel.proofs.SemaphoreCalls.{refers_live}
+use Rattle.iop_kernel.proofs.StatusCalls.{told_none}
 use Rattle.iop_kernel.proofs.Standing.{takes_quiet}
 use Rattle.iop_kernel.proofs.kernel.Kernel.refer_sema_status.Goals as goal
 
@@ -10,8 +14,8 @@ pub returns-in_default-get : goal.returns-in_default-get
 returns-in_default-get g c = λ k h.
     let id = c.args.id in
     let b = board k c.args.cpu.now c.args.guest.now in
-    rw (refers_none b id c.args.at c.in-Some.place c.in-Some.ensures.place
-    (c.in_default-get.ensures ∙ ap (λ s. state_of s id) (sym h.semaphores)))
+    rw (told_none Semaphore semaphore_words b SEMAPHORE_STATUS_WORDS id c.args.at c.in-Some.place
+    c.in-Some.ensures.place (ap (λ s. state_of s id) h.semaphores ∙ sym c.in_default-get.ensures))
     (takes_quiet c.args.guest.now (g.L.Lines.output c.args.lines.now) (record {
       answer = c.answer.ensures.after;
       kernel = h;

@@ -1,9 +1,9 @@
-use Rattle.std.proofs.Common.{true, false, refl, ap, sym, ◌∙◌}
+use Rattle.std.proofs.Common.{refl, ap, sym, ◌∙◌}
 use Rattle.std.specs.Prelude.{is_some}
 use Rattle.iop_intr.specs.InterruptLines.{deliverable}
 use Rattle.iop_time.specs.Turns.{due}
 use Rattle.iop_kernel.specs.Standing.{core}
-use Rattle.iop_kernel.proofs.DeliveryCalls.{delivers_some}
+use Rattle.iop_kernel.proofs.DeliveriesNone.{delivers_some}
 use Rattle.iop_kernel.proofs.kernel.Kernel.would_deliver.Goals as goal
 
 pub returns-then-is_some : goal.returns-then-is_some
@@ -11,26 +11,19 @@ returns-then-is_some g c = λ k h.
     let may = sym (c.may_deliver.ensures k h) ∙ c.if-may_deliver.true in
     let line = ap (λ irqs. is_some (deliverable irqs)) h.holds.irqs
     ∙ sym (ap is_some c.deliverable.ensures.lowest) ∙ sym c.is_some.ensures ∙ c.if-is_some.true in
-    let come = is_some (due k.timers k.clock) in
-    c.if-is_some.true
-    ∙ sym (delivers_some (core k c.args.cpu.now) h.placed.delays.kept true true come may line refl)
+    c.if-is_some.true ∙ sym (delivers_some (core k c.args.cpu.now) ∙ rw (may, line) refl)
 
 pub returns-else-is_some : goal.returns-else-is_some
 returns-else-is_some g c = λ k h.
     let may = sym (c.may_deliver.ensures k h) ∙ c.if-may_deliver.true in
     let line = ap (λ irqs. is_some (deliverable irqs)) h.holds.irqs
     ∙ sym (ap is_some c.deliverable.ensures.lowest) ∙ sym c.is_some.ensures ∙ c.if-is_some.false in
-    let come = is_some (due k.timers k.clock) in
     let told = c.is_some-else-is_some.ensures ∙ ap is_some c.due.ensures.number
     ∙ sym (ap (λ timers. is_some (due timers c.args.self.now.clock)) h.holds.timers)
     ∙ sym (ap (λ t. is_some (due k.timers t)) h.holds.clock) in
-    told
-    ∙ sym (delivers_some (core k c.args.cpu.now) h.placed.delays.kept true false come may line refl)
+    told ∙ sym (delivers_some (core k c.args.cpu.now) ∙ rw (may, line) refl)
 
 pub returns-else-may_deliver : goal.returns-else-may_deliver
 returns-else-may_deliver g c = λ k h.
     let may = sym (c.may_deliver.ensures k h) ∙ c.if-may_deliver.false in
-    let line = is_some (deliverable k.irqs) in
-    let come = is_some (due k.timers k.clock) in
-    c.if-may_deliver.false
-    ∙ sym (delivers_some (core k c.args.cpu.now) h.placed.delays.kept false line come may refl refl)
+    c.if-may_deliver.false ∙ sym (delivers_some (core k c.args.cpu.now) ∙ rw may refl)

@@ -1,0 +1,206 @@
+-- What a row leaves of a processor: what lasts over the writing of registers, and holds where the
+-- processor has moved on.
+use Rattle.std.proofs.Common.{◌≡◌, ℕ, ◌+◌, ◌==◌, Bool, true, false, cond, Option, Some, None, List, refl, ◌∙◌, arith}
+use Rattle.std.specs.Prelude.{⊤, slice_set}
+use Rattle.std.proofs.lemmas.Bool.{cond_both}
+use Rattle.std.proofs.lemmas.Bool.Decides.{nat_tests}
+use Rattle.std.proofs.lemmas.List.{length-set, get_or-set_other}
+use Rattle.iop_base.specs.Numbers.{wrapped}
+use Rattle.iop_base.specs.Places.{load_at}
+use Rattle.iop_base.specs.declared.guest_fault.GuestFault.TheVariants.{BranchInSlot}
+use Rattle.iop_base.specs.declared.width.Width.TheVariants.{Word}
+use Rattle.iop_isa.specs.declared.instruction.Inst.{Inst}
+use Rattle.iop_isa.specs.declared.instruction.Inst.TheVariants.{Sll, Srl, Sra, Sllv, Srlv, Srav, Jr, Jalr, Syscall, Break, Mfhi, Mthi, Mflo, Mtlo, Mult, Multu, Div, Divu, Add, Addu, Sub, Subu, And, Or, Xor, Nor, Slt, Sltu, Bltz, Bgez, Bltzal, Bgezal, J, Jal, Beq, Bne, Blez, Bgtz, Addi, Addiu, Slti, Sltiu, Andi, Ori, Xori, Lui, Lb, Lh, Lwl, Lw, Lbu, Lhu, Lwr, Sb, Sh, Swl, Sw, Swr}
+use Rattle.iop_isa.specs.Instructions.{inst_of}
+use Rattle.iop_exec.specs.declared.cpu.Cpu.{Cpu}
+use Rattle.iop_exec.specs.Laws.{GoesToNext, IsSteady, RowsGoToNext, RowsStayStraight, RowsStaySteady, cpu_after}
+use Rattle.iop_exec.specs.Processors.{IsStraight}
+use Rattle.iop_exec.specs.Row.{Row, Goes, Serves, Faults, Storing, at_next, after_jump, with_reg, with_link, results, sums, loads, pairs, place, word_round, stores_as, stores_made, effect_of, inst_row, word_row, row_of, row}
+
+-- P lasts while registers are written, and Q holds once the processor has moved on
+pub record RowKeeps (P Q : Cpu → Type 0) : Type 0 where
+  pub writes : (c : Cpu) (n value : ℕ) → (n == 0) ≡ false → P c
+      → P (record c { regs = slice_set c.regs n value })
+  pub pairs : (c : Cpu) (hi lo : ℕ) → P c → P (record c { hi = hi; lo = lo })
+  pub moves : (c : Cpu) → P c → Q (at_next c)
+  pub jumps : (c : Cpu) (target : ℕ) → P c → Q (after_jump c target)
+
+-- so does a write to any register
+pub written : {P Q : Cpu → Type 0} → RowKeeps P Q → (c : Cpu) (n value : ℕ) → P c
+    → P (with_reg c n value)
+written {P} {Q} h c n value has =
+    cond_both (n == 0) c _ P (λ zero. has) (λ other. h.writes c n value other has)
+
+-- it has moved on, unless the row faults
+abbrev Leaves : (Cpu → Type 0) → Cpu → Row → Type 0
+Leaves Q c (Goes after storing) = Q after
+Leaves Q c (Serves code) = Q (at_next c)
+Leaves Q c (Faults fault) = ⊤
+
+module _ {P Q : Cpu → Type 0} (h : RowKeeps P Q) (memory : List ℕ) (c : Cpu) (has : P c) where
+  results_leave : (n value : ℕ) → Leaves Q c (results c n value)
+  results_leave n value = h.moves _ (written h c n value has)
+
+  sums_leave : (n : ℕ) (sum : Option ℕ) → Leaves Q c (sums c n sum)
+  sums_leave n None = tt
+  sums_leave n (Some sum) = results_leave n sum
+
+  loads_leave : (n : ℕ) (number : Option ℕ) → Leaves Q c (loads c n number)
+  loads_leave n None = tt
+  loads_leave n (Some number) = results_leave n number
+
+  pairs_leave : (hi lo : ℕ) → Leaves Q c (pairs c hi lo)
+  pairs_leave hi lo = h.moves _ (h.pairs c hi lo has)
+
+  jumps_leave : (target : ℕ) → Leaves Q c (Goes (after_jump c target) None)
+  jumps_leave target = h.jumps c target has
+
+  links_leave : (n target : ℕ) → Leaves Q c (Goes (after_jump (with_link c n) target) None)
+  links_leave n target = h.jumps _ target (written h c n (wrapped (c.pc + 8)) has)
+
+  stores_leave : (after : Option (List ℕ)) (storing : Storing)
+      → Leaves Q c (stores_as after c storing)
+  stores_leave None storing = tt
+  stores_leave (Some after) storing = h.moves c has
+
+  parts_leave : (word : Option ℕ) (at : ℕ) (made : ℕ → ℕ)
+      → Leaves Q c (stores_made word c memory at made)
+  parts_leave None at made = tt
+  parts_leave (Some word) at made = stores_leave _ _
+
+  effect_leaves : (inst : Inst) → Leaves Q c (effect_of inst memory c)
+  unfolding effect_of
+  effect_leaves (Sll rd rt sa) = results_leave rd _
+  effect_leaves (Srl rd rt sa) = results_leave rd _
+  effect_leaves (Sra rd rt sa) = results_leave rd _
+  effect_leaves (Sllv rd rt rs) = results_leave rd _
+  effect_leaves (Srlv rd rt rs) = results_leave rd _
+  effect_leaves (Srav rd rt rs) = results_leave rd _
+  effect_leaves (Jr rs) = jumps_leave _
+  effect_leaves (Jalr rd rs) = links_leave rd _
+  effect_leaves (Syscall n) = h.moves c has
+  effect_leaves (Break n) = tt
+  effect_leaves (Mfhi rd) = results_leave rd _
+  effect_leaves (Mthi rs) = pairs_leave _ _
+  effect_leaves (Mflo rd) = results_leave rd _
+  effect_leaves (Mtlo rs) = pairs_leave _ _
+  effect_leaves (Mult rs rt) = pairs_leave _ _
+  effect_leaves (Multu rs rt) = pairs_leave _ _
+  effect_leaves (Div rs rt) = pairs_leave _ _
+  effect_leaves (Divu rs rt) = pairs_leave _ _
+  effect_leaves (Add rd rs rt) = sums_leave rd _
+  effect_leaves (Addu rd rs rt) = results_leave rd _
+  effect_leaves (Sub rd rs rt) = sums_leave rd _
+  effect_leaves (Subu rd rs rt) = results_leave rd _
+  effect_leaves (And rd rs rt) = results_leave rd _
+  effect_leaves (Or rd rs rt) = results_leave rd _
+  effect_leaves (Xor rd rs rt) = results_leave rd _
+  effect_leaves (Nor rd rs rt) = results_leave rd _
+  effect_leaves (Slt rd rs rt) = results_leave rd _
+  effect_leaves (Sltu rd rs rt) = results_leave rd _
+  effect_leaves (Bltz rs imm) = jumps_leave _
+  effect_leaves (Bgez rs imm) = jumps_leave _
+  effect_leaves (Bltzal rs imm) = links_leave 31 _
+  effect_leaves (Bgezal rs imm) = links_leave 31 _
+  effect_leaves (J target) = jumps_leave _
+  effect_leaves (Jal target) = links_leave 31 _
+  effect_leaves (Beq rs rt imm) = jumps_leave _
+  effect_leaves (Bne rs rt imm) = jumps_leave _
+  effect_leaves (Blez rs imm) = jumps_leave _
+  effect_leaves (Bgtz rs imm) = jumps_leave _
+  effect_leaves (Addi rt rs imm) = sums_leave rt _
+  effect_leaves (Addiu rt rs imm) = results_leave rt _
+  effect_leaves (Slti rt rs imm) = results_leave rt _
+  effect_leaves (Sltiu rt rs imm) = results_leave rt _
+  effect_leaves (Andi rt rs imm) = results_leave rt _
+  effect_leaves (Ori rt rs imm) = results_leave rt _
+  effect_leaves (Xori rt rs imm) = results_leave rt _
+  effect_leaves (Lui rt imm) = results_leave rt _
+  effect_leaves (Lb rt imm rs) = loads_leave rt _
+  effect_leaves (Lh rt imm rs) = loads_leave rt _
+  effect_leaves (Lwl rt imm rs) = loads_leave rt _
+  effect_leaves (Lw rt imm rs) = loads_leave rt _
+  effect_leaves (Lbu rt imm rs) = loads_leave rt _
+  effect_leaves (Lhu rt imm rs) = loads_leave rt _
+  effect_leaves (Lwr rt imm rs) = loads_leave rt _
+  effect_leaves (Sb rt imm rs) = stores_leave _ _
+  effect_leaves (Sh rt imm rs) = stores_leave _ _
+  effect_leaves (Swl rt imm rs) = parts_leave (word_round memory (place c rs imm)) _ _
+  effect_leaves (Sw rt imm rs) = stores_leave _ _
+  effect_leaves (Swr rt imm rs) = parts_leave (word_round memory (place c rs imm)) _ _
+
+  fault_or : (b : Bool) (r : Row) → Leaves Q c r → Leaves Q c (cond b (Faults BranchInSlot) r)
+  fault_or true r leaves = tt
+  fault_or false r leaves = leaves
+
+  inst_leaves : (inst : Option Inst) → Leaves Q c (inst_row inst memory c)
+  inst_leaves None = tt
+  inst_leaves (Some inst) = fault_or _ _ (effect_leaves inst)
+
+  word_leaves : (word : Option ℕ) → Leaves Q c (row_of word memory c)
+  unfolding word_row
+  word_leaves None = tt
+  word_leaves (Some word) = inst_leaves (inst_of word)
+
+  row_leaves : Leaves Q c (row memory c)
+  unfolding row
+  row_leaves = word_leaves (load_at memory c.pc Word)
+
+-- where it faults the processor stays
+kept_after : (Q : Cpu → Type 0) (c : Cpu) (r : Row) → Q c → Leaves Q c r → Q (cpu_after c r)
+kept_after Q c (Goes after storing) was is = is
+kept_after Q c (Serves code) was is = is
+kept_after Q c (Faults fault) was is = was
+
+-- a row goes to the next instruction
+goes_to : (c : Cpu) → RowKeeps (λ d. d.next ≡ c.next) (λ d. d.pc ≡ c.next)
+goes_to c = record {
+  writes = λ d n value other is. is;
+  pairs = λ d hi lo is. is;
+  moves = λ d is. is;
+  jumps = λ d target is. is;
+}
+
+gone_to : (c : Cpu) (r : Row) → Leaves (λ d. d.pc ≡ c.next) c r → GoesToNext c r
+gone_to c (Goes after storing) is = is
+gone_to c (Serves code) is = is
+gone_to c (Faults fault) is = tt
+
+pub rows_go_to_next : RowsGoToNext
+rows_go_to_next memory c = gone_to c (row memory c) (row_leaves (goes_to c) memory c refl)
+
+-- whatever stood there, the processor is straight
+straightens : RowKeeps (λ c. ⊤) IsStraight
+straightens = record {
+  writes = λ c n value other is. tt;
+  pairs = λ c hi lo is. tt;
+  moves = λ c is out. refl;
+  jumps = λ c target is out. absurd (cc out);
+}
+
+pub rows_stay_straight : RowsStayStraight
+rows_stay_straight memory c straight =
+    kept_after IsStraight c (row memory c) straight (row_leaves straightens memory c tt)
+
+-- a steady one stays so
+pub steadies : RowKeeps IsSteady IsSteady
+steadies = record {
+  writes = λ c n value other is. record {
+    straight = is.straight;
+    registers = length-set c.regs n value ∙ is.registers;
+    zero = get_or-set_other c.regs n 0 value 0 (λ none. grind (arith, nat_tests, other, none))
+        ∙ is.zero;
+  };
+  pairs = λ c hi lo is.
+      record { straight = is.straight; registers = is.registers; zero = is.zero };
+  moves = λ c is. record { straight = λ out. refl; registers = is.registers; zero = is.zero };
+  jumps = λ c target is. record {
+    straight = λ out. absurd (cc out);
+    registers = is.registers;
+    zero = is.zero;
+  };
+}
+
+pub rows_stay_steady : RowsStaySteady
+rows_stay_steady memory c steady =
+    kept_after IsSteady c (row memory c) steady (row_leaves steadies memory c steady)
