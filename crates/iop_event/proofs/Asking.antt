@@ -9,7 +9,7 @@ use Rattle.iop_event.specs.declared.wanted.Wanted.{Wanted}
 use Rattle.iop_objects.specs.Objects.{Object, object_of, waiters_in, waiters_of, changes, deletes, with_state, with_waiters, takes_next, takes_where, drops, requeues}
 use Rattle.iop_objects.specs.Objects as objects
 use Rattle.iop_objects.specs.Queue.{Choice, chooses_first, chooses_behind, chooses_where}
-use Rattle.iop_objects.specs.Waiting.{without, in_place, is_thread, with_priority}
+use Rattle.iop_objects.specs.WaiterQueues.{without, in_place, is_thread, with_priority}
 use Rattle.iop_objects.specs.declared.queued.Queued.{Queued}
 use Rattle.iop_objects.specs.declared.waiter.Waiter.{Waiter}
 

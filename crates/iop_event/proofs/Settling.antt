@@ -6,7 +6,7 @@ use Rattle.std.proofs.lemmas.List.Elements.{All-nil, All-cons, All-head, All-tai
 use Rattle.iop_event.proofs.Asking.{AskBits-waiters_of}
 use Rattle.iop_event.specs.EventFlags.{EventFlags, AskForBits, meets_next, meets_by, meets_it, with_pattern}
 use Rattle.iop_event.specs.Laws.{FlagIsMet, AskBits, NoneOverdue, settled}
-use Rattle.iop_event.specs.Waiting.{Settled, settles, is_met, holds, has_bit, pattern_after, met_by, meets, stays}
+use Rattle.iop_event.specs.WakeConditions.{Settled, settles, is_met, holds, has_bit, pattern_after, met_by, meets, stays}
 use Rattle.iop_event.specs.declared.event_flag.EventFlag.{EventFlag}
 use Rattle.iop_event.specs.declared.met.Met.{Met}
 use Rattle.iop_event.specs.declared.wanted.TheConstants.{EITHER, CLEAR}

@@ -3,7 +3,7 @@
 use Rattle.std.specs.Prelude.{◌≢◌, ℕ, ◌==◌, Bool, not, ◌&&◌, ◌||◌, if◌then◌else◌, Option, Some, None, Result, Ok, Err, List, length, All, bit_and, bit_or}
 use Rattle.iop_base.specs.declared.code.Code.{Code}
 use Rattle.iop_base.specs.declared.code.TheConstants.Code.{OK, ILLEGAL_ATTRIBUTE, UNKNOWN_EVENT_FLAG, FLAG_CONDITION, SECOND_WAITER, EMPTY_PATTERN}
-use Rattle.iop_event.specs.Waiting.{holds, is_met, pattern_after, met_by}
+use Rattle.iop_event.specs.WakeConditions.{holds, is_met, pattern_after, met_by}
 use Rattle.iop_event.specs.declared.event_flag.EventFlag.{EventFlag}
 use Rattle.iop_event.specs.declared.event_flag.TheConstants.{MANY_WAITERS}
 use Rattle.iop_event.specs.declared.met.Met.{Met}

@@ -3,7 +3,7 @@ use Rattle.std.specs.Prelude.{◌≡◌, ◌≢◌, ℕ, false, Some, None, List
 use Rattle.std.specs.Int.{bit_at}
 use Rattle.iop_base.specs.declared.code.TheConstants.Code.{OK}
 use Rattle.iop_event.specs.EventFlags.{EventFlags, AskForBits, clears, meets_next, sets}
-use Rattle.iop_event.specs.Waiting.{Settled, settles, is_met}
+use Rattle.iop_event.specs.WakeConditions.{Settled, settles, is_met}
 use Rattle.iop_event.specs.declared.event_flag.EventFlag.{EventFlag}
 use Rattle.iop_event.specs.declared.met.Met.{Met}
 use Rattle.iop_event.specs.declared.wanted.Wanted.{Wanted}

@@ -1,3 +1,3 @@
-pub mod Waiting
+pub mod WakeConditions
 pub mod EventFlags
 pub mod Laws

@@ -36,7 +36,7 @@ impl Model for EventFlags {
 struct Pattern(u32);
 
 impl Condition<Waiter<Wanted>> for Pattern {
-    ghost use Rattle.iop_event.specs.Waiting.{is_met};
+    ghost use Rattle.iop_event.specs.WakeConditions.{is_met};
 
     ghost holds_for = { λ pattern waiter. is_met pattern.0 waiter };
 

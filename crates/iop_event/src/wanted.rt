@@ -1,5 +1,5 @@
 ghost use Rattle.std.specs.Prelude.{◌≡◌, Bool};
-ghost use Rattle.iop_event.specs.Waiting.{holds, pattern_after};
+ghost use Rattle.iop_event.specs.WakeConditions.{holds, pattern_after};
 
 /// The bit of a mode that asks for one of the bits, and not for all (ps2sdk: thevent.h, `WEF_OR`).
 pub const EITHER: u32 = 1;

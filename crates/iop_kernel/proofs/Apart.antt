@@ -16,16 +16,16 @@ use Rattle.iop_thread.specs.declared.wait.Wait.{Wait}
 use Rattle.iop_thread.specs.declared.wait.Wait.TheVariants.{Delay, Object}
 use Rattle.iop_kernel.specs.Kinds.{Table, table, with_table, library_of, is_by_priority}
 use Rattle.iop_kernel.specs.Laws.{KeepsObjects, LibrariesStayApart, serves_kernel, ServicesStayApart}
-use Rattle.iop_kernel.specs.Running.{exit_thread}
 use Rattle.iop_kernel.specs.Serving.{serves}
 use Rattle.iop_kernel.specs.System.{Kernel, System, caller, with_threads, opened}
+use Rattle.iop_kernel.specs.ThreadStarts.{exit_thread}
 use Rattle.iop_kernel.specs.Waits.{leaves_object, requeues_at, wakes_with}
 use Rattle.iop_kernel.specs.declared.after.After.{After}
-use Rattle.iop_kernel.proofs.KindTables.{each_table}
-use Rattle.iop_kernel.proofs.Moves.{Moves}
-use Rattle.iop_kernel.proofs.ObjectsKept.{same_objects, drops_keep, requeues_keep}
-use Rattle.iop_kernel.proofs.Walking.{serves_goes, library_goes, asked_not}
-use Rattle.iop_kernel.proofs.WalkingThreads.{exits_go}
+use Rattle.iop_kernel.proofs.Bodies.KindTables.{each_table}
+use Rattle.iop_kernel.proofs.Placing.ObjectsKept.{same_objects, drops_keep, requeues_keep}
+use Rattle.iop_kernel.proofs.Walk.Moves.{Moves}
+use Rattle.iop_kernel.proofs.Walk.Services.{serves_goes, library_goes, asked_not}
+use Rattle.iop_kernel.proofs.Walk.Threads.{exits_go}
 
 -- the objects of each kind are left as they were, but for those that wait
 abbrev KeepsTables : (k l : Kernel) → Type 0

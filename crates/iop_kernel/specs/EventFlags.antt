@@ -8,7 +8,7 @@ use Rattle.iop_base.specs.declared.code.TheConstants.Code.{OK, UNKNOWN_EVENT_FLA
 use Rattle.iop_base.specs.declared.guest_fault.GuestFault.TheVariants.{Address}
 use Rattle.iop_event.specs.EventFlags.{EventFlags, with_pattern}
 use Rattle.iop_event.specs.EventFlags as flags
-use Rattle.iop_event.specs.Waiting.{settles}
+use Rattle.iop_event.specs.WakeConditions.{settles}
 use Rattle.iop_event.specs.declared.met.Met.{Met}
 use Rattle.iop_event.specs.declared.wanted.Wanted.{Wanted}
 use Rattle.iop_kernel.specs.Boards.{Board, quiet, writes, word_in, bytes_of_words, optional_place}

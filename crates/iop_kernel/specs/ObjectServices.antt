@@ -15,7 +15,7 @@ use Rattle.iop_thread.specs.declared.wait.Wait.TheVariants.{Object}
 use Rattle.iop_kernel.specs.Boards.{Board, quiet, writes}
 use Rattle.iop_kernel.specs.Kinds.{State, Wants, Live, Table, table, with_objects, waits_by_priority}
 use Rattle.iop_kernel.specs.System.{Core, Left, Done, with_threads, code_word, answers, faults, words_place}
-use Rattle.iop_kernel.specs.Waiting.{waits}
+use Rattle.iop_kernel.specs.ThreadWaits.{waits}
 use Rattle.iop_kernel.specs.Waits.{threads_of, wakes_all}
 
 -- the code of an id that no live object has

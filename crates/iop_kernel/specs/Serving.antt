@@ -17,18 +17,18 @@ use Rattle.iop_services.specs.declared.service.Service.{Service}
 use Rattle.iop_services.specs.declared.service.Service.TheVariants.{Loadcore, Sysmem, Intrman, Thbase, Thsemap, Thevent, Thmsgbx, Stdio}
 use Rattle.iop_services.specs.declared.stdio_service.StdioService.{StdioService}
 use Rattle.iop_services.specs.declared.sysmem_service.SysmemService.{SysmemService}
-use Rattle.iop_kernel.specs.declared.call.Call.{Call}
-use Rattle.iop_kernel.specs.declared.call.Call.TheVariants.{Library, ThreadReturn, HandlerReturn, ModuleReturn}
-use Rattle.iop_kernel.specs.declared.call.TheConstants.{THREAD_RETURN_CALL, HANDLER_RETURN_CALL, MODULE_RETURN_CALL}
 use Rattle.iop_kernel.specs.Boards.{board_of, on_board}
 use Rattle.iop_kernel.specs.EventFlags.{serves_thevent}
 use Rattle.iop_kernel.specs.Handlers.{return_handler}
 use Rattle.iop_kernel.specs.Interrupts.{serves_intrman}
 use Rattle.iop_kernel.specs.Mailboxes.{serves_thmsgbx}
-use Rattle.iop_kernel.specs.Running.{exit_thread, return_module}
 use Rattle.iop_kernel.specs.Semaphores.{serves_thsemap}
 use Rattle.iop_kernel.specs.System.{Left, System, Served, in_handler, resumes, answers, faults, silent, on_core}
 use Rattle.iop_kernel.specs.Thbase.{serves_thbase}
+use Rattle.iop_kernel.specs.ThreadStarts.{exit_thread, return_module}
+use Rattle.iop_kernel.specs.declared.call.Call.{Call}
+use Rattle.iop_kernel.specs.declared.call.Call.TheVariants.{Library, ThreadReturn, HandlerReturn, ModuleReturn}
+use Rattle.iop_kernel.specs.declared.call.TheConstants.{THREAD_RETURN_CALL, HANDLER_RETURN_CALL, MODULE_RETURN_CALL}
 
 -- what a code calls, if it has a meaning: the codes of a library's services begin at its number
 -- times LIBRARY_CODES

@@ -14,12 +14,12 @@ use Rattle.iop_thread.specs.Standing as threads
 use Rattle.iop_thread.specs.declared.kind.Kind.{Kind}
 use Rattle.iop_time.specs.Timers.{is_delay_of}
 use Rattle.iop_time.specs.declared.clock.TheConstants.{MOST_DELAYS}
+use Rattle.iop_kernel.specs.Boards.{Board}
 use Rattle.iop_kernel.specs.Deliveries.{Delivered}
 use Rattle.iop_kernel.specs.Dispatching.{Dispatched}
-use Rattle.iop_kernel.specs.Deleting.{Owner}
-use Rattle.iop_kernel.specs.Boards.{Board}
 use Rattle.iop_kernel.specs.Kinds.{Table, of_kind}
 use Rattle.iop_kernel.specs.Placing.{IsPlaced}
+use Rattle.iop_kernel.specs.Stacks.{Owner}
 use Rattle.iop_kernel.specs.System.{Kernel, Core, System, Left, Done, Served, is_active}
 use Rattle.iop_kernel.specs.declared.active_handler.Cause.{Cause}
 use Rattle.iop_kernel.specs.declared.active_handler.Cause.TheVariants.{Line, Alarm}

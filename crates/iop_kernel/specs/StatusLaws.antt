@@ -9,14 +9,14 @@ use Rattle.iop_thread.specs.declared.thread.Thread.{Thread}
 use Rattle.iop_kernel.specs.Boards.{Board}
 use Rattle.iop_kernel.specs.EventFlags.{LiveFlag, flag_words, refer_event_flag_status}
 use Rattle.iop_kernel.specs.Mailboxes.{LiveMailbox, mailbox_words, refer_mbx_status}
+use Rattle.iop_kernel.specs.NamedThreads.{named}
 use Rattle.iop_kernel.specs.Semaphores.{LiveSemaphore, semaphore_words, refer_sema_status}
 use Rattle.iop_kernel.specs.System.{System, caller, words_place}
-use Rattle.iop_kernel.specs.Naming.{named}
-use Rattle.iop_kernel.specs.Status.{status_words, refer_thread_status}
-use Rattle.iop_kernel.specs.declared.status.TheConstants.{STATUS_WORDS}
-use Rattle.iop_kernel.specs.declared.semaphores.TheConstants.{SEMAPHORE_STATUS_WORDS}
+use Rattle.iop_kernel.specs.ThreadStatus.{status_words, refer_thread_status}
 use Rattle.iop_kernel.specs.declared.event_flags.TheConstants.{FLAG_STATUS_WORDS}
 use Rattle.iop_kernel.specs.declared.mailboxes.TheConstants.{MAILBOX_STATUS_WORDS}
+use Rattle.iop_kernel.specs.declared.semaphores.TheConstants.{SEMAPHORE_STATUS_WORDS}
+use Rattle.iop_kernel.specs.declared.thread_status.TheConstants.{STATUS_WORDS}
 
 -- the words of a thread's status stand at a place: with these names ReferThreadStatus of ps2sdk's
 -- thbase.h has them

@@ -3,15 +3,14 @@ use Rattle.std.specs.Prelude.{ℕ, true, false}
 use Rattle.iop_services.specs.declared.thbase_service.ThbaseService.{ThbaseService}
 use Rattle.iop_services.specs.declared.thbase_service.ThbaseService.TheVariants as service
 use Rattle.iop_kernel.specs.Boards.{board_of, on_board}
-use Rattle.iop_kernel.specs.Creating.{create_thread}
-use Rattle.iop_kernel.specs.Deleting.{delete_thread, exit_delete_thread, owner_of, on_owner}
-use Rattle.iop_kernel.specs.Naming.{get_thread_id}
-use Rattle.iop_kernel.specs.Ordering.{set_dispatch, change_priority, rotate_ready_queue}
-use Rattle.iop_kernel.specs.Running.{start_thread, exit_thread, terminate_thread}
-use Rattle.iop_kernel.specs.Status.{refer_thread_status}
+use Rattle.iop_kernel.specs.NamedThreads.{get_thread_id}
+use Rattle.iop_kernel.specs.Priorities.{set_dispatch, change_priority, rotate_ready_queue}
+use Rattle.iop_kernel.specs.Stacks.{create_thread, delete_thread, exit_delete_thread, owner_of, on_owner}
 use Rattle.iop_kernel.specs.System.{System, Left, Core, Served, argument, silent, on_core}
-use Rattle.iop_kernel.specs.Timing.{delay_thread, get_system_time, set_alarm, cancel_alarm, usec_to_clock, clock_to_usec}
-use Rattle.iop_kernel.specs.Waiting.{release_wait, sleep_thread, wakeup_thread, cancel_wakeups, suspend_thread, resume_thread}
+use Rattle.iop_kernel.specs.SystemClock.{delay_thread, get_system_time, set_alarm, cancel_alarm, usec_to_clock, clock_to_usec}
+use Rattle.iop_kernel.specs.ThreadStarts.{start_thread, exit_thread, terminate_thread}
+use Rattle.iop_kernel.specs.ThreadStatus.{refer_thread_status}
+use Rattle.iop_kernel.specs.ThreadWaits.{release_wait, sleep_thread, wakeup_thread, cancel_wakeups, suspend_thread, resume_thread}
 
 module _ (s : System) where
   -- one that looks at the kernel alone

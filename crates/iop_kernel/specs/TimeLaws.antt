@@ -5,8 +5,8 @@ use Rattle.iop_stubs.specs.Stubs.{Memory}
 use Rattle.iop_time.specs.ClockTime.{ticks_of, micros_of}
 use Rattle.iop_kernel.specs.Boards.{Board}
 use Rattle.iop_kernel.specs.System.{words_place}
-use Rattle.iop_kernel.specs.Timing.{ticks_in, get_system_time, usec_to_clock, clock_to_usec}
-use Rattle.iop_kernel.specs.declared.timing.TheConstants.{TIME_WORDS, MICROS_OF_SECOND}
+use Rattle.iop_kernel.specs.SystemClock.{ticks_in, get_system_time, usec_to_clock, clock_to_usec}
+use Rattle.iop_kernel.specs.declared.system_clock.TheConstants.{TIME_WORDS, MICROS_OF_SECOND}
 
 -- the words of a time stand at a place, the lower one first, as in the iop_sys_clock_t of ps2sdk's
 -- thbase.h

@@ -5,15 +5,15 @@ ghost use Rattle.iop_base.specs.Numbers.{bytes_of, with_bytes};
 ghost use Rattle.iop_base.specs.Output.{Gives};
 ghost use Rattle.iop_base.specs.Places.{IsRamSize};
 ghost use Rattle.iop_kernel.specs.Boards.{bytes_of_words, writes, writes_with};
-ghost use Rattle.iop_kernel.specs.System.{Kernel as State};
 ghost use Rattle.iop_kernel.specs.Standing.{Holds, TakesBoard, core};
+ghost use Rattle.iop_kernel.specs.System.{Kernel as State};
 ghost use Rattle.iop_stubs.specs.Stubs.{after_store, store_lines};
 ghost use Rattle.iop_kernel.specs.declared.words.TheConstants.{MOST_WORDS};
 
 use crate::after::After;
 use crate::answering::answer;
 use crate::kernel::Kernel;
-use crate::status::STATUS_WORDS;
+use crate::thread_status::STATUS_WORDS;
 use iop_base::{Code, Lines};
 use iop_exec::Cpu;
 use iop_ready::Ready;

@@ -13,7 +13,7 @@ use Rattle.iop_exec.specs.declared.position.Position.{Position}
 use Rattle.iop_exec.specs.declared.registers.Registers.{Registers}
 use Rattle.iop_exec.specs.Processors.{cpu_of, position_of, registers_of, standing_at}
 use Rattle.iop_kernel.specs.System.{is_active}
-use Rattle.iop_kernel.proofs.PlacingBasics.{clock_place}
+use Rattle.iop_kernel.proofs.Placing.Basics.{clock_place}
 use Rattle.iop_kernel.specs.Standing.{HasNumber}
 use Rattle.iop_time.specs.Timers.{Timers}
 use Rattle.iop_machine.specs.Advancing.{Reached, Advances}

@@ -18,9 +18,9 @@ use Rattle.iop_machine.specs.Running.{Runs, RunsFor}
 use Rattle.iop_machine.specs.Standing as standing
 use Rattle.iop_machine.specs.World.{World, booted}
 use Rattle.iop_machine.specs.declared.iop.Iop.{Iop as Program}
-use Rattle.iop_kernel.proofs.DeliveriesFirst.{deliveries_are_in_order}
+use Rattle.iop_kernel.proofs.Order.First.{deliveries_are_in_order}
 use Rattle.iop_time.proofs.Nexts.{next_moment_is_least}
-use Rattle.iop_kernel.proofs.Settling.{settled_later}
+use Rattle.iop_kernel.proofs.Keeping.Settled.{settled_later}
 use Rattle.iop_machine.proofs.EventLemmas.{AreLater, IsNextTick, next_tick_is, left_comes}
 use Rattle.iop_machine.proofs.LookingLemmas.{taken_core, taken_later}
 

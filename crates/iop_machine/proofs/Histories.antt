@@ -7,12 +7,12 @@ use Rattle.iop_exec.proofs.RowKeeps.{rows_stay_steady}
 use Rattle.iop_exec.specs.Laws.{IsSteady, cpu_after}
 use Rattle.iop_exec.specs.Row.{Row, Goes, Serves, Faults, at_next, row}
 use Rattle.iop_exec.specs.declared.cpu.Cpu.{Cpu}
-use Rattle.iop_kernel.proofs.Counting.{services_count}
-use Rattle.iop_kernel.proofs.CountingHistories.{IsHistory, longer, history_grows}
-use Rattle.iop_kernel.proofs.DeliveriesFirst.{deliveries_are_in_order}
-use Rattle.iop_kernel.proofs.Delivering.{services_deliver}
-use Rattle.iop_kernel.proofs.DeliveringHistories.{IsDeliveryHistory, delivery_history_grows}
-use Rattle.iop_kernel.proofs.Faulting.{services_alone}
+use Rattle.iop_kernel.proofs.Histories.Counts.{services_count}
+use Rattle.iop_kernel.proofs.Histories.CountedHistories.{IsHistory, longer, history_grows}
+use Rattle.iop_kernel.proofs.Order.First.{deliveries_are_in_order}
+use Rattle.iop_kernel.proofs.Histories.Messages.{services_deliver}
+use Rattle.iop_kernel.proofs.Histories.DeliveredHistories.{IsDeliveryHistory, delivery_history_grows}
+use Rattle.iop_kernel.proofs.Keeping.Faults.{services_alone}
 use Rattle.iop_kernel.specs.Histories.{Called, called}
 use Rattle.iop_kernel.specs.Laws.{IsCore}
 use Rattle.iop_kernel.specs.Serving.{services}

@@ -14,7 +14,7 @@ use Rattle.iop_kernel.specs.Serving.{services}
 use Rattle.iop_kernel.specs.System.{System, Served, is_active}
 use Rattle.iop_kernel.specs.declared.after.After.{After}
 use Rattle.iop_kernel.specs.declared.after.After.TheVariants.{Resume, Switch, ModuleReturned, Fault}
-use Rattle.iop_kernel.proofs.KeepingServices.{services_keep}
+use Rattle.iop_kernel.proofs.Keeping.Services.{services_keep}
 use Rattle.iop_modload.specs.Finishing.{finishes}
 use Rattle.iop_modload.specs.Laws.{HasBlocks, IsLiveOrTold, Keeps as LoadingKeeps}
 use Rattle.iop_modload.specs.declared.loaded.Loaded.{Loaded}
@@ -24,14 +24,14 @@ use Rattle.iop_stubs.specs.Stubs.{access_place, Memory, after_store, meets, stub
 use Rattle.iop_stubs.specs.declared.live_stub.Stub.{Stub}
 use Rattle.iop_stubs.proofs.Storing.{store_sound}
 use Rattle.iop_sysmem.specs.BlockMap.{BlockMap}
-use Rattle.iop_machine.specs.declared.arguments.TheConstants.{ARGUMENTS, ARGUMENTS_LEN}
-use Rattle.iop_machine.specs.declared.begun_module.BegunModule.{BegunModule}
 use Rattle.iop_machine.specs.Iop.{Iop, Transition, tells, system_of}
 use Rattle.iop_machine.specs.Loading.{loading_of, places, passes, enters_or, loads_first, starts_by}
 use Rattle.iop_machine.specs.Modules.{Module, argument_block}
 use Rattle.iop_machine.specs.Services.{calls, calls_by, serves, leaves, returns_by, ends_module, goes_on_by}
 use Rattle.iop_machine.specs.Stepping.{performs, stores_it, waits_by}
 use Rattle.iop_machine.specs.Storing.{stores_bytes, fills}
+use Rattle.iop_machine.specs.declared.arguments.TheConstants.{ARGUMENTS, ARGUMENTS_LEN}
+use Rattle.iop_machine.specs.declared.begun_module.BegunModule.{BegunModule}
 use Rattle.iop_machine.proofs.Elements.{fails_or_passes}
 use Rattle.iop_machine.proofs.Inside.{LiesInside, LieInside, range_by, number_inside, first_inside, others_inside, length-after_store}
 

@@ -5,9 +5,9 @@ use Rattle.iop_base.proofs.Memory.{length-with_bytes}
 use Rattle.iop_base.specs.Places.{IsRamSize}
 use Rattle.iop_exec.proofs.RowKeeps.{rows_stay_steady}
 use Rattle.iop_exec.specs.Row.{row}
-use Rattle.iop_kernel.proofs.DeliveriesFirst.{deliveries_are_in_order}
-use Rattle.iop_kernel.proofs.KeepingSteps.{opening_core}
-use Rattle.iop_kernel.proofs.Strict.{dispatches_are_strict}
+use Rattle.iop_kernel.proofs.Order.First.{deliveries_are_in_order}
+use Rattle.iop_kernel.proofs.Keeping.Steps.{opening_core}
+use Rattle.iop_kernel.proofs.Order.Strict.{dispatches_are_strict}
 use Rattle.iop_kernel.specs.Laws.{IsCore}
 use Rattle.iop_kernel.specs.System.{Kernel}
 use Rattle.iop_modload.specs.Laws.{HasBlocks}

@@ -31,7 +31,7 @@ mod Settling
 mod Timing
 mod Acting
 mod Progressing
-mod WaitingLemmas
+mod ModulesTaken
 mod ArgumentLemmas
 mod ServiceLemmas
 mod Performing

@@ -20,14 +20,14 @@ use Rattle.iop_sysmem.specs.BlockMap.{BlockMap}
 use Rattle.iop_sysmem.specs.declared.blocks.TheConstants.{KERNEL}
 use Rattle.iop_thread.specs.Operations as threads
 use Rattle.iop_thread.specs.States.{zeroed_at}
-use Rattle.iop_machine.specs.declared.begun_module.BegunModule.{BegunModule}
-use Rattle.iop_machine.specs.declared.iop.Iop.{Iop as Program}
 use Rattle.iop_machine.specs.Iop.{Iop, Transition, Takes, Remains, silent, tells, and_then}
 use Rattle.iop_machine.specs.KernelArea.{kernel_area}
 use Rattle.iop_machine.specs.Loading.{with_kernel, boots, loading_of, places, begins, enters, enters_or, loads_first, starts_by}
 use Rattle.iop_machine.specs.Modules.{Module, argument_block, module_start}
 use Rattle.iop_machine.specs.Standing.{iop_of, Stands}
 use Rattle.iop_machine.specs.World.{reset, zeros}
+use Rattle.iop_machine.specs.declared.begun_module.BegunModule.{BegunModule}
+use Rattle.iop_machine.specs.declared.iop.Iop.{Iop as Program}
 use Rattle.iop_machine.proofs.StandingLemmas.{IsMoment, carried, stands_for}
 use Rattle.iop_machine.proofs.Taking.{silent_takes, silent_then, takes_as, takes_then, takes_with}
 
@@ -47,7 +47,7 @@ zero_memory n memory zero none size =
 
 -- what a program has that was just made with so much memory
 pub record IsReset (n : ℕ) (m : Program) : Type 0 where
-  pub kernel : kernel.Stands StandsFor m.kernel (reset n m.waiting m.events).kernel
+  pub kernel : kernel.Stands StandsFor m.kernel (reset n m.modules m.events).kernel
   pub cpu : m.cpu ≡ zeroed_at 0
   pub zero : (p : ℕ) → get_or m.guest.ram p 0 ≡ 0
   pub none : m.guest.live ≡ []
@@ -58,9 +58,9 @@ pub record IsReset (n : ℕ) (m : Program) : Type 0 where
   pub over : m.over ≡ None
 
 -- it stands for the machine as it begins
-pub reset_stands : (n : ℕ) (m : Program) → IsReset n m → Stands m (reset n m.waiting m.events)
+pub reset_stands : (n : ℕ) (m : Program) → IsReset n m → Stands m (reset n m.modules m.events)
 reset_stands n m h =
-    let start = reset n m.waiting m.events in
+    let start = reset n m.modules m.events in
     record {
       kernel = h.kernel;
       rest = ap (λ (x : Memory). record start { memory = x }) (sym (zero_memory n m.guest h.zero h.none h.sized))
@@ -108,12 +108,12 @@ nothing_loads s modules e =
     ∙ ap (λ (ms : List Module). silent (record s { modules = ms; begun = None })) (sym e)
 
 -- no module is left
-pub none_left : (m : Program) (a : Output) → None ≡ slice_get m.waiting 0 → (s : Iop) → Stands m s
+pub none_left : (m : Program) (a : Output) → None ≡ slice_get m.modules 0 → (s : Iop) → Stands m s
     → Takes Stands (loads_first s.modules s) (record m { begun = None }) a a
 none_left m a none =
     carried m (λ s. Takes Stands (loads_first s.modules s) (record m { begun = None }) a a)
     (λ k h. takes_as (silent_takes a (stands_for (record m { begun = None }) k h))
-    (sym (nothing_loads (iop_of m k) m.waiting (none_is m.waiting none))))
+    (sym (nothing_loads (iop_of m k) m.modules (none_is m.modules none))))
 
 module _ (m : Program) (t : ℕ) (first : Module) where
   -- what the loading of a module comes to at a moment
@@ -123,33 +123,33 @@ module _ (m : Program) (t : ℕ) (first : Module) where
   -- the first module was loaded or refused, and taken out
   pub record Places (answer : Result Loaded Code) (placed : Program) (a b : Output) : Type 0 where
     pub moment : IsMoment m t
-    pub is_first : Some first ≡ slice_get m.waiting 0
+    pub is_first : Some first ≡ slice_get m.modules 0
     pub answer_is : answer ≡ loading.answer
     pub takes : (s : Iop) → Stands m s
         → Takes Stands (places s (drop 1 s.modules) (loading_of s first)) placed a b
 
   -- as the clauses of the calls say it
   pub places_as : {a b : Output} (answer : Result Loaded Code) (memory : Memory) (blocks : BlockMap)
-      (modules : List Module) → IsMoment m t → Some first ≡ slice_get m.waiting 0
+      (modules : List Module) → IsMoment m t → Some first ≡ slice_get m.modules 0
       → answer ≡ loading.answer → memory ≡ loading.memory → blocks ≡ loading.blocks
-      → Gives a b loading.pieces → modules ≡ drop 1 m.waiting
-      → Places answer (record m { guest = memory; blocks = blocks; waiting = modules }) a b
+      → Gives a b loading.pieces → modules ≡ drop 1 m.modules
+      → Places answer (record m { guest = memory; blocks = blocks; modules = modules }) a b
   places_as {a} {b} answer memory blocks modules moment is_first answer_is e f lines rest =
-      let placed = record m { guest = memory; blocks = blocks; waiting = modules } in
+      let placed = record m { guest = memory; blocks = blocks; modules = modules } in
       record {
         moment = moment;
         is_first = is_first;
         answer_is = answer_is;
         takes = carried m (λ s. Takes Stands (places s (drop 1 s.modules) (loading_of s first)) placed a b)
             (λ k h. subst (λ u. Takes Stands
-            (places (iop_of m k) (drop 1 m.waiting) (loads u m.guest m.blocks m.registry first.file))
+            (places (iop_of m k) (drop 1 m.modules) (loads u m.guest m.blocks m.registry first.file))
             placed a b) (moment k h) (record {
               state = record {
                 kernel = h;
                 rest = ap (λ (x : Memory). record (iop_of m k)
-                    { memory = x; blocks = loading.blocks; modules = drop 1 m.waiting }) (sym e)
+                    { memory = x; blocks = loading.blocks; modules = drop 1 m.modules }) (sym e)
                     ∙ ap (λ (x : BlockMap). record (iop_of m k)
-                    { memory = memory; blocks = x; modules = drop 1 m.waiting }) (sym f)
+                    { memory = memory; blocks = x; modules = drop 1 m.modules }) (sym f)
                     ∙ ap (λ (x : List Module). record (iop_of m k)
                     { memory = memory; blocks = blocks; modules = x }) (sym rest);
               };
@@ -178,9 +178,9 @@ module _ (m : Program) (t : ℕ) (first : Module) where
         let same : r ≡ (loading_of s first).answer = sym is ∙ h.answer_is
         ∙ ap (λ u. (loads u m.guest m.blocks m.registry first.file).answer) (h.moment k stands) in
         takes_as (takes_then (h.takes s (stands_for m k stands))
-        (λ v. enters_or (loads_first (drop 1 m.waiting)) v first (loading_of s first).answer)
+        (λ v. enters_or (loads_first (drop 1 m.modules)) v first (loading_of s first).answer)
         (takes_as rest (ap (follows s) same)))
-        (sym (loads_it s first m.waiting (first_is m.waiting first h.is_first))))
+        (sym (loads_it s first m.modules (first_is m.modules first h.is_first))))
 
     -- it begins with what it is handed
     pub loaded_takes : {new : Program} {c : Output} (loaded : Loaded) (words : ℕ) (block : List ℕ)

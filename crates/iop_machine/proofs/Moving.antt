@@ -4,9 +4,9 @@ use Rattle.iop_exec.specs.Laws.{IsSteady, cpu_after}
 use Rattle.iop_exec.specs.Row.{Row, Goes, Serves, Faults, at_next}
 use Rattle.iop_exec.specs.declared.cpu.Cpu.{Cpu}
 use Rattle.iop_intr.specs.InterruptLines.{IrqLine}
-use Rattle.iop_kernel.proofs.KeepingServices.{services_keep}
-use Rattle.iop_kernel.proofs.KeepingSteps.{core_steps}
-use Rattle.iop_kernel.proofs.Returning.{returning_opens}
+use Rattle.iop_kernel.proofs.Keeping.Services.{services_keep}
+use Rattle.iop_kernel.proofs.Keeping.Steps.{core_steps}
+use Rattle.iop_kernel.proofs.Keeping.Returns.{returning_opens}
 use Rattle.iop_kernel.specs.Deliveries.{Delivered}
 use Rattle.iop_kernel.specs.DeliveryLaws.{DeliversFirst}
 use Rattle.iop_kernel.specs.Laws.{IsCore}

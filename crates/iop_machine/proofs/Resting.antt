@@ -9,9 +9,9 @@ use Rattle.iop_kernel.specs.Dispatching.{Dispatched, dispatches}
 use Rattle.iop_kernel.specs.Laws.{IsCore}
 use Rattle.iop_kernel.specs.System.{Kernel, is_active}
 use Rattle.iop_kernel.specs.declared.active_handler.ActiveHandler.{ActiveHandler}
-use Rattle.iop_kernel.proofs.DeliveriesFirst.{deliveries_are_in_order}
-use Rattle.iop_kernel.proofs.Settling.{settled_later}
-use Rattle.iop_kernel.proofs.Strict.{dispatches_are_strict}
+use Rattle.iop_kernel.proofs.Order.First.{deliveries_are_in_order}
+use Rattle.iop_kernel.proofs.Keeping.Settled.{settled_later}
+use Rattle.iop_kernel.proofs.Order.Strict.{dispatches_are_strict}
 use Rattle.iop_script.specs.declared.raise.Raise.{Raise}
 use Rattle.iop_time.specs.Laws.{Stands, NoneHasCome, IsNextMoment}
 use Rattle.iop_time.specs.Timers.{Timers}

@@ -3,7 +3,7 @@ use Rattle.std.proofs.Common.{◌≡◌, ℕ, ◌≤◌, ◌^◌, Option, Some, 
 use Rattle.std.specs.Prelude.{IfSome, MatchOption}
 use Rattle.iop_exec.specs.Row.{row}
 use Rattle.iop_kernel.specs.Laws.{IsCore}
-use Rattle.iop_kernel.proofs.Settling.{dispatch_clock}
+use Rattle.iop_kernel.proofs.Keeping.Settled.{dispatch_clock}
 use Rattle.iop_script.specs.declared.raise.Raise.{Raise}
 use Rattle.iop_time.specs.Turns.{next_moment}
 use Rattle.iop_machine.specs.Events.{earlier, next_tick}

@@ -20,14 +20,14 @@ use Rattle.iop_registry.specs.declared.registry.Entry.{Entry as Library}
 use Rattle.iop_stubs.specs.Stubs.{Memory}
 use Rattle.iop_sysmem.specs.BlockMap.{BlockMap}
 use Rattle.iop_thread.specs.Operations as threads
-use Rattle.iop_machine.specs.declared.begun_module.BegunModule.{BegunModule}
-use Rattle.iop_machine.specs.declared.iop.Iop.{Iop as Program}
 use Rattle.iop_machine.specs.Iop.{Iop, Takes, with_state, system_of, with_system}
 use Rattle.iop_machine.specs.Loading.{loads_first}
 use Rattle.iop_machine.specs.Services.{faults_with, leaves, goes_on_by, ends_module, returns_by, serves, calls_by, calls}
 use Rattle.iop_machine.specs.Standing.{iop_of, Stands}
-use Rattle.iop_kernel.proofs.Faulting.{services_alone}
-use Rattle.iop_kernel.proofs.KeepingServices.{services_keep}
+use Rattle.iop_machine.specs.declared.begun_module.BegunModule.{BegunModule}
+use Rattle.iop_machine.specs.declared.iop.Iop.{Iop as Program}
+use Rattle.iop_kernel.proofs.Keeping.Faults.{services_alone}
+use Rattle.iop_kernel.proofs.Keeping.Services.{services_keep}
 use Rattle.iop_machine.proofs.Inside.{length-after_stores}
 use Rattle.iop_machine.proofs.LoadingLands.{returns_leave}
 use Rattle.iop_machine.proofs.StandingLemmas.{IsMoment, carried}

@@ -7,7 +7,7 @@ use Rattle.iop_exec.proofs.RowKeeps.{rows_go_to_next}
 use Rattle.iop_exec.specs.Laws.{GoesToNext}
 use Rattle.iop_exec.specs.Row.{Row, Goes, Faults, Storing, row}
 use Rattle.iop_exec.specs.declared.cpu.Cpu.{Cpu}
-use Rattle.iop_kernel.proofs.Settling.{settled_later}
+use Rattle.iop_kernel.proofs.Keeping.Settled.{settled_later}
 use Rattle.iop_kernel.specs.Deliveries.{Delivered, may_deliver, delivers_by, delivers}
 use Rattle.iop_kernel.specs.System.{Core}
 use Rattle.iop_kernel.specs.declared.active_handler.ActiveHandler.{ActiveHandler}

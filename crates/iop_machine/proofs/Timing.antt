@@ -4,7 +4,7 @@ use Rattle.std.proofs.Common.{◌≡◌, ℕ, zero, suc, ◌+◌, ◌-◌, ◌�
 use Rattle.std.specs.Prelude.{IfSome}
 use Rattle.iop_base.specs.Numbers.{one_if}
 use Rattle.iop_exec.specs.Row.{Row, Goes, Serves, Faults, at_next, row}
-use Rattle.iop_kernel.proofs.KeepingServices.{services_keep}
+use Rattle.iop_kernel.proofs.Keeping.Services.{services_keep}
 use Rattle.iop_kernel.specs.Serving.{services}
 use Rattle.iop_kernel.specs.System.{Kernel, Served, is_active}
 use Rattle.iop_kernel.specs.declared.after.After.{After}

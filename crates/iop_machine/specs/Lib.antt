@@ -16,4 +16,4 @@ pub mod EventLaws
 pub mod Standing
 pub mod ArgumentLaws
 pub mod AreaLaws
-pub mod Waiting
+pub mod ModulesLeft

@@ -4,8 +4,8 @@ use Rattle.iop_ready.specs.ReadyList.{StandsFor}
 use Rattle.iop_kernel.specs.Standing as kernel
 use Rattle.iop_kernel.specs.System.{Kernel}
 use Rattle.iop_machine.specs.Iop.{Iop}
-use Rattle.iop_machine.specs.World.{World, booted}
 use Rattle.iop_machine.specs.Laws.{IsMachine}
+use Rattle.iop_machine.specs.World.{World, booted}
 use Rattle.iop_machine.specs.declared.iop.Iop.{Iop as Program}
 use Rattle.iop_machine.specs.declared.machine.Machine.{Machine}
 
@@ -17,7 +17,7 @@ iop_of m kernel = record {
   memory = m.guest;
   blocks = m.blocks;
   libraries = m.registry;
-  modules = m.waiting;
+  modules = m.modules;
   events = m.events;
   begun = m.begun;
   over = m.over;

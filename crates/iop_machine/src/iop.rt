@@ -5,7 +5,7 @@ ghost use Rattle.iop_machine.specs.World.{reset};
 
 use crate::begun_module::BegunModule;
 use crate::events::Events;
-use crate::waiting::Waiting;
+use crate::modules_left::ModulesLeft;
 use iop_base::Stop;
 use iop_exec::Cpu;
 use iop_kernel::Kernel;
@@ -25,7 +25,7 @@ pub(crate) struct Iop {
     pub(crate) blocks: Blocks,
     pub(crate) registry: Registry,
     /// The modules that were not loaded yet.
-    pub(crate) waiting: Waiting,
+    pub(crate) modules: ModulesLeft,
     /// The script's events that are still to come.
     pub(crate) events: Events,
     /// The module that the loader's thread begins or runs, if there is one.
@@ -41,11 +41,11 @@ impl Iop {
     pub(crate) fn new(
         alloc: Global,
         size: u32,
-        waiting: Waiting,
+        modules: ModulesLeft,
         events: Events,
     ) -> Result<Self, AllocError>
         requires { IsRamSize size }
-        ensures { IfOk result (λ iop. Stands iop (reset size waiting events)) }
+        ensures { IfOk result (λ iop. Stands iop (reset size modules events)) }
     {
         Ok(Iop {
             kernel: Kernel::new(alloc, KernelReady::new(alloc)?)?,
@@ -53,7 +53,7 @@ impl Iop {
             guest: Guest::new(alloc, size)?,
             blocks: Blocks::new(alloc, size)?,
             registry: Registry::new(alloc)?,
-            waiting,
+            modules,
             events,
             begun: None,
             over: None,

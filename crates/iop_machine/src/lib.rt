@@ -13,11 +13,11 @@ mod loading;
 mod looking;
 mod machine;
 mod module;
+mod modules_left;
 mod progress;
 mod services;
 #[cfg(test)]
 mod tests;
-mod waiting;
 
 pub use arguments::{MOST_WORD_BYTES, MOST_WORDS};
 pub use machine::Machine;

@@ -3,8 +3,8 @@
 ghost use Rattle.std.specs.Prelude.{◌≡◌, ◌<◌, [], MatchBool, length};
 ghost use Rattle.std.specs.Bool.{OnTrue};
 ghost use Rattle.iop_machine.specs.Iop.{Iop as State, Takes, Remains};
-ghost use Rattle.iop_machine.specs.Standing.{Stands, IsSound};
 ghost use Rattle.iop_machine.specs.Loading.{passes, enters, loads_first, boots};
+ghost use Rattle.iop_machine.specs.Standing.{Stands, IsSound};
 
 use crate::arguments::{ARGUMENTS, ARGUMENTS_LEN, argument_block, module_start};
 use crate::begun_module::BegunModule;
@@ -56,10 +56,10 @@ impl Iop {
             (L.output lines.old) (L.output lines.new))
             (Takes Stands (loads_first s.modules s) self.new
             (L.output lines.old) (L.output lines.new)) }
-        ensures fewer { OnTrue result (length self.new.waiting < length self.old.waiting) }
+        ensures fewer { OnTrue result (length self.new.modules < length self.old.modules) }
         ensures same_size { OnTrue result (self.new.blocks.size ≡ length self.new.guest.ram) }
     {
-        let Some(next) = self.waiting.first() else {
+        let Some(next) = self.modules.first() else {
             self.begun = None;
             return false;
         };
@@ -75,12 +75,12 @@ impl Iop {
             Ok(loaded) => {
                 let block = argument_block(next.name.as_bytes(), next.words);
                 let words = next.words.len() as u32 + 1;
-                self.waiting.take_first();
+                self.modules.take_first();
                 self.enter(BegunModule { number, loaded }, words, &block, lines);
                 false
             }
             Err(code) => {
-                self.waiting.take_first();
+                self.modules.take_first();
                 lines.line(self.kernel.now(), Line::Refused { k: number, code });
                 true
             }

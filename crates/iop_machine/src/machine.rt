@@ -6,19 +6,19 @@ ghost use Rattle.iop_thread.specs.Standing.{Lends};
 ghost use Rattle.iop_ram.specs.Windows.{window_of};
 ghost use Rattle.iop_machine.specs.Modules.{HasRoom, modules_from};
 ghost use Rattle.iop_script.specs.declared.statements.TheConstants.{MOST_MODULES};
-ghost use Rattle.iop_machine.specs.World.{World, beginning};
-ghost use Rattle.iop_machine.specs.Laws.{IsMachine};
-ghost use Rattle.iop_machine.specs.Standing.{StandsForWorld, IsSoundMachine};
-ghost use Rattle.iop_machine.specs.Events.{CanCome};
-ghost use Rattle.iop_machine.specs.Stepping.{steps, most_between};
-ghost use Rattle.iop_machine.specs.Running.{Finishes, Faults, HasTime};
 ghost use Rattle.iop_machine.specs.Advancing.{Progresses, IsLess, calls_by};
+ghost use Rattle.iop_machine.specs.Events.{CanCome};
+ghost use Rattle.iop_machine.specs.Laws.{IsMachine};
+ghost use Rattle.iop_machine.specs.Running.{Finishes, Faults, HasTime};
+ghost use Rattle.iop_machine.specs.Standing.{StandsForWorld, IsSoundMachine};
+ghost use Rattle.iop_machine.specs.Stepping.{steps, most_between};
+ghost use Rattle.iop_machine.specs.World.{World, beginning};
 
 use crate::events::Events;
 use crate::iop::Iop;
 use crate::module::Module;
+use crate::modules_left::ModulesLeft;
 use crate::progress::Progress;
-use crate::waiting::Waiting;
 use iop_base::{Stop, WriteFault};
 use iop_ports::Sink;
 use iop_ready::KernelReady;
@@ -58,11 +58,11 @@ impl Machine {
             (beginning size (modules_from script.args 1 modules.items) script.events)) }
         ensures sound { IfOk result IsSoundMachine }
     {
-        let waiting = Waiting::new(modules, script.args);
+        let left = ModulesLeft::new(modules, script.args);
         let events = Events::new(script.events);
         Ok(Machine {
             is_new: true,
-            iop: Iop::new(alloc, size, waiting, events)?,
+            iop: Iop::new(alloc, size, left, events)?,
         })
     }
 

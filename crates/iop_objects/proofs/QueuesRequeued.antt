@@ -3,7 +3,7 @@ use Rattle.std.proofs.Common.{◌≡◌, ℕ, ◌+◌, ◌<◌, ◌≤◌, ◌&&
 use Rattle.std.proofs.lemmas.List.{take_all, drop_all}
 use Rattle.std.proofs.lemmas.List.Edits.{map_over_more}
 use Rattle.iop_objects.specs.Owners.{queue_of, Replaces}
-use Rattle.iop_objects.specs.Waiting.{is_thread, with_priority, moved_last, in_place}
+use Rattle.iop_objects.specs.WaiterQueues.{is_thread, with_priority, moved_last, in_place}
 use Rattle.iop_objects.specs.declared.queues.Owned.{Owned}
 use Rattle.iop_objects.specs.declared.waiter.Waiter.{Waiter}
 use Rattle.iop_objects.proofs.QueuesMoved.{Moving, Moving-all, Replaces-map, Replaces-moved}

@@ -6,14 +6,14 @@ use Rattle.iop_objects.specs.Objects.{Object, Objects, object_of, waiters_in, wa
 use Rattle.iop_objects.specs.Owners.{queue_of, Replaces}
 use Rattle.iop_objects.specs.Queue.{Choice, chooses, left_by}
 use Rattle.iop_objects.specs.Standing.{object_in, objects_in, IsTable}
-use Rattle.iop_objects.specs.Waiting.{requeued}
+use Rattle.iop_objects.specs.WaiterQueues.{requeued}
 use Rattle.iop_objects.specs.declared.objects.Live.{Live}
 use Rattle.iop_objects.specs.declared.queued.Queued.{Queued}
 use Rattle.iop_objects.specs.declared.queues.Owned.{Owned}
 use Rattle.iop_objects.specs.declared.waiter.Waiter.{Waiter}
 use Rattle.iop_objects.proofs.MappedLists.{find-map}
-use Rattle.iop_objects.proofs.Totals.{total_as_live}
 use Rattle.iop_objects.proofs.Tables.{table_of, waiting-total, all_counted, waiters_of-queue}
+use Rattle.iop_objects.proofs.Totals.{total_as_live}
 
 module _ {A W : Type 0} where
   -- the queue of an object is another, all other queues are as they were

@@ -1,6 +1,6 @@
 pub mod Queue
 pub mod Owners
-pub mod Waiting
+pub mod WaiterQueues
 pub mod Objects
 pub mod Standing
 pub mod Laws

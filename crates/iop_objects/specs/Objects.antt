@@ -6,10 +6,10 @@ use Rattle.iop_base.specs.declared.code.Code.{Code}
 use Rattle.iop_base.specs.declared.code.TheConstants.Code.{NO_MEMORY}
 use Rattle.iop_base.specs.declared.limits.TheConstants.{LAST_ID}
 use Rattle.iop_objects.specs.Queue.{Choice, chooses, chooses_where}
+use Rattle.iop_objects.specs.WaiterQueues.{without, requeued}
 use Rattle.iop_objects.specs.declared.objects.TheConstants.{FIRST_ID, MOST_OBJECTS}
 use Rattle.iop_objects.specs.declared.queued.Queued.{Queued}
 use Rattle.iop_objects.specs.declared.waiter.Waiter.{Waiter}
-use Rattle.iop_objects.specs.Waiting.{without, requeued}
 
 -- a live object
 pub record Object (A W : Type 0) : Type 0 where

@@ -9,7 +9,7 @@ mod queues;
 #[cfg(test)]
 mod tests;
 mod waiter;
-mod waiting;
+mod waiter_queues;
 
 pub use condition::Condition;
 pub use objects::{FIRST_ID, MOST_OBJECTS, MOST_WAITERS, Objects};

@@ -1,4 +1,4 @@
-use Rattle.iop_kernel.proofs.DeliveriesFirst.{deliveries_are_in_order}
+use Rattle.iop_kernel.proofs.Order.First.{deliveries_are_in_order}
 use Rattle.iop_kernel.proofs.laws.deliveries_are_in_order.Goals as goal
 
 pub returns : goal.returns

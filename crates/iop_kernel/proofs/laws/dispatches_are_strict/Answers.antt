@@ -1,4 +1,4 @@
-use Rattle.iop_kernel.proofs.Strict.{dispatches_are_strict}
+use Rattle.iop_kernel.proofs.Order.Strict.{dispatches_are_strict}
 use Rattle.iop_kernel.proofs.laws.dispatches_are_strict.Goals as goal
 
 pub returns : goal.returns

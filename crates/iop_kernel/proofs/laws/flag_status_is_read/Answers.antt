@@ -1,4 +1,4 @@
-use Rattle.iop_kernel.proofs.StatusReading.{flag_status_is_read}
+use Rattle.iop_kernel.proofs.Readings.Statuses.{flag_status_is_read}
 use Rattle.iop_kernel.proofs.laws.flag_status_is_read.Goals as goal
 
 pub returns : goal.returns

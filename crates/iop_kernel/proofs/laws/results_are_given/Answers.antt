@@ -1,4 +1,4 @@
-use Rattle.iop_kernel.proofs.ResultsGiven.{results_are_given}
+use Rattle.iop_kernel.proofs.Order.Results.{results_are_given}
 use Rattle.iop_kernel.proofs.laws.results_are_given.Goals as goal
 
 pub returns : goal.returns

@@ -1,4 +1,4 @@
-use Rattle.iop_kernel.proofs.TimeReading.{seconds_are_read}
+use Rattle.iop_kernel.proofs.Readings.Times.{seconds_are_read}
 use Rattle.iop_kernel.proofs.laws.seconds_are_read.Goals as goal
 
 pub returns : goal.returns

@@ -1,4 +1,4 @@
-use Rattle.iop_kernel.proofs.KeepingServices.{services_keep}
+use Rattle.iop_kernel.proofs.Keeping.Services.{services_keep}
 use Rattle.iop_kernel.proofs.laws.services_keep.Goals as goal
 
 pub returns : goal.returns

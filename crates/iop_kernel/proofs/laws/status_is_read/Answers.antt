@@ -1,4 +1,4 @@
-use Rattle.iop_kernel.proofs.StatusReading.{status_is_read}
+use Rattle.iop_kernel.proofs.Readings.Statuses.{status_is_read}
 use Rattle.iop_kernel.proofs.laws.status_is_read.Goals as goal
 
 pub returns : goal.returns

@@ -1,4 +1,4 @@
-use Rattle.iop_kernel.proofs.TimeReading.{ticks_are_read}
+use Rattle.iop_kernel.proofs.Readings.Times.{ticks_are_read}
 use Rattle.iop_kernel.proofs.laws.ticks_are_read.Goals as goal
 
 pub returns : goal.returns

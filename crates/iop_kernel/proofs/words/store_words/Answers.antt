@@ -1,6 +1,6 @@
 use Rattle.std.proofs.Common.{◌<◌, ◌*◌, length, ◌∙◌, arith}
 use Rattle.iop_kernel.specs.declared.words.TheConstants.{MOST_WORDS}
-use Rattle.iop_kernel.proofs.WordBytes.{word_put}
+use Rattle.iop_kernel.proofs.Readings.WordBytes.{word_put}
 use Rattle.iop_kernel.proofs.words.store_words.Goals as goal
 
 pub loop-index-preserved : goal.loop-index-preserved

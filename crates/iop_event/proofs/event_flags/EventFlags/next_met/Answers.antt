@@ -1,6 +1,6 @@
 use Rattle.std.proofs.Common.{◌≡◌, Some, sym, ap, subst, ◌∙◌}
 use Rattle.iop_event.specs.EventFlags.{AskForBits, meets_next, with_pattern}
-use Rattle.iop_event.specs.Waiting.{is_met}
+use Rattle.iop_event.specs.WakeConditions.{is_met}
 use Rattle.iop_event.proofs.Asking.{AskForBits-takes_where, AskForBits-with_state}
 use Rattle.iop_event.proofs.Settling.{meets_next-taken}
 use Rattle.iop_event.proofs.event_flags.EventFlags.next_met.Goals as goal

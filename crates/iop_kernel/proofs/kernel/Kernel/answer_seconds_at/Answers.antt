@@ -2,8 +2,8 @@ use Rattle.std.proofs.Common.{◌%◌, Some, [], ◌∷◌, subst}
 use Rattle.iop_stubs.specs.Stubs.{Memory}
 use Rattle.iop_kernel.specs.Boards.{writes}
 use Rattle.iop_kernel.specs.Standing.{TakesBoard, core}
-use Rattle.iop_kernel.specs.declared.timing.TheConstants.{MICROS_OF_SECOND}
-use Rattle.iop_kernel.proofs.Standing.{takes_after}
+use Rattle.iop_kernel.specs.declared.system_clock.TheConstants.{MICROS_OF_SECOND}
+use Rattle.iop_kernel.proofs.Bodies.Standing.{takes_after}
 use Rattle.iop_kernel.proofs.kernel.Kernel.answer_seconds_at.Goals as goal
 
 pub returns : goal.returns

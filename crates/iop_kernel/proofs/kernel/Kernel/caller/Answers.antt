@@ -1,6 +1,6 @@
 use Rattle.std.proofs.Common.{ap, sym, ◌∙◌}
 use Rattle.std.specs.Prelude.{is_some}
-use Rattle.iop_kernel.proofs.Callers.{thread_calls}
+use Rattle.iop_kernel.proofs.Bodies.Callers.{thread_calls}
 use Rattle.iop_kernel.proofs.kernel.Kernel.caller.Goals as goal
 
 pub returns-in-None-clause-id : goal.returns-in-None-clause-id

@@ -1,5 +1,5 @@
-use Rattle.iop_kernel.proofs.Standing.{holds_with}
-use Rattle.iop_kernel.proofs.Refusals.{change_refused}
+use Rattle.iop_kernel.proofs.Bodies.Refusals.{change_refused}
+use Rattle.iop_kernel.proofs.Bodies.Standing.{holds_with}
 use Rattle.iop_kernel.proofs.kernel.Kernel.change.Goals as goal
 
 pub returns-in-Err : goal.returns-in-Err

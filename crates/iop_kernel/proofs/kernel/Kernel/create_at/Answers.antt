@@ -2,8 +2,8 @@ use Rattle.std.proofs.Common.{refl, ◌∙◌, arith}
 use Rattle.iop_base.proofs.Giving.{gives_none}
 use Rattle.iop_sysmem.specs.Allocating.{allocating}
 use Rattle.iop_kernel.specs.Standing.{system}
-use Rattle.iop_kernel.specs.declared.creating.TheConstants.{FROM_ABOVE}
-use Rattle.iop_kernel.proofs.StackBlocks.{nothing_taken, taken_fits, creates_nowhere, creates_there}
+use Rattle.iop_kernel.specs.declared.stacks.TheConstants.{FROM_ABOVE}
+use Rattle.iop_kernel.proofs.Bodies.StackBlocks.{nothing_taken, taken_fits, creates_nowhere, creates_there}
 use Rattle.iop_kernel.proofs.kernel.Kernel.create_at.Goals as goal
 
 pub block_len-stack_size-requires : goal.block_len-stack_size-requires

@@ -4,8 +4,8 @@ use Rattle.iop_event.specs.EventFlags.{creates}
 use Rattle.iop_exec.specs.Row.{with_reg}
 use Rattle.iop_kernel.specs.Standing.{core}
 use Rattle.iop_kernel.specs.System.{result_word}
-use Rattle.iop_kernel.proofs.FlagCalls.{flag_made_there}
-use Rattle.iop_kernel.proofs.Standing.{holds_flags}
+use Rattle.iop_kernel.proofs.Bodies.EventFlags.{flag_made_there}
+use Rattle.iop_kernel.proofs.Bodies.Standing.{holds_flags}
 use Rattle.iop_kernel.proofs.kernel.Kernel.create_event_flag.Goals as goal
 
 pub returns : goal.returns

@@ -4,8 +4,8 @@ use Rattle.iop_exec.specs.Row.{with_reg}
 use Rattle.iop_mbx.specs.Mailboxes.{creates}
 use Rattle.iop_kernel.specs.Standing.{core}
 use Rattle.iop_kernel.specs.System.{result_word}
-use Rattle.iop_kernel.proofs.MailboxCalls.{creates_there}
-use Rattle.iop_kernel.proofs.Standing.{holds_mailboxes}
+use Rattle.iop_kernel.proofs.Bodies.Mailboxes.{creates_there}
+use Rattle.iop_kernel.proofs.Bodies.Standing.{holds_mailboxes}
 use Rattle.iop_kernel.proofs.kernel.Kernel.create_mbx.Goals as goal
 
 pub returns : goal.returns

@@ -2,7 +2,7 @@ use Rattle.std.proofs.Common.{ℕ, refl, ap, ◌∙◌}
 use Rattle.std.proofs.lemmas.List.{length-replicate}
 use Rattle.iop_exec.specs.Row.{with_reg}
 use Rattle.iop_kernel.specs.System.{result_word}
-use Rattle.iop_kernel.proofs.Standing.{holds_with}
+use Rattle.iop_kernel.proofs.Bodies.Standing.{holds_with}
 use Rattle.iop_kernel.proofs.kernel.Kernel.create_on.Goals as goal
 
 pub returns : goal.returns

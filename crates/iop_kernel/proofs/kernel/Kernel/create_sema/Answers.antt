@@ -4,8 +4,8 @@ use Rattle.iop_exec.specs.Row.{with_reg}
 use Rattle.iop_sema.specs.Semaphores.{creates}
 use Rattle.iop_kernel.specs.Standing.{core}
 use Rattle.iop_kernel.specs.System.{result_word}
-use Rattle.iop_kernel.proofs.SemaphoreCalls.{creates_there}
-use Rattle.iop_kernel.proofs.Standing.{holds_semaphores}
+use Rattle.iop_kernel.proofs.Bodies.Semaphores.{creates_there}
+use Rattle.iop_kernel.proofs.Bodies.Standing.{holds_semaphores}
 use Rattle.iop_kernel.proofs.kernel.Kernel.create_sema.Goals as goal
 
 pub returns : goal.returns

@@ -1,9 +1,9 @@
 use Rattle.std.proofs.Common.{refl}
-use Rattle.iop_kernel.specs.System.{Kernel}
 use Rattle.iop_kernel.specs.Standing.{core}
-use Rattle.iop_kernel.specs.Running.{ended}
-use Rattle.iop_kernel.proofs.Deletions.{deletes_refused}
-use Rattle.iop_kernel.proofs.Standing.{holds_with}
+use Rattle.iop_kernel.specs.System.{Kernel}
+use Rattle.iop_kernel.specs.ThreadStarts.{ended}
+use Rattle.iop_kernel.proofs.Bodies.Standing.{holds_with}
+use Rattle.iop_kernel.proofs.Deletions.Refused.{deletes_refused}
 use Rattle.iop_kernel.proofs.kernel.Kernel.delete_ended.Goals as goal
 
 pub returns-in-Err : goal.returns-in-Err

@@ -1,10 +1,10 @@
 use Rattle.std.proofs.Common.{◌<◌, length, ap, subst, ◌∙◌}
 use Rattle.iop_objects.specs.Objects.{waiters_of}
-use Rattle.iop_kernel.specs.ObjectServices.{removes}
 use Rattle.iop_kernel.specs.Kinds.{Table, table, is_by_priority}
+use Rattle.iop_kernel.specs.ObjectServices.{removes}
 use Rattle.iop_kernel.specs.Standing.{core, held}
-use Rattle.iop_kernel.proofs.ObjectDeletion.{threads_waiting, waking_begins, holds_others, objects_stay, waking_goes_on, deletion_is}
-use Rattle.iop_kernel.proofs.WaitersTaken.{taken_out, none_taken_out, all_are_woken}
+use Rattle.iop_kernel.proofs.Deletions.Objects.{threads_waiting, waking_begins, holds_others, objects_stay, waking_goes_on, deletion_is}
+use Rattle.iop_kernel.proofs.Deletions.Waiters.{taken_out, none_taken_out, all_are_woken}
 use Rattle.iop_kernel.proofs.kernel.Kernel.delete_object.Goals as goal
 
 pub loop-thread-init : goal.loop-thread-init

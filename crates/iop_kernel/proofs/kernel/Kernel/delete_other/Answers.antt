@@ -1,6 +1,6 @@
 use Rattle.std.proofs.Common.{refl}
-use Rattle.iop_kernel.proofs.Deletions.{deletes_refused}
-use Rattle.iop_kernel.proofs.Standing.{holds_with}
+use Rattle.iop_kernel.proofs.Bodies.Standing.{holds_with}
+use Rattle.iop_kernel.proofs.Deletions.Refused.{deletes_refused}
 use Rattle.iop_kernel.proofs.kernel.Kernel.delete_other.Goals as goal
 
 pub returns-in-Err : goal.returns-in-Err

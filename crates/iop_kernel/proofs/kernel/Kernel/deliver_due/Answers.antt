@@ -1,8 +1,8 @@
 use Rattle.std.proofs.Common.{refl, ap, sym, ◌∙◌}
 use Rattle.iop_time.specs.Taking.{takes_due}
 use Rattle.iop_kernel.specs.Standing.{core}
-use Rattle.iop_kernel.proofs.DeliveryCalls.{delay_delivered}
-use Rattle.iop_kernel.proofs.Standing.{holds_timers}
+use Rattle.iop_kernel.proofs.Bodies.Standing.{holds_timers}
+use Rattle.iop_kernel.proofs.Order.DeliveryCalls.{delay_delivered}
 use Rattle.iop_kernel.proofs.kernel.Kernel.deliver_due.Goals as goal
 
 pub wake-requires : goal.wake-requires

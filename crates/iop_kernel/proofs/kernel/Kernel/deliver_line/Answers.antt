@@ -1,8 +1,8 @@
 use Rattle.std.proofs.Common.{ap, sym, ◌∙◌}
 use Rattle.iop_intr.specs.InterruptLines.{line_of, delivering}
 use Rattle.iop_kernel.specs.Standing.{core}
-use Rattle.iop_kernel.proofs.DeliveryCalls.{line_delivered}
-use Rattle.iop_kernel.proofs.Standing.{holds_irqs}
+use Rattle.iop_kernel.proofs.Bodies.Standing.{holds_irqs}
+use Rattle.iop_kernel.proofs.Order.DeliveryCalls.{line_delivered}
 use Rattle.iop_kernel.proofs.kernel.Kernel.deliver_line.Goals as goal
 
 pub returns : goal.returns

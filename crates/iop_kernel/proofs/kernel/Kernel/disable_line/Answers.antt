@@ -3,8 +3,8 @@ use Rattle.iop_base.specs.declared.code.TheConstants.Code.{ILLEGAL_INTERRUPT}
 use Rattle.iop_intr.specs.InterruptLines.{disabling}
 use Rattle.iop_kernel.specs.Standing.{board}
 use Rattle.iop_kernel.specs.Waits.{is_code}
-use Rattle.iop_kernel.proofs.InterruptCalls.{disables_there}
-use Rattle.iop_kernel.proofs.Standing.{holds_irqs}
+use Rattle.iop_kernel.proofs.Bodies.Interrupts.{disables_there}
+use Rattle.iop_kernel.proofs.Bodies.Standing.{holds_irqs}
 use Rattle.iop_kernel.proofs.kernel.Kernel.disable_line.Goals as goal
 
 pub returns-in_default-disable : goal.returns-in_default-disable

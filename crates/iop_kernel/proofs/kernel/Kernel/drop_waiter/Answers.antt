@@ -5,7 +5,7 @@ use Rattle.iop_objects.specs.Objects.{drops}
 use Rattle.iop_sema.specs.Semaphores.{Semaphores}
 use Rattle.iop_kernel.specs.Kinds.{table, with_table}
 use Rattle.iop_kernel.specs.Standing.{Holds}
-use Rattle.iop_kernel.proofs.Standing.{holds_semaphores, holds_flags, holds_mailboxes}
+use Rattle.iop_kernel.proofs.Bodies.Standing.{holds_semaphores, holds_flags, holds_mailboxes}
 use Rattle.iop_kernel.proofs.kernel.Kernel.drop_waiter.Goals as goal
 
 pub returns-in-Semaphore : goal.returns-in-Semaphore

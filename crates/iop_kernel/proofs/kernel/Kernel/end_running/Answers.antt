@@ -1,5 +1,5 @@
-use Rattle.iop_kernel.proofs.PlacingBasics.{stand_on, places, moves}
-use Rattle.iop_kernel.proofs.Standing.{holds_with}
+use Rattle.iop_kernel.proofs.Bodies.Standing.{holds_with}
+use Rattle.iop_kernel.proofs.Placing.Basics.{stand_on, places, moves}
 use Rattle.iop_kernel.proofs.kernel.Kernel.end_running.Goals as goal
 
 pub returns : goal.returns

@@ -1,9 +1,9 @@
 use Rattle.std.proofs.Common.{Some, refl, ap, sym, ◌∙◌}
 use Rattle.std.proofs.lemmas.Bool.{ne_eqb}
 use Rattle.iop_thread.specs.declared.thread.TheConstants.{LOADER}
+use Rattle.iop_kernel.specs.Stacks.{exits_deleted_by}
 use Rattle.iop_kernel.specs.Standing.{core, owner}
-use Rattle.iop_kernel.specs.Deleting.{exits_deleted_by}
-use Rattle.iop_kernel.specs.Running.{ended}
+use Rattle.iop_kernel.specs.ThreadStarts.{ended}
 use Rattle.iop_kernel.proofs.kernel.Kernel.exit_delete_thread.Goals as goal
 
 pub delete_ended-requires : goal.delete_ended-requires

@@ -2,7 +2,7 @@ use Rattle.std.proofs.Common.{Some, refl, ap, sym, ◌∙◌}
 use Rattle.std.proofs.lemmas.Bool.{ne_eqb}
 use Rattle.iop_thread.specs.declared.thread.TheConstants.{LOADER}
 use Rattle.iop_kernel.specs.Standing.{core}
-use Rattle.iop_kernel.specs.Running.{exits_by}
+use Rattle.iop_kernel.specs.ThreadStarts.{exits_by}
 use Rattle.iop_kernel.proofs.kernel.Kernel.exit_thread.Goals as goal
 
 pub returns-in-None : goal.returns-in-None

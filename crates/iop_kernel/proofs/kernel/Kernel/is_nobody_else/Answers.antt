@@ -1,6 +1,6 @@
 use Rattle.std.proofs.Common.{◌∙◌}
 use Rattle.std.proofs.lemmas.Bool.{ne_eqb}
-use Rattle.iop_kernel.proofs.Callers.{is_one}
+use Rattle.iop_kernel.proofs.Bodies.Callers.{is_one}
 use Rattle.iop_kernel.proofs.kernel.Kernel.is_nobody_else.Goals as goal
 
 pub returns-else-id-eq0 : goal.returns-else-id-eq0

@@ -1,5 +1,5 @@
 use Rattle.std.proofs.Common.{◌∙◌}
-use Rattle.iop_kernel.proofs.Callers.{is_one}
+use Rattle.iop_kernel.proofs.Bodies.Callers.{is_one}
 use Rattle.iop_kernel.proofs.kernel.Kernel.is_running.Goals as goal
 
 pub returns : goal.returns

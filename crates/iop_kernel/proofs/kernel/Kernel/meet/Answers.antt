@@ -1,7 +1,7 @@
 use Rattle.std.proofs.Common.{◌≡◌, Some, None, sym, ◌∙◌, rules}
 use Rattle.iop_base.proofs.Giving.{gives_none}
 use Rattle.iop_kernel.specs.Standing.{board}
-use Rattle.iop_kernel.proofs.FlagCalls.{met_place_is, met_nowhere}
+use Rattle.iop_kernel.proofs.Bodies.EventFlags.{met_place_is, met_nowhere}
 use Rattle.iop_kernel.proofs.kernel.Kernel.meet.Goals.{in-Some-Some, in-Some+in-None-1, in-None-1}
 use Rattle.iop_kernel.proofs.kernel.Kernel.meet.Goals as goal
 

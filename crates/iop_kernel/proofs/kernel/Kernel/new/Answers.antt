@@ -1,5 +1,5 @@
 use Rattle.std.proofs.Common.{rules}
-use Rattle.iop_kernel.proofs.PlacingOpening.{opening_placed}
+use Rattle.iop_kernel.proofs.Placing.Opening.{opening_placed}
 use Rattle.iop_kernel.proofs.kernel.Kernel.new.Goals as goal
 
 pub returns : goal.returns

@@ -2,8 +2,8 @@ use Rattle.std.proofs.Common.{refl, ap, sym, ◌∙◌}
 use Rattle.iop_event.specs.EventFlags.{tests}
 use Rattle.iop_kernel.specs.EventFlags.{polls_flag_at}
 use Rattle.iop_kernel.specs.Standing.{board}
-use Rattle.iop_kernel.proofs.FlagCalls.{poll_holds, poll_refused, test_refused}
-use Rattle.iop_kernel.proofs.Standing.{holds_flags, takes_quiet}
+use Rattle.iop_kernel.proofs.Bodies.EventFlags.{poll_holds, poll_refused, test_refused}
+use Rattle.iop_kernel.proofs.Bodies.Standing.{holds_flags, takes_quiet}
 use Rattle.iop_kernel.proofs.kernel.Kernel.poll_event_flag.Goals as goal
 
 pub returns-in_default : goal.returns-in_default

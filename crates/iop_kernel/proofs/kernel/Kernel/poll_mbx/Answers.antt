@@ -2,8 +2,8 @@ use Rattle.std.proofs.Common.{refl, ap, sym, ◌∙◌}
 use Rattle.iop_base.proofs.Giving.{gives_none}
 use Rattle.iop_mbx.specs.Mailboxes.{gets}
 use Rattle.iop_kernel.specs.Standing.{board}
-use Rattle.iop_kernel.proofs.Standing.{holds_mailboxes}
-use Rattle.iop_kernel.proofs.MailboxCalls.{polls_there, receives_one, receives_none, get_refused}
+use Rattle.iop_kernel.proofs.Bodies.Mailboxes.{polls_there, receives_one, receives_none, get_refused}
+use Rattle.iop_kernel.proofs.Bodies.Standing.{holds_mailboxes}
 use Rattle.iop_kernel.proofs.kernel.Kernel.poll_mbx.Goals as goal
 
 pub returns-in-Ok : goal.returns-in-Ok

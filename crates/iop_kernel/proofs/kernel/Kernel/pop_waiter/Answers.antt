@@ -1,5 +1,5 @@
 use Rattle.std.proofs.Common.{refl}
-use Rattle.iop_kernel.proofs.Standing.{holds_semaphores, holds_flags, holds_mailboxes}
+use Rattle.iop_kernel.proofs.Bodies.Standing.{holds_semaphores, holds_flags, holds_mailboxes}
 use Rattle.iop_kernel.proofs.kernel.Kernel.pop_waiter.Goals as goal
 
 pub returns-in-Semaphore : goal.returns-in-Semaphore

@@ -5,8 +5,8 @@ use Rattle.iop_mbx.specs.Mailboxes.{gets}
 use Rattle.iop_kernel.specs.Standing.{board}
 use Rattle.iop_kernel.specs.System.{may_switch}
 use Rattle.iop_kernel.specs.Waits.{is_code}
-use Rattle.iop_kernel.proofs.MailboxCalls.{receives_there, receives_at_once, receives_one, receives_refused, receives_later, get_refused}
-use Rattle.iop_kernel.proofs.Standing.{holds_mailboxes, takes_quiet}
+use Rattle.iop_kernel.proofs.Bodies.Mailboxes.{receives_there, receives_at_once, receives_one, receives_refused, receives_later, get_refused}
+use Rattle.iop_kernel.proofs.Bodies.Standing.{holds_mailboxes, takes_quiet}
 use Rattle.iop_kernel.proofs.kernel.Kernel.receive_mbx.Goals as goal
 
 pub returns-in-Ok : goal.returns-in-Ok

@@ -5,9 +5,9 @@ use Rattle.iop_kernel.specs.EventFlags.{flag_words}
 use Rattle.iop_kernel.specs.ObjectServices.{refers_at}
 use Rattle.iop_kernel.specs.Standing.{board}
 use Rattle.iop_kernel.specs.declared.event_flags.TheConstants.{FLAG_STATUS_WORDS}
-use Rattle.iop_kernel.proofs.FlagCalls.{flag_told}
-use Rattle.iop_kernel.proofs.StatusCalls.{told_none}
-use Rattle.iop_kernel.proofs.Standing.{takes_quiet}
+use Rattle.iop_kernel.proofs.Bodies.EventFlags.{flag_told}
+use Rattle.iop_kernel.proofs.Bodies.Standing.{takes_quiet}
+use Rattle.iop_kernel.proofs.Bodies.Statuses.{told_none}
 use Rattle.iop_kernel.proofs.kernel.Kernel.refer_event_flag_status.Goals as goal
 
 pub returns-in_default : goal.returns-in_default

@@ -5,9 +5,9 @@ use Rattle.iop_thread.specs.declared.kind.Kind.TheVariants.{Mailbox}
 use Rattle.iop_kernel.specs.Mailboxes.{mailbox_words}
 use Rattle.iop_kernel.specs.Standing.{board}
 use Rattle.iop_kernel.specs.declared.mailboxes.TheConstants.{MAILBOX_STATUS_WORDS}
-use Rattle.iop_kernel.proofs.MailboxCalls.{refers_live, no_mailbox}
-use Rattle.iop_kernel.proofs.StatusCalls.{told_none}
-use Rattle.iop_kernel.proofs.Standing.{takes_quiet}
+use Rattle.iop_kernel.proofs.Bodies.Mailboxes.{refers_live, no_mailbox}
+use Rattle.iop_kernel.proofs.Bodies.Standing.{takes_quiet}
+use Rattle.iop_kernel.proofs.Bodies.Statuses.{told_none}
 use Rattle.iop_kernel.proofs.kernel.Kernel.refer_mbx_status.Goals as goal
 
 pub returns-in_default-get : goal.returns-in_default-get

@@ -1,13 +1,12 @@
-use Rattle.std.proofs.Common.{ap, sym, ◌∙◌}
+use Rattle.std.proofs.Common.{ap, sym, ◌∙◌, length}
 use Rattle.iop_objects.specs.Objects.{state_of, waiters_of}
-use Rattle.std.proofs.Common.{length}
 use Rattle.iop_thread.specs.declared.kind.Kind.TheVariants.{Semaphore}
 use Rattle.iop_kernel.specs.Semaphores.{semaphore_words}
 use Rattle.iop_kernel.specs.Standing.{board}
 use Rattle.iop_kernel.specs.declared.semaphores.TheConstants.{SEMAPHORE_STATUS_WORDS}
-use Rattle.iop_kernel.proofs.SemaphoreCalls.{refers_live}
-use Rattle.iop_kernel.proofs.StatusCalls.{told_none}
-use Rattle.iop_kernel.proofs.Standing.{takes_quiet}
+use Rattle.iop_kernel.proofs.Bodies.Semaphores.{refers_live}
+use Rattle.iop_kernel.proofs.Bodies.Standing.{takes_quiet}
+use Rattle.iop_kernel.proofs.Bodies.Statuses.{told_none}
 use Rattle.iop_kernel.proofs.kernel.Kernel.refer_sema_status.Goals as goal
 
 pub returns-in_default-get : goal.returns-in_default-get

@@ -1,6 +1,6 @@
 use Rattle.iop_kernel.specs.Standing.{system}
-use Rattle.iop_kernel.proofs.Standing.{serves_as}
-use Rattle.iop_kernel.proofs.StatusLemmas.{refers_named}
+use Rattle.iop_kernel.proofs.Bodies.Standing.{serves_as}
+use Rattle.iop_kernel.proofs.Bodies.ThreadStatus.{refers_named}
 use Rattle.iop_kernel.proofs.kernel.Kernel.refer_thread_status.Goals as goal
 
 pub returns : goal.returns

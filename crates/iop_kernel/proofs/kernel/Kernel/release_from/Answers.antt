@@ -1,7 +1,7 @@
 use Rattle.iop_kernel.specs.Standing.{core}
 use Rattle.iop_kernel.specs.Waits.{wakes_with}
 use Rattle.iop_base.specs.declared.code.TheConstants.Code.{WAIT_RELEASED}
-use Rattle.iop_kernel.proofs.Terminating.{releases_is}
+use Rattle.iop_kernel.proofs.Bodies.Endings.{releases_is}
 use Rattle.iop_kernel.proofs.kernel.Kernel.release_from.Goals as goal
 
 pub returns : goal.returns

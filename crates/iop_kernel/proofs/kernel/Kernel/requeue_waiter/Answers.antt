@@ -5,7 +5,7 @@ use Rattle.iop_mbx.specs.Mailboxes as mailboxes
 use Rattle.iop_objects.specs.Objects.{requeues}
 use Rattle.iop_sema.specs.Semaphores.{Semaphores}
 use Rattle.iop_sema.specs.Semaphores as semaphores
-use Rattle.iop_kernel.proofs.Standing.{holds_semaphores, holds_flags, holds_mailboxes}
+use Rattle.iop_kernel.proofs.Bodies.Standing.{holds_semaphores, holds_flags, holds_mailboxes}
 use Rattle.iop_kernel.proofs.kernel.Kernel.requeue_waiter.Goals as goal
 
 pub returns-in-Semaphore : goal.returns-in-Semaphore

@@ -2,7 +2,7 @@ use Rattle.std.proofs.Common.{refl, sym, ◌∙◌}
 use Rattle.iop_thread.specs.declared.thread.TheConstants.{LOADER}
 use Rattle.iop_kernel.specs.Standing.{core}
 use Rattle.iop_kernel.specs.System.{caller_in}
-use Rattle.iop_kernel.proofs.Callers.{is_one, returns_by_loader}
+use Rattle.iop_kernel.proofs.Bodies.Callers.{is_one, returns_by_loader}
 use Rattle.iop_kernel.proofs.kernel.Kernel.return_module.Goals as goal
 
 pub returns-then-eq : goal.returns-then-eq

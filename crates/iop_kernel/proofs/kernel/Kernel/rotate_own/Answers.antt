@@ -1,6 +1,6 @@
 use Rattle.std.proofs.Common.{sym, ◌∙◌}
 use Rattle.iop_kernel.specs.Standing.{core}
-use Rattle.iop_kernel.proofs.Callers.{rotates_own_is, thread_calls}
+use Rattle.iop_kernel.proofs.Bodies.Callers.{rotates_own_is, thread_calls}
 use Rattle.iop_kernel.proofs.kernel.Kernel.rotate_own.Goals as goal
 
 pub returns-in-Some : goal.returns-in-Some

@@ -2,7 +2,7 @@ use Rattle.std.proofs.Common.{◌≡◌, true, refl, sym, ◌∙◌}
 use Rattle.iop_thread.specs.ThreadTable.{running_thread}
 use Rattle.iop_kernel.specs.Standing.{core}
 use Rattle.iop_kernel.specs.System.{may_switch}
-use Rattle.iop_kernel.proofs.Callers.{own_is, rotated, rotated_holds, rotates_others, rotates_caller, rotates_beside}
+use Rattle.iop_kernel.proofs.Bodies.Callers.{own_is, rotated, rotated_holds, rotates_others, rotates_caller, rotates_beside}
 use Rattle.iop_kernel.proofs.kernel.Kernel.rotate_to.Goals as goal
 use Rattle.iop_kernel.proofs.kernel.Kernel.rotate_to.Goals.{else-own-via-then-own+else-not-may_switch, else-own-via-else-own, else-own-2-via-then-own-2+else-not-in_handler, else-own-2-via-else-own-2}
 

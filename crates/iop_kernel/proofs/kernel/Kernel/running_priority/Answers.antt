@@ -1,6 +1,6 @@
 use Rattle.std.proofs.Common.{Some, None, refl, ap, sym, ◌∙◌}
 use Rattle.std.specs.Prelude.{option_map}
-use Rattle.iop_kernel.proofs.Callers.{running_priority_is}
+use Rattle.iop_kernel.proofs.Bodies.Callers.{running_priority_is}
 use Rattle.iop_kernel.proofs.kernel.Kernel.running_priority.Goals as goal
 
 pub returns-in_err-running : goal.returns-in_err-running

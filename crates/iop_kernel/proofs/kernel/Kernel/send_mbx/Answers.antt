@@ -5,8 +5,8 @@ use Rattle.iop_mbx.specs.Mailboxes.{takes_waiter_of}
 use Rattle.iop_kernel.specs.Standing.{board}
 use Rattle.iop_kernel.specs.System.{with_mailboxes}
 use Rattle.iop_kernel.specs.Waits.{wakes_with}
-use Rattle.iop_kernel.proofs.MailboxCalls.{no_waiter, waiter_refused, sends_to, sends_none, sends_refused}
-use Rattle.iop_kernel.proofs.Standing.{holds_mailboxes, takes_quiet}
+use Rattle.iop_kernel.proofs.Bodies.Mailboxes.{no_waiter, waiter_refused, sends_to, sends_none, sends_refused}
+use Rattle.iop_kernel.proofs.Bodies.Standing.{holds_mailboxes, takes_quiet}
 use Rattle.iop_kernel.proofs.kernel.Kernel.send_mbx.Goals as goal
 
 pub wake-requires : goal.wake-requires

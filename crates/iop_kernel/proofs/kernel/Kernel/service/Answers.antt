@@ -1,6 +1,6 @@
 use Rattle.iop_kernel.specs.Standing.{system}
-use Rattle.iop_kernel.proofs.PlacingRooms.{active_room}
-use Rattle.iop_kernel.proofs.PlacingServices.{services_place}
+use Rattle.iop_kernel.proofs.Placing.Rooms.{active_room}
+use Rattle.iop_kernel.proofs.Placing.Services.{services_place}
 use Rattle.iop_kernel.proofs.kernel.Kernel.service.Goals as goal
 
 pub serve_code-requires-clause-room : goal.serve_code-requires-clause-room

@@ -5,10 +5,10 @@ use Rattle.iop_exec.specs.Row.{with_reg}
 use Rattle.iop_objects.specs.Objects.{AreObjects, state_of}
 use Rattle.iop_kernel.specs.Standing.{Holds, board}
 use Rattle.iop_kernel.specs.System.{Kernel, code_word}
-use Rattle.iop_kernel.proofs.FlagSteps.{waiters_ask}
-use Rattle.iop_kernel.proofs.Meetings.{set_unknown, found_live, set_answers, meeting_begins, meeting_goes_on, meeting_fewer, meeting_ends}
-use Rattle.iop_kernel.proofs.ObjectChanges.{HaveTwoIds}
-use Rattle.iop_kernel.proofs.Standing.{holds_flags, takes_quiet}
+use Rattle.iop_kernel.proofs.Bodies.FlagSteps.{waiters_ask}
+use Rattle.iop_kernel.proofs.Bodies.Meetings.{set_unknown, found_live, set_answers, meeting_begins, meeting_goes_on, meeting_fewer, meeting_ends}
+use Rattle.iop_kernel.proofs.Bodies.Standing.{holds_flags, takes_quiet}
+use Rattle.iop_kernel.proofs.Histories.ObjectChanges.{HaveTwoIds}
 use Rattle.iop_kernel.proofs.kernel.Kernel.set_event_flag.Given.{Over}
 use Rattle.iop_kernel.proofs.kernel.Kernel.set_event_flag.Goals.{After-get}
 use Rattle.iop_kernel.proofs.kernel.Kernel.set_event_flag.Goals as goal

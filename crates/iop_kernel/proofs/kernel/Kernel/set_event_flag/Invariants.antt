@@ -1,6 +1,6 @@
 use Rattle.iop_kernel.specs.Standing.{Holds, board}
 use Rattle.iop_kernel.specs.System.{Kernel}
-use Rattle.iop_kernel.proofs.Meetings.{IsMeeting, count_met}
+use Rattle.iop_kernel.proofs.Bodies.Meetings.{IsMeeting, count_met}
 use Rattle.iop_kernel.proofs.kernel.Kernel.set_event_flag.Given as goal
 
 abbrev pub invariant-loop-met : goal.invariant-loop-met

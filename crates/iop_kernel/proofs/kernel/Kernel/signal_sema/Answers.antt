@@ -2,8 +2,8 @@ use Rattle.std.proofs.Common.{◌≡◌, Some, refl, ap, sym, ◌∙◌}
 use Rattle.std.specs.Prelude.{Ok}
 use Rattle.iop_sema.specs.Semaphores.{signals}
 use Rattle.iop_kernel.specs.Standing.{core}
-use Rattle.iop_kernel.proofs.SemaphoreCalls.{signal_wakes}
-use Rattle.iop_kernel.proofs.Standing.{holds_semaphores}
+use Rattle.iop_kernel.proofs.Bodies.Semaphores.{signal_wakes}
+use Rattle.iop_kernel.proofs.Bodies.Standing.{holds_semaphores}
 use Rattle.iop_kernel.proofs.kernel.Kernel.signal_sema.Goals as goal
 
 pub wake-requires : goal.wake-requires

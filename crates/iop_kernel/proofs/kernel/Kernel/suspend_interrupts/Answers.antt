@@ -2,8 +2,8 @@ use Rattle.std.proofs.Common.{◌≡◌, false, ap, sym, ◌∙◌}
 use Rattle.iop_base.specs.Numbers.{one_if}
 use Rattle.iop_kernel.specs.Interrupts.{suspended_code}
 use Rattle.iop_kernel.specs.Standing.{board}
-use Rattle.iop_kernel.proofs.InterruptCalls.{number_is, suspends_there}
-use Rattle.iop_kernel.proofs.Standing.{holds_interrupts}
+use Rattle.iop_kernel.proofs.Bodies.Interrupts.{number_is, suspends_there}
+use Rattle.iop_kernel.proofs.Bodies.Standing.{holds_interrupts}
 use Rattle.iop_kernel.proofs.kernel.Kernel.suspend_interrupts.Goals as goal
 use Rattle.iop_kernel.proofs.kernel.Kernel.suspend_interrupts.Goals.{then-were_on, else-were_on}
 

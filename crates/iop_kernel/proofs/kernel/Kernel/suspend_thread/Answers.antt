@@ -3,8 +3,8 @@ use Rattle.iop_exec.specs.Row.{with_reg}
 use Rattle.iop_thread.specs.ThreadTable.{is_it}
 use Rattle.iop_kernel.specs.Standing.{core}
 use Rattle.iop_kernel.specs.System.{code_word}
-use Rattle.iop_kernel.proofs.Callers.{suspends_other}
-use Rattle.iop_kernel.proofs.Standing.{holds_with}
+use Rattle.iop_kernel.proofs.Bodies.Callers.{suspends_other}
+use Rattle.iop_kernel.proofs.Bodies.Standing.{holds_with}
 use Rattle.iop_kernel.proofs.kernel.Kernel.suspend_thread.Goals as goal
 use Rattle.iop_kernel.proofs.kernel.Kernel.suspend_thread.Goals.{else-is_running-via-then-is_running+else-not-self, else-is_running-via-else-is_running}
 

@@ -2,8 +2,8 @@ use Rattle.std.proofs.Common.{true, false, sym, ◌∙◌}
 use Rattle.iop_thread.specs.Operations.{terminates}
 use Rattle.iop_kernel.specs.Standing.{core}
 use Rattle.iop_kernel.specs.System.{with_threads, opened}
-use Rattle.iop_kernel.proofs.Standing.{holds_with}
-use Rattle.iop_kernel.proofs.Terminating.{terminates_is}
+use Rattle.iop_kernel.proofs.Bodies.Endings.{terminates_is}
+use Rattle.iop_kernel.proofs.Bodies.Standing.{holds_with}
 use Rattle.iop_kernel.proofs.kernel.Kernel.terminate.Goals as goal
 use Rattle.iop_kernel.proofs.kernel.Kernel.terminate.Goals.{then-ran, else-ran}
 

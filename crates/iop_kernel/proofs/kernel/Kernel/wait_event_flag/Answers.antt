@@ -5,8 +5,8 @@ use Rattle.iop_kernel.specs.EventFlags.{waits_flag_at}
 use Rattle.iop_kernel.specs.Standing.{board}
 use Rattle.iop_kernel.specs.System.{may_switch}
 use Rattle.iop_kernel.specs.Waits.{is_code}
-use Rattle.iop_kernel.proofs.FlagCalls.{wait_refused_first, wait_holds, wait_waits, wait_refused, test_refused}
-use Rattle.iop_kernel.proofs.Standing.{holds_flags, takes_quiet}
+use Rattle.iop_kernel.proofs.Bodies.EventFlags.{wait_refused_first, wait_holds, wait_waits, wait_refused, test_refused}
+use Rattle.iop_kernel.proofs.Bodies.Standing.{holds_flags, takes_quiet}
 use Rattle.iop_kernel.proofs.kernel.Kernel.wait_event_flag.Goals as goal
 
 pub returns-in_default : goal.returns-in_default

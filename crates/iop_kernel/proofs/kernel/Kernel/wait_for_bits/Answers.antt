@@ -3,7 +3,7 @@ use Rattle.iop_event.specs.EventFlags as flags
 use Rattle.iop_thread.specs.ThreadTable.{priority_of}
 use Rattle.iop_kernel.specs.EventFlags.{waits_for_bits}
 use Rattle.iop_kernel.specs.Standing.{core}
-use Rattle.iop_kernel.proofs.Standing.{holds_flags}
+use Rattle.iop_kernel.proofs.Bodies.Standing.{holds_flags}
 use Rattle.iop_kernel.proofs.kernel.Kernel.wait_for_bits.Goals as goal
 
 pub returns-in_default : goal.returns-in_default

@@ -3,7 +3,7 @@ use Rattle.iop_mbx.specs.Mailboxes as mailboxes
 use Rattle.iop_thread.specs.ThreadTable.{priority_of}
 use Rattle.iop_kernel.specs.Mailboxes.{waits_for_message}
 use Rattle.iop_kernel.specs.Standing.{core}
-use Rattle.iop_kernel.proofs.Standing.{holds_mailboxes}
+use Rattle.iop_kernel.proofs.Bodies.Standing.{holds_mailboxes}
 use Rattle.iop_kernel.proofs.kernel.Kernel.wait_for_message.Goals as goal
 
 pub returns-in_default : goal.returns-in_default

@@ -3,7 +3,7 @@ use Rattle.iop_sema.specs.Semaphores as semaphores
 use Rattle.iop_thread.specs.ThreadTable.{priority_of}
 use Rattle.iop_kernel.specs.Semaphores.{waits_for_sema}
 use Rattle.iop_kernel.specs.Standing.{core}
-use Rattle.iop_kernel.proofs.Standing.{holds_semaphores}
+use Rattle.iop_kernel.proofs.Bodies.Standing.{holds_semaphores}
 use Rattle.iop_kernel.proofs.kernel.Kernel.wait_for_sema.Goals as goal
 
 pub returns-in_default : goal.returns-in_default

@@ -5,8 +5,8 @@ use Rattle.iop_sema.specs.Semaphores.{takes}
 use Rattle.iop_kernel.specs.Standing.{core}
 use Rattle.iop_kernel.specs.System.{may_switch}
 use Rattle.iop_kernel.specs.Waits.{is_code}
-use Rattle.iop_kernel.proofs.SemaphoreCalls.{take_is_zero, take_waits}
-use Rattle.iop_kernel.proofs.Standing.{holds_semaphores}
+use Rattle.iop_kernel.proofs.Bodies.Semaphores.{take_is_zero, take_waits}
+use Rattle.iop_kernel.proofs.Bodies.Standing.{holds_semaphores}
 use Rattle.iop_kernel.proofs.kernel.Kernel.wait_sema.Goals as goal
 
 pub returns-in-SEMAPHORE_ZERO : goal.returns-in-SEMAPHORE_ZERO

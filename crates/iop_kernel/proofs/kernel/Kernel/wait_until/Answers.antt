@@ -1,8 +1,8 @@
 use Rattle.std.proofs.Common.{refl, ap, sym, ◌∙◌}
 use Rattle.iop_time.specs.Timers.{delays}
 use Rattle.iop_kernel.specs.Standing.{core}
-use Rattle.iop_kernel.specs.Timing.{waits_until}
-use Rattle.iop_kernel.proofs.Standing.{holds_timers}
+use Rattle.iop_kernel.specs.SystemClock.{waits_until}
+use Rattle.iop_kernel.proofs.Bodies.Standing.{holds_timers}
 use Rattle.iop_kernel.proofs.kernel.Kernel.wait_until.Goals as goal
 
 pub wait-requires : goal.wait-requires

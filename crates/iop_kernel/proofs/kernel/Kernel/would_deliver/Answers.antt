@@ -3,7 +3,7 @@ use Rattle.std.specs.Prelude.{is_some}
 use Rattle.iop_intr.specs.InterruptLines.{deliverable}
 use Rattle.iop_time.specs.Turns.{due}
 use Rattle.iop_kernel.specs.Standing.{core}
-use Rattle.iop_kernel.proofs.DeliveriesNone.{delivers_some}
+use Rattle.iop_kernel.proofs.Order.Nothing.{delivers_some}
 use Rattle.iop_kernel.proofs.kernel.Kernel.would_deliver.Goals as goal
 
 pub returns-then-is_some : goal.returns-then-is_some

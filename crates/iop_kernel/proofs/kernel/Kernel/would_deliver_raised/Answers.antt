@@ -1,6 +1,6 @@
 use Rattle.std.proofs.Common.{ap, sym, ◌∙◌}
 use Rattle.iop_intr.specs.InterruptLines.{line_of, is_ready}
-use Rattle.iop_kernel.proofs.DeliveryCalls.{raised_delivers}
+use Rattle.iop_kernel.proofs.Order.DeliveryCalls.{raised_delivers}
 use Rattle.iop_kernel.proofs.kernel.Kernel.would_deliver_raised.Goals as goal
 
 pub returns-then-would_deliver : goal.returns-then-would_deliver

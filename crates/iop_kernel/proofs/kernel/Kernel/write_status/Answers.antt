@@ -1,6 +1,6 @@
 use Rattle.std.proofs.Common.{refl}
 use Rattle.iop_kernel.specs.Standing.{system}
-use Rattle.iop_kernel.proofs.StatusLemmas.{refers_by_words}
+use Rattle.iop_kernel.proofs.Bodies.ThreadStatus.{refers_by_words}
 use Rattle.iop_kernel.proofs.kernel.Kernel.write_status.Goals as goal
 
 pub returns : goal.returns

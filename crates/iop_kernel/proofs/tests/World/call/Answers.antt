@@ -1,7 +1,7 @@
 use Rattle.std.proofs.Common.{◌≡◌, true, ap, sym, ◌∙◌, arith, rules}
 use Rattle.iop_ready.specs.ReadyList.{StandsFor}
 use Rattle.iop_time.specs.Timers.{Timers}
-use Rattle.iop_kernel.proofs.Worlds.{next_served}
+use Rattle.iop_kernel.proofs.Bodies.Worlds.{next_served}
 use Rattle.iop_kernel.proofs.tests.World.call.Goals as goal
 
 pub service-after-requires-clause-active : goal.service-after-requires-clause-active

@@ -3,8 +3,8 @@ use Rattle.iop_ready.specs.ReadyList.{StandsFor}
 use Rattle.iop_time.specs.Timers.{Timers}
 use Rattle.iop_kernel.specs.Dispatching.{dispatches}
 use Rattle.iop_kernel.specs.Standing.{core}
-use Rattle.iop_kernel.proofs.Standing.{sound_after_dispatch}
-use Rattle.iop_kernel.proofs.Worlds.{next_dispatched}
+use Rattle.iop_kernel.proofs.Bodies.Standing.{sound_after_dispatch}
+use Rattle.iop_kernel.proofs.Bodies.Worlds.{next_dispatched}
 use Rattle.iop_kernel.proofs.tests.World.dispatch.Goals as goal
 
 pub returns : goal.returns

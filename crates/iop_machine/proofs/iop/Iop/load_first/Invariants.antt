@@ -13,4 +13,4 @@ invariant-loop g l = record {
 }
 
 abbrev pub decreases-loop : goal.decreases-loop
-decreases-loop g l = length l.self.waiting
+decreases-loop g l = length l.self.modules

@@ -2,7 +2,7 @@ use Rattle.std.proofs.Common.{◌∷◌, ap, sym, ◌∙◌, arith}
 use Rattle.std.specs.Prelude.{option_map}
 use Rattle.iop_base.specs.declared.line.Line.TheVariants.{Refused}
 use Rattle.iop_machine.specs.Modules.{argument_block}
-use Rattle.iop_machine.specs.Waiting.{module_of}
+use Rattle.iop_machine.specs.ModulesLeft.{module_of}
 use Rattle.iop_machine.proofs.LoadingLemmas.{none_left, places_as, loaded_takes, refused_remains}
 use Rattle.iop_machine.proofs.StandingLemmas.{tells_takes}
 use Rattle.iop_machine.proofs.iop.Iop.load_next.Goals as goal

@@ -14,7 +14,7 @@ returns-clause-stands c = record {
       (c.new-events.ensures ∙ ap (λ (script : Script). script.events) c.script.view_is)
       (subst (λ modules. Stands c.in_ok-new.field-0
       (reset c.args.size modules c.new-events.result))
-      (c.new-waiting.ensures
+      (c.new-left.ensures
       ∙ ap (λ script. modules_from script.args 1 c.args.modules.items) c.script.view_is)
       c.in_ok-new.ensures);
 }

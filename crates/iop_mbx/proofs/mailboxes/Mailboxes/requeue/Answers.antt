@@ -1,6 +1,6 @@
 use Rattle.std.proofs.Common.{◌∙◌, ap, sym, subst}
 use Rattle.iop_objects.specs.Objects.{requeues}
-use Rattle.iop_objects.specs.Waiting.{requeued}
+use Rattle.iop_objects.specs.WaiterQueues.{requeued}
 use Rattle.iop_mbx.specs.Standing.{mailboxes_in, IsTable}
 use Rattle.iop_mbx.proofs.WaiterChanges.{IsTable-awaited, mailboxes_in-awaited_by}
 use Rattle.iop_mbx.proofs.mailboxes.Mailboxes.requeue.Goals as goal

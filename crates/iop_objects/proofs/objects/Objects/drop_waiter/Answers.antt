@@ -1,6 +1,6 @@
 use Rattle.std.proofs.Common.{◌∙◌, ap, refl}
 use Rattle.iop_objects.specs.Objects.{drops}
-use Rattle.iop_objects.specs.Waiting.{without}
+use Rattle.iop_objects.specs.WaiterQueues.{without}
 use Rattle.iop_objects.proofs.TableQueues.{objects_in-changed, IsTable-left}
 use Rattle.iop_objects.proofs.objects.Objects.drop_waiter.Goals as goal
 

@@ -1,6 +1,6 @@
 use Rattle.std.proofs.Common.{◌∙◌, ap}
 use Rattle.iop_objects.specs.Objects.{requeues}
-use Rattle.iop_objects.specs.Waiting.{requeued}
+use Rattle.iop_objects.specs.WaiterQueues.{requeued}
 use Rattle.iop_objects.proofs.TableQueues.{objects_in-changed, IsTable-left, requeued-nil}
 use Rattle.iop_objects.proofs.objects.Objects.requeue.Goals as goal
 

@@ -1,0 +1,16 @@
+pub mod Callers
+pub mod Endings
+pub mod EventFlags
+pub mod FlagSteps
+pub mod Interrupts
+pub mod KindTables
+pub mod Mailboxes
+pub mod Meetings
+pub mod Refusals
+pub mod Semaphores
+pub mod StackBlocks
+pub mod Standing
+pub mod Statuses
+pub mod ThreadStatus
+pub mod Times
+pub mod Worlds

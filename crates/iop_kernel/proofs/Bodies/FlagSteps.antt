@@ -1,0 +1,160 @@
+-- An event flag while the threads whose conditions hold are taken out, one after the other.
+use Rattle.std.proofs.Common.{◌≡◌, ℕ, Option, Some, None, [], AllPairs, option_map, refl, ap, subst, ◌∙◌}
+use Rattle.std.specs.Prelude.{bit_or}
+use Rattle.iop_event.proofs.Asking.{AskBits-waiters_of, others_ask}
+use Rattle.iop_event.proofs.Settling.{Waiting, settles-taken, settles-none}
+use Rattle.iop_event.specs.EventFlags.{EventFlags, AskForBits, meets_by, meets_it, meets_next, sets, sets_it, with_pattern}
+use Rattle.iop_event.specs.Laws.{AskBits}
+use Rattle.iop_event.specs.WakeConditions.{settles, meets, met_by, is_met, pattern_after}
+use Rattle.iop_event.specs.declared.event_flag.EventFlag.{EventFlag}
+use Rattle.iop_event.specs.declared.met.Met.{Met}
+use Rattle.iop_event.specs.declared.wanted.Wanted.{Wanted}
+use Rattle.iop_objects.proofs.Changes.{object_of-changed}
+use Rattle.iop_objects.specs.Objects.{object_of, state_of, waiters_in, waiters_of, changes, takes, with_state, with_waiters}
+use Rattle.iop_objects.specs.Queue.{Choice, chooses_where}
+use Rattle.iop_objects.specs.declared.waiter.Waiter.{Waiter}
+use Rattle.iop_kernel.specs.EventFlags.{LiveFlag}
+use Rattle.iop_kernel.proofs.Histories.ObjectChanges.{HaveTwoIds, changes_twice, changes_alike}
+
+module _ (s : EventFlags) (id : ℕ) (o : LiveFlag) where
+  -- the event flag has a pattern, and these threads wait for it
+  abbrev pub changed_to : ℕ → Waiting → LiveFlag → LiveFlag
+  changed_to pattern waiters u =
+      record u { state = with_pattern o.state pattern; waiters = waiters }
+
+  abbrev pub left_with : ℕ → Waiting → EventFlags
+  left_with pattern waiters = changes s id (changed_to pattern waiters)
+
+  -- other threads wait for it then
+  with_others : (pattern : ℕ) (waiters others : Waiting)
+      → with_waiters (left_with pattern waiters) id others ≡ left_with pattern others
+  with_others pattern waiters others =
+      changes_twice id (changed_to pattern waiters) (λ u. record u { waiters = others })
+      (λ u. refl) s
+
+  -- it has another pattern then
+  with_other : (pattern other : ℕ) (waiters : Waiting)
+      → with_state (left_with pattern waiters) id (with_pattern o.state other)
+      ≡ left_with other waiters
+  with_other pattern other waiters =
+      changes_twice id (changed_to pattern waiters)
+      (λ u. record u { state = with_pattern o.state other }) (λ u. refl) s
+
+  module _ (live : object_of s.live id ≡ Some o) where
+    -- it is found so
+    found_left : (pattern : ℕ) (waiters : Waiting)
+        → object_of (left_with pattern waiters).live id ≡ Some (changed_to pattern waiters o)
+    found_left pattern waiters =
+        object_of-changed id (changed_to pattern waiters) (λ u. refl) s.live
+        ∙ ap (option_map (changed_to pattern waiters)) live
+
+    -- what is known of it
+    pub state_left : (pattern : ℕ) (waiters : Waiting)
+        → state_of (left_with pattern waiters) id ≡ Some (with_pattern o.state pattern)
+    state_left pattern waiters =
+        ap (option_map (λ (u : LiveFlag). u.state)) (found_left pattern waiters)
+
+    -- who waits for it
+    pub waiters_left : (pattern : ℕ) (waiters : Waiting)
+        → waiters_of (left_with pattern waiters) id ≡ waiters
+    waiters_left pattern waiters = ap waiters_in (found_left pattern waiters)
+
+    -- it is so once bits are set
+    pub flag_set : AllPairs HaveTwoIds s.live → (bits : ℕ)
+        → (sets s id bits).1 ≡ left_with (bit_or o.state.pattern bits) o.waiters
+    flag_set ids bits =
+        let pattern = bit_or o.state.pattern bits in
+        ap (λ (x : Option EventFlag). (sets_it s id bits x).1)
+        (ap (option_map (λ (u : LiveFlag). u.state)) live)
+        ∙ changes_alike id (λ u. record u { state = with_pattern o.state pattern })
+        (changed_to pattern o.waiters) o refl s ids live
+
+    -- one is taken out, and those behind it settle on what it leaves
+    pub record IsMetNext (t : EventFlags) (pattern : ℕ) (waiters : Waiting) (one : Met)
+        : Type 0 where
+      pub pattern_then : ℕ
+      pub waiters_then : Waiting
+      pub left : t ≡ left_with pattern_then waiters_then
+      pub asks : AskBits waiters_then
+      pub settled : settles pattern waiters ≡ meets one (settles pattern_then waiters_then)
+
+    module _ (pattern : ℕ) (waiters : Waiting) where
+      abbrev here : EventFlags
+      here = left_with pattern waiters
+
+      abbrev flag : EventFlag
+      flag = with_pattern o.state pattern
+
+      -- by what is chosen
+      next_is : (c : Option (Choice (Waiter Wanted))) → chooses_where (is_met pattern) waiters ≡ c
+          → meets_next here id ≡ meets_by here id flag (takes here id c)
+      next_is c chosen =
+          ap (meets_it here id) (state_left pattern waiters)
+          ∙ ap (λ q. meets_by here id flag (takes here id (chooses_where (is_met pattern) q)))
+          (waiters_left pattern waiters)
+          ∙ ap (λ c. meets_by here id flag (takes here id c)) chosen
+
+      -- what is left of one that is chosen
+      chosen_left : (c : Choice (Waiter Wanted))
+          → (meets_by here id flag (takes here id (Some c))).1
+          ≡ left_with (pattern_after c.one.item.wants.mode pattern) c.others
+      chosen_left c =
+          let then_pattern = pattern_after c.one.item.wants.mode pattern in
+          ap (λ s. with_state s id (with_pattern o.state then_pattern))
+          (with_others pattern waiters c.others)
+          ∙ with_other pattern then_pattern c.others
+
+      -- by what is chosen: one is met
+      met_by_choice : AskBits waiters → (c : Option (Choice (Waiter Wanted)))
+          → chooses_where (is_met pattern) waiters ≡ c → (t : EventFlags) (one : Met)
+          → Some one ≡ (meets_next here id).0 → t ≡ (meets_next here id).1
+          → IsMetNext t pattern waiters one
+      met_by_choice asks None chosen t one answer is =
+          let told = ap (λ r. r.0) (next_is None chosen) in cc
+      met_by_choice asks (Some c) chosen t one answer is =
+          let did = next_is (Some c) chosen in
+          let told = answer ∙ ap (λ r. r.0) did in
+          let taken : met_by pattern c.one.item ≡ one = cc in
+          let pattern_then = pattern_after c.one.item.wants.mode pattern in
+          record {
+            pattern_then = pattern_then;
+            waiters_then = c.others;
+            left = is ∙ ap (λ r. r.1) did ∙ chosen_left c;
+            asks = others_ask (is_met pattern) waiters asks c chosen;
+            settled = settles-taken pattern waiters asks c chosen
+                ∙ ap (λ m. meets m (settles pattern_then c.others)) taken;
+          }
+
+      -- or none is
+      none_by_choice : (c : Option (Choice (Waiter Wanted)))
+          → chooses_where (is_met pattern) waiters ≡ c → (t : EventFlags)
+          → None ≡ (meets_next here id).0 → t ≡ (meets_next here id).1
+          → (t ≡ here)
+          × (settles pattern waiters ≡ record { met = []; waiters = waiters; pattern = pattern })
+      none_by_choice None chosen t answer is =
+          (is ∙ ap (λ r. r.1) (next_is None chosen), settles-none pattern waiters chosen)
+      none_by_choice (Some c) chosen t answer is =
+          let told = answer ∙ ap (λ r. r.0) (next_is (Some c) chosen) in absurd (cc told)
+
+    -- one is met
+    pub flag_met : (u t : EventFlags) (pattern : ℕ) (waiters : Waiting) (one : Met)
+        → u ≡ left_with pattern waiters → AskBits waiters → Some one ≡ (meets_next u id).0
+        → t ≡ (meets_next u id).1 → IsMetNext t pattern waiters one
+    flag_met u t pattern waiters one same asks answer is =
+        met_by_choice pattern waiters asks (chooses_where (is_met pattern) waiters) refl t one
+        (answer ∙ ap (λ r. (meets_next r id).0) same) (is ∙ ap (λ r. (meets_next r id).1) same)
+
+    -- none is: all have settled
+    pub flag_settled : (u t : EventFlags) (pattern : ℕ) (waiters : Waiting)
+        → u ≡ left_with pattern waiters → None ≡ (meets_next u id).0 → t ≡ (meets_next u id).1
+        → (t ≡ left_with pattern waiters)
+        × (settles pattern waiters ≡ record { met = []; waiters = waiters; pattern = pattern })
+    flag_settled u t pattern waiters same answer is =
+        none_by_choice pattern waiters (chooses_where (is_met pattern) waiters) refl t
+        (answer ∙ ap (λ r. (meets_next r id).0) same) (is ∙ ap (λ r. (meets_next r id).1) same)
+
+    -- those that wait for it ask for bits
+    pub waiters_ask : AskForBits s → AskBits o.waiters
+    waiters_ask asks =
+        subst (λ (found : Option LiveFlag). AskBits (waiters_in found)) live
+        (AskBits-waiters_of s asks id)

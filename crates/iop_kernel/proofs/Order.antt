@@ -1,0 +1,6 @@
+pub mod DeliveryCalls
+pub mod Dispatches
+pub mod First
+pub mod Nothing
+pub mod Results
+pub mod Strict

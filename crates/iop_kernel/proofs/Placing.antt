@@ -1,0 +1,17 @@
+pub mod Alike
+pub mod Basics
+pub mod Delays
+pub mod Endings
+pub mod Kinds
+pub mod Live
+pub mod Moves
+pub mod Objects
+pub mod ObjectsKept
+pub mod Once
+pub mod Opening
+pub mod Queues
+pub mod Rooms
+pub mod Services
+pub mod Steps
+pub mod Threads
+pub mod Waiters

@@ -1,0 +1,100 @@
+-- Threads and waiters stay placed when other threads stand in the kernel.
+use Rattle.std.proofs.Common.{◌≡◌, ℕ, ◌≤◌, Bool, true, Option, Some, None, List, length}
+use Rattle.iop_thread.specs.Laws.{KeepsPlaces}
+use Rattle.iop_thread.specs.Placing as threads_placing
+use Rattle.iop_thread.specs.ThreadTable.{ThreadTable}
+use Rattle.iop_thread.specs.Waits.{MovesWaits, WaitOn, is_live}
+use Rattle.iop_thread.proofs.Placed.{keeps_places}
+use Rattle.iop_thread.proofs.Waits.{moves_waits}
+use Rattle.iop_intr.specs.InterruptLines.{IrqLine}
+use Rattle.iop_time.specs.Timers.{Timers, AreTimers}
+use Rattle.iop_time.specs.declared.clock.TheConstants.{MOST_DELAYS}
+use Rattle.iop_kernel.specs.Placing.{IsPlaced}
+use Rattle.iop_kernel.specs.System.{Kernel, Core, caller_beside}
+use Rattle.iop_kernel.specs.ThreadStarts.{ended}
+use Rattle.iop_kernel.specs.declared.active_handler.ActiveHandler.{ActiveHandler}
+use Rattle.iop_kernel.proofs.Placing.Alike.{AllAskAlike, alike_on}
+use Rattle.iop_kernel.proofs.Placing.Delays.{live_room, delayed_beside}
+use Rattle.iop_kernel.proofs.Placing.Threads.{placed_with}
+
+-- threads that can stand in place of the kernel's, since each waits for what it did
+pub record PlacedThreads (k : Kernel) (left : ThreadTable) : Type 0 where
+  pub placed : threads_placing.IsPlaced left
+  pub room : length left.live ≤ MOST_DELAYS
+  pub alike : AllAskAlike k.threads left
+
+-- they stand there
+pub stand : (k : Kernel) → IsPlaced k → (left : ThreadTable) → PlacedThreads k left
+    → IsPlaced (record k { threads = left })
+stand k h left go = placed_with k left h go.placed go.room go.alike
+
+-- the kernel's threads stay placed
+abbrev pub places : (k : Kernel) → IsPlaced k → KeepsPlaces k.threads
+places k h = keeps_places k.threads h.threads
+
+-- what an operation does to their waits
+abbrev pub moves : (k : Kernel) → IsPlaced k → MovesWaits k.threads
+moves k h = moves_waits k.threads h.threads
+
+-- where the same threads are live there is room for a delay of each
+pub same_live : (k : Kernel) → IsPlaced k → {left : ThreadTable} → threads_placing.IsPlaced left
+    → ((id : ℕ) → is_live left id ≡ is_live k.threads id) → length left.live ≤ MOST_DELAYS
+same_live k h {left} placed live = live_room k.threads left placed live h.delays.room
+
+-- the same threads are live, and each waits on
+pub wait_on : (k : Kernel) → IsPlaced k → {left : ThreadTable} {running : Option ℕ}
+    → threads_placing.IsPlaced left → WaitOn k.threads left running → PlacedThreads k left
+wait_on k h placed on =
+    record { placed = placed; room = same_live k h placed on.live; alike = alike_on on.waits }
+
+-- so they stand there
+pub stand_on : (k : Kernel) → IsPlaced k → {left : ThreadTable} {running : Option ℕ}
+    → threads_placing.IsPlaced left → WaitOn k.threads left running
+    → IsPlaced (record k { threads = left })
+stand_on k h {left} placed on = stand k h left (wait_on k h placed on)
+
+-- a thread that calls runs
+pub caller_runs : (handler : Option ActiveHandler) (running : Option ℕ) (thread : ℕ)
+    → caller_beside handler running ≡ Some thread → running ≡ Some thread
+caller_runs None running thread calls = calls
+caller_runs (Some handler) running thread calls = cc
+
+-- nothing changes but the moment, whether another thread may run, the handler and the lines
+pub beside_placed : {k : Kernel} (clock : ℕ) (interrupts dispatching : Bool)
+    (handler : Option ActiveHandler) (irqs : List IrqLine) → IsPlaced k
+    → IsPlaced (record k {
+      clock = clock;
+      interrupts = interrupts;
+      dispatching = dispatching;
+      handler = handler;
+      irqs = irqs;
+    })
+beside_placed clock interrupts dispatching handler irqs h = record {
+  threads = h.threads;
+  objects = h.objects;
+  delays = h.delays;
+}
+
+-- interrupts are on and dispatch is enabled
+pub open_placed : (k : Kernel) → IsPlaced k
+    → IsPlaced (record k { interrupts = true; dispatching = true })
+open_placed k h = beside_placed _ _ _ _ _ h
+
+-- the alarms are others
+pub timers_placed : {k : Kernel} (timers : Timers) → AreTimers timers
+    → timers.delays ≡ k.timers.delays → IsPlaced k → IsPlaced (record k { timers = timers })
+timers_placed timers kept same h = record {
+  threads = h.threads;
+  objects = h.objects;
+  delays = delayed_beside h.delays timers kept same;
+}
+
+-- the thread that runs has ended
+pub ended_places : (c : Core) → IsPlaced c.kernel → IsPlaced (ended c).kernel
+ended_places c h =
+    stand_on _ (open_placed c.kernel h) (places c.kernel h).ends_running
+    (moves c.kernel h).ends_running
+
+-- the moment is another
+pub clock_place : (k : Kernel) (moment : ℕ) → IsPlaced k → IsPlaced (record k { clock = moment })
+clock_place k moment h = beside_placed _ _ _ _ _ h

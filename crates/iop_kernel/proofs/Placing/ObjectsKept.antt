@@ -1,0 +1,137 @@
+-- What a change of those that wait for an object keeps of the objects of its kind.
+use Rattle.std.proofs.Common.{◌≡◌, ◌==◌, ℕ, Bool, true, false, if◌then◌else◌, option_map, Option, Some, None, List, [], ◌∷◌, map, filter, refl, subst, arith}
+use Rattle.std.specs.List.{All, Contains}
+use Rattle.std.specs.Prelude.{not}
+use Rattle.std.proofs.lemmas.Bool.Decides.{nat_tests}
+use Rattle.std.proofs.lemmas.List.{length-map, get_or-map}
+use Rattle.std.proofs.lemmas.List.Elements.{All-head, All-append, All-weaker, All-map, All-filter, All-contains}
+use Rattle.iop_objects.specs.Objects.{Object, Objects, object_of, waiters_in, waiters_of, with_waiters, drops, requeues}
+use Rattle.iop_objects.specs.WaiterQueues.{is_thread, without, with_priority, requeued}
+use Rattle.iop_objects.specs.declared.queued.Queued.{Queued}
+use Rattle.iop_objects.specs.declared.waiter.Waiter.{Waiter}
+use Rattle.iop_kernel.specs.Laws.{KeepsObjects}
+use Rattle.iop_kernel.proofs.Placing.Objects.{waiters_other, waiters_own, waiters_leave_states}
+
+module _ {W : Type 0} where
+  -- those that wait, without the priorities by which they are queued
+  abbrev pub items : List (Queued (Waiter W)) → List (Waiter W)
+  items waiters = map (λ x. x.item) waiters
+
+  -- a waiter is one of these, whatever its priority
+  abbrev pub IsAmong : List (Queued (Waiter W)) → Queued (Waiter W) → Type 0
+  IsAmong old x = Contains (items old) x.item
+
+  -- there are no other waiters
+  abbrev pub NoOthers : (old new : List (Queued (Waiter W))) → Type 0
+  NoOthers old new = All (IsAmong old) new
+
+  -- each is among all
+  themselves : (waiters : List (Queued (Waiter W))) → NoOthers waiters waiters
+  themselves waiters k d below =
+      let item : Queued (Waiter W) → Waiter W = λ x. x.item in
+      (k, omega (arith, below, length-map waiters item), get_or-map item waiters k d _ below)
+
+  -- those that wait without a thread
+  pub none_without : (thread : ℕ) (waiters : List (Queued (Waiter W)))
+      → NoOthers waiters (without thread waiters)
+  none_without thread waiters =
+      All-filter (λ x. not (is_thread thread x)) (IsAmong waiters) waiters (themselves waiters)
+
+  -- one that has another priority now, if it is that of the thread
+  same_thread : (thread priority : ℕ) (old : List (Queued (Waiter W))) (x : Queued (Waiter W))
+      → IsAmong old x
+      → IsAmong old (if is_thread thread x then with_priority priority x else x)
+  same_thread thread priority old x h = either (is_thread thread x)
+    where
+      either : (b : Bool) → IsAmong old (if b then with_priority priority x else x)
+      either true = h
+      either false = h
+
+  -- so where the priority of a thread changes
+  pub none_requeued : (by_priority : Bool) (thread priority : ℕ)
+      (waiters : List (Queued (Waiter W)))
+      → NoOthers waiters (requeued by_priority thread priority waiters)
+  none_requeued true thread priority waiters =
+      let moved = filter (is_thread thread) waiters in
+      All-append (IsAmong waiters) (without thread waiters) (map (with_priority priority) moved)
+      (none_without thread waiters)
+      (All-map (IsAmong waiters) (with_priority priority) moved
+      (All-filter (is_thread thread) (IsAmong waiters) waiters (themselves waiters)))
+  none_requeued false thread priority waiters =
+      let change : Queued (Waiter W) → Queued (Waiter W) =
+      λ x. if is_thread thread x then with_priority priority x else x in
+      All-map (IsAmong waiters) change waiters
+      (All-weaker (IsAmong waiters) (λ x. IsAmong waiters (change x))
+      (same_thread thread priority waiters) waiters (themselves waiters))
+
+  -- so what is among the new ones is among the old ones
+  among : (old new : List (Queued (Waiter W))) → NoOthers old new → (w : Waiter W)
+      → Contains (items new) w → Contains (items old) w
+  among old new none w h =
+      All-contains (Contains (items old)) (items new) w
+      (All-map (Contains (items old)) (λ (x : Queued (Waiter W)). x.item) new none) h
+
+  -- there is none where there was none
+  pub none_new : (old new : List (Queued (Waiter W))) → NoOthers old new → old ≡ [] → new ≡ []
+  none_new old [] none empty = refl
+  none_new old (x ∷ xs) none empty =
+      let there = subst (λ old. Contains (items old) x.item) empty
+      (All-head (IsAmong old) x xs none) in
+      absurd (omega (arith, there.1))
+
+  -- what holds of each old one holds of each new one, where it is not about priorities
+  pub all_others : (Holds : Waiter W → Type 0) (old new : List (Queued (Waiter W)))
+      → NoOthers old new → All (λ x. Holds x.item) old → All (λ x. Holds x.item) new
+  all_others Holds old new none all =
+      All-weaker (IsAmong old) (λ x. Holds x.item)
+      (λ x there. All-contains Holds (items old) x.item
+      (All-map Holds (λ (x : Queued (Waiter W)). x.item) old all) there) new none
+
+module _ {A W : Type 0} where
+  -- nothing changes
+  pub same_objects : (s : Objects A W) → KeepsObjects s s
+  same_objects s = record { states = λ id. refl; waiters = λ id w h. h; next = refl }
+
+  module _ (s : Objects A W) (id : ℕ) (new : List (Queued (Waiter W)))
+      (none : NoOthers (waiters_of s id) new) where
+    -- the object has these waiters now
+    abbrev to_new : Object A W → Object A W
+    to_new o = record o { waiters = new }
+
+    -- there are no other waiters
+    own_waiters : (o : Option (Object A W)) → NoOthers (waiters_in o) new → (w : Waiter W)
+        → Contains (items (waiters_in (option_map to_new o))) w
+        → Contains (items (waiters_in o)) w
+    own_waiters None fewer w h = h
+    own_waiters (Some o) fewer w h = among o.waiters new fewer w h
+
+    -- by whether it is the object
+    waiters_leave : (other : ℕ) (w : Waiter W) (b : Bool) → (other == id) ≡ b
+        → Contains (items (waiters_of (with_waiters s id new) other)) w
+        → Contains (items (waiters_of s other)) w
+    waiters_leave other w true is =
+        let same : other ≡ id = grind (arith, nat_tests, is) in
+        rw same (λ h. own_waiters (object_of s.live id) none w
+        (rw (waiters_own id to_new (λ o. refl) s) at h))
+    waiters_leave other w false is = rw (waiters_other id to_new (λ o. refl) s other is) (λ h. h)
+
+    -- the objects are kept
+    pub waiters_change : KeepsObjects s (with_waiters s id new)
+    waiters_change = record {
+      states = waiters_leave_states id new s;
+      waiters = λ other w. waiters_leave other w (other == id) refl;
+      next = refl;
+    }
+
+  -- a thread waits no more for an object
+  pub drops_keep : (s : Objects A W) (id thread : ℕ) → KeepsObjects s (drops s id thread)
+  drops_keep s id thread =
+      waiters_change s id (without thread (waiters_of s id)) (none_without thread (waiters_of s id))
+
+  -- or has another priority
+  pub requeues_keep : (s : Objects A W) (id : ℕ) (by_priority : Bool) (thread priority : ℕ)
+      → KeepsObjects s (requeues s id by_priority thread priority)
+  requeues_keep s id by_priority thread priority =
+      let was = waiters_of s id in
+      waiters_change s id (requeued by_priority thread priority was)
+      (none_requeued by_priority thread priority was)

@@ -1,0 +1,4 @@
+pub mod Statuses
+pub mod Times
+pub mod WordBytes
+pub mod Words

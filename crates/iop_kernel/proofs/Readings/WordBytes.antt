@@ -1,0 +1,52 @@
+-- The bytes of words, one word after the other.
+use Rattle.std.proofs.Common.{◌≡◌, ◌<◌, ◌+◌, ◌-◌, ◌*◌, ℕ, List, [], ◌∷◌, ◌++◌, length, take, drop, get_or, replicate, append_assoc, refl, ap, sym, ◌∙◌, arith}
+use Rattle.std.proofs.lemmas.List.{length-append, length-take-le, take_more, drop-replicate}
+use Rattle.std.proofs.Math.Seq.{take-append_seam, drop-append-add}
+use Rattle.iop_base.specs.Numbers.{bytes_of, with_bytes}
+use Rattle.iop_base.proofs.Lists.{length-bytes_of}
+use Rattle.iop_kernel.specs.Boards.{bytes_of_words}
+
+-- the bytes of words behind others
+pub bytes_of_words-append : (words more : List ℕ)
+    → bytes_of_words (words ++ more) ≡ bytes_of_words words ++ bytes_of_words more
+bytes_of_words-append [] more = refl
+bytes_of_words-append (word ∷ words) more =
+    ap (λ bytes. bytes_of 4 word ++ bytes) (bytes_of_words-append words more)
+    ∙ sym (append_assoc (bytes_of 4 word) (bytes_of_words words) (bytes_of_words more))
+
+-- each word has four bytes
+pub length-bytes_of_words : (words : List ℕ) → length (bytes_of_words words) ≡ 4 * length words
+length-bytes_of_words [] = refl
+length-bytes_of_words (word ∷ words) =
+    let all = length-append (bytes_of 4 word) (bytes_of_words words) in
+    omega (arith, all, length-bytes_of 4 word, length-bytes_of_words words)
+
+-- bytes put behind a front, in place of the zeroes that stood there
+with_bytes-front : (front bytes : List ℕ) (n at : ℕ) → at ≡ length front
+    → with_bytes (front ++ replicate n 0) at bytes
+    ≡ front ++ bytes ++ replicate (n - length bytes) 0
+with_bytes-front front bytes n at is =
+    let zeroes = replicate n 0 in
+    let kept = drop-append-add front zeroes (length bytes) ∙ drop-replicate (length bytes) n 0 in
+    rw is (ap (λ t. t ++ bytes ++ drop (length front + length bytes) (front ++ zeroes))
+    (take-append_seam front zeroes)
+    ∙ ap (λ t. front ++ bytes ++ t) kept)
+
+-- one word more is put behind those before it
+pub word_put : (words bytes : List ℕ) (n i : ℕ) → i < length words
+    → bytes ≡ bytes_of_words (take i words) ++ replicate (n - 4 * i) 0
+    → with_bytes bytes (4 * i) (bytes_of 4 (get_or words i 0))
+    ≡ bytes_of_words (take (i + 1) words) ++ replicate (n - 4 * (i + 1)) 0
+word_put words bytes n i below is =
+    let word = bytes_of 4 (get_or words i 0) in
+    let front = take i words in
+    let long = length-bytes_of_words front in
+    let at : 4 * i ≡ length (bytes_of_words front) =
+    omega (arith, long, length-take-le i words (omega arith)) in
+    let left : n - 4 * i - 4 ≡ n - 4 * (i + 1) = omega arith in
+    let more = ap bytes_of_words (take_more words i 0 below)
+    ∙ bytes_of_words-append front (get_or words i 0 ∷ []) in
+    ap (λ t. with_bytes t (4 * i) word) is
+    ∙ with_bytes-front (bytes_of_words front) word (n - 4 * i) (4 * i) at
+    ∙ ap (λ t. t ++ replicate (n - 4 * i - 4) 0) (sym more)
+    ∙ ap (λ m. bytes_of_words (take (i + 1) words) ++ replicate m 0) left

@@ -1,0 +1,14 @@
+pub mod Aside
+pub mod Callers
+pub mod Changes
+pub mod EventFlags
+pub mod Interrupts
+pub mod Libraries
+pub mod Mailboxes
+pub mod Moves
+pub mod Objects
+pub mod Semaphores
+pub mod Services
+pub mod Steps
+pub mod Stores
+pub mod Threads
