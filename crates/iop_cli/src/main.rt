@@ -9,8 +9,8 @@ use std::io::ErrorKind;
 use std::process::ExitCode;
 use std::rt::Env;
 
-/// The words of the command line, without the program's name. Where one is not UTF-8 there are none: such
-/// a line is no command.
+/// The words of the command line, without the program's name. Where one is not UTF-8 there are
+/// none: such a line is no command.
 fn words(rt: &(impl Env + AllocGlobal)) -> Result<Vec<String>, AllocError> {
     let mut words = Vec::new(rt.alloc());
     match env::args(rt) {

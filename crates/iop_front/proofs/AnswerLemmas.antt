@@ -1,22 +1,19 @@
 -- From what the parts of the command do to the answers.
-use Rattle.std.proofs.Common.{◌≡◌, ◌⊎◌, ℕ, nat_lt, Bool, true, false, not, Option, Some, None, option_to_list, is_some, IsSome, Result, Ok, Err, is_ok, is_err}
-use Rattle.std.proofs.Common.{List, [], ◌∷◌, ◌++◌, All, length, append-nil, refl, ap, sym, ◌∙◌, subst, arith, inl, inr}
+use Rattle.std.proofs.Common.{◌≡◌, ◌⊎◌, ℕ, nat_lt, Bool, true, false, not, Option, Some, None, option_to_list, IsSome, is_some, Result, Ok, Err, is_ok, is_err, List, [], ◌∷◌, ◌++◌, All, length, append-nil, refl, ap, sym, ◌∙◌, subst, arith, inl, inr}
 use Rattle.std.proofs.lemmas.Bool.Decides.{nat_tests}
 use Rattle.iop_base.specs.Piece.{Traced}
 use Rattle.iop_base.specs.Output.{Output}
 use Rattle.iop_machine.specs.Modules.{NamedFile}
 use Rattle.iop_modload.specs.declared.limits.TheConstants.{LONGEST_FILE}
+use Rattle.iop_options.specs.Commands.{Command}
 use Rattle.iop_ports.specs.Sinks.{SinkTold, Sends}
 use Rattle.iop_script.specs.Reading.{empty_script, script_of}
 use Rattle.iop_script.specs.Scripts.{Script}
 use Rattle.iop_trace.specs.Outs.{Leaves, output_with}
-use Rattle.iop_front.specs.Answers.{Answers, AreFilesOf, Outside, HasNoCommand, bad_words, no_memory_for_words, cannot_read, no_memory, from_files}
-use Rattle.iop_front.specs.Inputs.{Seen, GoesOn, HasInputs, HasStoppedUnread, HasStoppedTooLong, HasStoppedBad, HasStoppedShort}
-use Rattle.iop_front.specs.Inputs.{IsScriptOf, IsShort}
-use Rattle.iop_front.specs.Outcome.{Outcome, Meets, Comes, Refuses, refusal, bad_script_line, cannot_read_line, too_long_line}
-use Rattle.iop_front.specs.Outcome.{first_too_long, script_by, outcome_behind, outcome_by, outcome_of_inputs, outcome_of_modules}
-use Rattle.iop_options.specs.Commands.{Command}
-use Rattle.iop_front.specs.Named.{AsScript, kind_by, first_kind, files_of}
+use Rattle.iop_front.specs.Answers.{Answers, HasReadFiles, Outside, HasNoCommand, bad_words, no_memory_for_words, cannot_read, no_memory, from_files}
+use Rattle.iop_front.specs.Inputs.{Seen, GoesOn, HasTaken, HasInputs, HasStoppedUnread, HasStoppedTooLong, HasStoppedBad, HasStoppedShort, IsScriptOf, IsShort}
+use Rattle.iop_front.specs.Outcome.{Outcome, Meets, Comes, Refuses, refusal, bad_script_line, cannot_read_line, too_long_line, first_too_long, script_by, outcome_behind, outcome_by, outcome_of_inputs, outcome_of_modules}
+use Rattle.iop_front.specs.Named.{FileKind, AsScript, kind_by, first_kind, files_of}
 use Rattle.iop_front.specs.declared.status.Status.{Status}
 use Rattle.iop_front.specs.declared.status.Status.TheVariants.{BadWords, BadScript, CannotRead, TooLong, NoMemory}
 use Rattle.iop_front.proofs.OpeningLemmas.{found}
@@ -38,15 +35,12 @@ outside_of seen sinks = record { told = seen.told; faults = seen.faults; sinks =
 -- the words are no command
 pub bad_words_by : (named : Option Command) (status : Status) (old new : Outside)
     → named ≡ None → status ≡ BadWords → HasNoCommand old new → Answers named status old new
-bad_words_by named status old new none e h =
-    subst (λ (n : Option Command). Answers n status old new) (sym none)
-    (subst (λ (s : Status). Answers None s old new) (sym e) (bad_words h))
+bad_words_by named status old new none e h = rw (none, e) (bad_words h)
 
 -- there was no memory to read the words
 pub no_memory_by : (named : Option Command) (status : Status) (old new : Outside)
     → status ≡ NoMemory → new ≡ old → Answers named status old new
-no_memory_by named status old new e same =
-    subst (λ (s : Status). Answers named s old new) (sym e) (no_memory_for_words same)
+no_memory_by named status old new e same = rw e (no_memory_for_words same)
 
 -- files that were read, of which the first that is too long is this one: what they say
 record IsLongInput (command : Command) (name : Option (List ℕ)) (files : List NamedFile)
@@ -130,62 +124,63 @@ script_says (Some file) script h =
     let short = h.0 in
     from_short file (Ok script) (grind (arith, nat_tests, short)) h.1
 
-module _ (command : Command) (status : Status) (old new : Seen) (sinks after : Output) where
-  abbrev IsAnswer : Type 0
-  IsAnswer = Answers (Some command) status (outside_of old sinks) (outside_of new after)
+-- files that were taken were read
+files_read : {kind : FileKind} {names : List (List ℕ)} {files : List NamedFile} {old new : Seen}
+    {sinks after : Output} → HasTaken kind names files old new
+    → HasReadFiles kind names files (outside_of old sinks) (outside_of new after)
+files_read h = record { are_files = h.are_files; read = h.read; no_fault = h.no_fault }
 
+-- what the command does to the files and the sinks is this answer
+abbrev IsAnswer : Command → Status → Seen → Seen → Output → Output → Type 0
+IsAnswer command status old new sinks after =
+    Answers (Some command) status (outside_of old sinks) (outside_of new after)
+
+module _ {command : Command} {status : Status} {old new : Seen} {sinks after : Output} where
   -- by the status that it is
-  of_status : (other : Status) → status ≡ other
-      → Answers (Some command) other (outside_of old sinks) (outside_of new after) → IsAnswer
-  of_status other e h =
-      subst (λ (s : Status). Answers (Some command) s (outside_of old sinks)
-      (outside_of new after)) (sym e) h
+  of_status : (other : Status) → status ≡ other → IsAnswer command other old new sinks after
+      → IsAnswer command status old new sinks after
+  of_status other e = subst (λ (s : Status). IsAnswer command s old new sinks after) (sym e)
 
   pub answers_unread : (name : List ℕ)
       → HasStoppedUnread (first_kind command) (files_of command) name old new
-      → status ≡ CannotRead → Refuses (cannot_read_line name) sinks after → IsAnswer
+      → status ≡ CannotRead → Refuses (cannot_read_line name) sinks after
+      → IsAnswer command status old new sinks after
   answers_unread name h e line =
       of_status CannotRead e (cannot_read h.before name h.left h.are_names
       (record { files = h.read; cause = h.cause; line = line }))
 
   pub answers_short : HasStoppedShort (first_kind command) (files_of command) old new
-      → status ≡ NoMemory → after ≡ sinks → IsAnswer
+      → status ≡ NoMemory → after ≡ sinks → IsAnswer command status old new sinks after
   answers_short h e same =
       of_status NoMemory e (no_memory h.opened h.left h.are_names h.read h.no_fault same)
 
   pub answers_too_long : (name : List ℕ)
       → HasStoppedTooLong (first_kind command) (files_of command) name old new
-      → status ≡ TooLong → Refuses (too_long_line name) sinks after → IsAnswer
+      → status ≡ TooLong → Refuses (too_long_line name) sinks after
+      → IsAnswer command status old new sinks after
   answers_too_long name h e line =
       let long : NamedFile = record { name = name; file = h.file } in
       let is = long_input command command.script h.files long h.decides h.taken.goes_on in
       from_files h.opened h.left is.script is.modules (record {
         are_names = h.are_names;
         has_script = is.has_script;
-        read = record {
-          are_files = subst (λ (fs : List NamedFile). AreFilesOf h.opened fs old.told)
-              (sym is.are) h.taken.are_files;
-          read = h.taken.read;
-          no_fault = h.taken.no_fault;
-        };
+        read = subst (λ (fs : List NamedFile). HasReadFiles (first_kind command) h.opened fs
+            (outside_of old sinks) (outside_of new after)) (sym is.are) (files_read h.taken);
       }) (inr is.ends)
       (refusal_meets status TooLong (too_long_line name)
       (outcome_of_inputs command is.script is.modules) sinks after is.is e line)
 
   pub answers_bad : (number : ℕ)
       → HasStoppedBad (first_kind command) (files_of command) number old new
-      → status ≡ BadScript → Refuses (bad_script_line number) sinks after → IsAnswer
+      → status ≡ BadScript → Refuses (bad_script_line number) sinks after
+      → IsAnswer command status old new sinks after
   answers_bad number h e line =
       let short = h.short in
       let says = from_short h.file (Err number) (grind (arith, nat_tests, short)) h.bad in
       from_files (h.file.name ∷ []) h.left (Some h.file) [] (record {
         are_names = h.are_names;
         has_script = script_named command.script h.as_script;
-        read = record {
-          are_files = h.taken.are_files;
-          read = h.taken.read;
-          no_fault = h.taken.no_fault;
-        };
+        read = files_read h.taken;
       }) (inr (inl (ap is_err says)))
       (refusal_meets status BadScript (bad_script_line number)
       (outcome_of_inputs command (Some h.file) []) sinks after
@@ -193,16 +188,13 @@ module _ (command : Command) (status : Status) (old new : Seen) (sinks after : O
 
   pub answers_inputs : (script : Script) (modules : List NamedFile)
       → HasInputs command script modules old new → All IsShort modules
-      → Meets (outcome_of_modules command script modules) status sinks after → IsAnswer
+      → Meets (outcome_of_modules command script modules) status sinks after
+      → IsAnswer command status old new sinks after
   answers_inputs script modules h short meets =
       from_files (files_of command) [] h.file modules (record {
         are_names = sym (append-nil (files_of command));
         has_script = h.has_file;
-        read = record {
-          are_files = h.taken.are_files;
-          read = h.taken.read;
-          no_fault = h.taken.no_fault;
-        };
+        read = files_read h.taken;
       }) (inl refl)
       (subst (λ (o : Outcome). Meets o status sinks after)
       (sym (ap (λ r. outcome_behind command r modules) (script_says h.file script h.says)

@@ -1,14 +1,20 @@
--- The lines of a dump, one after the other.
-use Rattle.std.proofs.Common.{◌≡◌, ℕ, ◌+◌, ◌-◌, ◌*◌, ◌/◌, ◌≤◌, true, false, List, [], ◌∷◌, ◌++◌, length, take, drop, map, refl, ap, sym, ◌∙◌, subst, arith}
+-- The lines of a dump, one after the other, and its range.
+use Rattle.std.proofs.Common.{◌≡◌, ℕ, ◌+◌, ◌-◌, ◌*◌, ◌/◌, ◌%◌, ◌^◌, ◌<◌, ◌≤◌, nat_le, nat_lt, Bool, true, false, cond, ◌&&◌, Option, Some, None, option_map, option_and_then, is_some, List, [], ◌∷◌, ◌++◌, map, length, take, drop, refl, ap, sym, ◌∙◌, subst, arith}
 use Rattle.std.specs.List.{range_with_len}
-use Rattle.std.proofs.lemmas.List.{length-drop, map-append, take-append-drop, drop-drop}
+use Rattle.std.proofs.lemmas.List.{length-drop, map-append, take-append-drop, drop-drop, length-take}
 use Rattle.std.proofs.lemmas.List.FromFn.{take-map-range_with_len, map-range_with_len_more}
+use Rattle.std.proofs.lemmas.Bool.{and_parts}
+use Rattle.std.proofs.lemmas.Bool.Decides.{nat_tests}
 use Rattle.iop_base.specs.Piece.{Traced}
 use Rattle.iop_base.proofs.Giving.{adds_none, stops_before}
+use Rattle.iop_base.specs.Places.{is_mapped, range_at}
+use Rattle.iop_options.specs.declared.limits.TheConstants.{MEMORY_SIZE}
+use Rattle.iop_options.specs.Values.{DumpRange}
 use Rattle.iop_ports.specs.Sinks.{SinkTold, Sends}
+use Rattle.iop_ram.specs.Windows.{window_of}
 use Rattle.iop_trace.specs.Dumps.{dump_line, dump_lines, numbered_line}
 use Rattle.iop_trace.specs.Outs.{Leaves, output_with}
-use Rattle.iop_front.specs.Outcome.{TraceLeaves}
+use Rattle.iop_front.specs.Outcome.{TraceLeaves, dump_pieces}
 use Rattle.iop_front.proofs.RunLemmas.{leaves_then}
 use Rattle.iop_front.proofs.SendingLemmas.{sent_leaves}
 
@@ -107,9 +113,59 @@ module _ (from : ℕ) (bytes : List ℕ) where
           (ap (λ line. (map Traced (first_lines h.number) ++ Traced line ∷ []) ++ map Traced behind)
           is_next
           ∙ sym (ap (map Traced) (lines_split h.number few)
-          ∙ map-append Traced (first_lines h.number ++ numbered_line from bytes h.number ∷ []) behind
+          ∙ map-append Traced (first_lines h.number ++ numbered_line from bytes h.number ∷ [])
+          behind
           ∙ ap (λ t. t ++ map Traced behind)
           (map-append Traced (first_lines h.number) (numbered_line from bytes h.number ∷ []))))
           (stops_before (map Traced behind)
           (leaves_then true _ _ _ (map Traced (first_lines h.number)) (Traced next_line ∷ [])
           first.0 first.1 one))
+
+-- the range of a dump: its bytes are no more than it has
+short_by : (memory bytes : List ℕ) (len : ℕ) (place : Option ℕ)
+    → option_map (λ p. take len (drop p memory)) place ≡ Some bytes → length bytes ≤ len
+short_by memory bytes len None e = absurd (cc)
+short_by memory bytes len (Some p) e =
+    let is : take len (drop p memory) ≡ bytes = cc in
+    subst (λ b. length b ≤ len) is (omega (arith, length-take len (drop p memory)))
+
+-- a range has no more bytes than it says
+pub window_short : (memory bytes : List ℕ) (at len : ℕ) → window_of memory at len ≡ Some bytes
+    → length bytes ≤ len
+window_short memory bytes at len e = short_by memory bytes len (range_at (length memory) at len) e
+
+-- the tests of a range that is inside
+record IsInside (test : Bool) (place len : ℕ) : Type 0 where
+  mapped : test ≡ true
+  inside : nat_le (place + len) MEMORY_SIZE ≡ true
+
+-- where an option is there only if a test passes, it has passed
+inside_by : (b : Bool) (p : ℕ) → is_some (cond b (Some p) None) ≡ true → b ≡ true
+inside_by true p e = refl
+inside_by false p e = absurd (cc)
+
+-- a range that has a place passes them
+is_inside : (b : Bool) (p len : ℕ)
+    → is_some (option_and_then (λ place. cond (nat_le (place + len) MEMORY_SIZE) (Some place) None)
+    (cond b (Some p) None)) ≡ true → IsInside b p len
+is_inside true p len e =
+    record { mapped = refl; inside = inside_by (nat_le (p + len) MEMORY_SIZE) p e }
+is_inside false p len e = absurd (cc)
+
+-- so its last address is below 2^32
+pub range_low : (at len : ℕ) → is_some (range_at MEMORY_SIZE at len) ≡ true → at + len < 2 ^ 32
+range_low at len e =
+    let segment = at / 0x20000000 in
+    let place = at % 0x20000000 in
+    let is = is_inside (is_mapped segment && nat_lt place MEMORY_SIZE) place len e in
+    let mapped = (and_parts (is_mapped segment) (nat_lt place MEMORY_SIZE) is.mapped).0 in
+    let low : segment ≤ 5 = grind (arith, nat_tests, mapped) in
+    let inside = is.inside in
+    let fits : place + len ≤ MEMORY_SIZE = grind (arith, nat_tests, inside) in
+    omega (arith, low, fits)
+
+-- a range that is not inside has no lines
+pub nothing_dumped : (ram : List ℕ) (dump : Option DumpRange) (range : DumpRange)
+    → dump ≡ Some range → None ≡ window_of ram range.from range.len → dump_pieces ram dump ≡ []
+unfolding dump_lines
+nothing_dumped ram dump range is none = rw (is, ← none) refl

@@ -1,6 +1,5 @@
 -- The ways in which files that were read are answered, and what each shows.
-use Rattle.std.proofs.Common.{◌≡◌, ◌≢◌, ◌⊎◌, ℕ, ◌<◌, ◌≤◌, nat_lt, Bool, true, false, cond, Option, Some, None, option_to_list, Result, Ok, Err, is_err, List, ◌++◌, length, refl, ap, sym}
-use Rattle.std.proofs.Common.{◌∙◌, subst, arith, inl, inr}
+use Rattle.std.proofs.Common.{◌≡◌, ◌≢◌, ◌⊎◌, ℕ, ◌<◌, nat_lt, Bool, true, false, cond, Option, Some, None, option_to_list, Result, Ok, Err, is_err, List, ◌++◌, length, refl, ap, sym, ◌∙◌, subst, arith, inl, inr}
 use Rattle.iop_base.specs.Counts.{HasCause}
 use Rattle.iop_base.specs.Piece.{Piece, Traced, Told}
 use Rattle.iop_base.specs.Output.{Output, HasNoFault, StopsShort, FailsAt}
@@ -10,17 +9,16 @@ use Rattle.iop_machine.specs.Modules.{NamedFile, modules_from}
 use Rattle.iop_machine.specs.Stepping.{run_of}
 use Rattle.iop_machine.specs.World.{beginning}
 use Rattle.iop_modload.specs.declared.limits.TheConstants.{LONGEST_FILE}
+use Rattle.iop_options.specs.Commands.{Command}
+use Rattle.iop_options.specs.declared.limits.TheConstants.{MEMORY_SIZE}
 use Rattle.iop_script.specs.Reading.{empty_script, script_of}
 use Rattle.iop_script.specs.Scripts.{Script}
 use Rattle.iop_trace.specs.Outs.{Leaves}
-use Rattle.iop_options.specs.Commands.{Command}
-use Rattle.iop_options.specs.declared.limits.TheConstants.{MEMORY_SIZE}
 use Rattle.iop_front.specs.declared.status.Status.{Status}
 use Rattle.iop_front.specs.declared.status.Status.TheVariants.{BadScript, TooLong, SinkFault, NoMemory}
-use Rattle.iop_front.specs.Outcome.{Outcome, Meets, Refuses, refusal, bad_script_line, too_long_line, first_too_long, script_read, script_by}
-use Rattle.iop_front.specs.Outcome.{outcome_behind, outcome_by, outcome_of_inputs, outcome_of_modules, modules_to_load}
+use Rattle.iop_front.specs.Outcome.{Outcome, Meets, Refuses, refusal, bad_script_line, too_long_line, first_too_long, script_read, script_by, outcome_behind, outcome_by, outcome_of_inputs, outcome_of_modules, modules_to_load}
 use Rattle.iop_front.specs.Statuses.{status_code, status_of, IsRunCode, IsRanCode, IsRefusalCode, IsExitCode, IsCutCode}
-use Rattle.iop_front.proofs.ConsoleLemmas.{ConsoleSame, refusal_console}
+use Rattle.iop_front.proofs.SendingLemmas.{ConsoleSame, refusal_console}
 use Rattle.iop_front.proofs.OutcomeLemmas.{from_short}
 
 -- the script's file is not too long, and has a bad line
@@ -46,81 +44,81 @@ pub data Ended (script : Option NamedFile) (files : List NamedFile) (status : St
       → (pieces : List Piece) → status ≡ SinkFault → StopsShort old new pieces
       → Ended script files status old new
 
--- the outcome came
-abbrev ComesBy : Bool → Outcome → Status → Output → Output → Type 0
-ComesBy failed outcome status old new =
-    (status ≡ cond failed outcome.status_if_cut outcome.status)
-    × Leaves failed old new outcome.pieces
+-- a refusal has one status, whether or not its write failed
+either_way : (failed : Bool) (status : Status) → cond failed status status ≡ status
+either_way true status = refl
+either_way false status = refl
 
--- of a refusal
-refused_status : (refused status : Status) (line : List ℕ) (failed : Bool) (old new : Output)
-    → ComesBy failed (refusal refused line) status old new → status ≡ refused
-refused_status refused status line true old new h = h.0
-refused_status refused status line false old new h = h.0
-
--- of the modules, if the script is good: of all files the first that is too long is one of them
-ended_modules : (command : Command) (script : Option NamedFile) (says : Script) (found : Option NamedFile)
-    (failed : Bool) (files : List NamedFile) (status : Status) (old new : Output)
-    → first_too_long files ≡ found
-    → first_too_long (option_to_list script ++ files) ≡ first_too_long files
-    → is_err (script_by script) ≡ false
-    → ComesBy failed (outcome_by command found says files) status old new
+-- by whether a write failed in a run
+ended_run : (script : Option NamedFile) (files : List NamedFile) (status : Status)
+    (old new : Output) (pieces : List Piece) (stop : Stop) (failed : Bool)
+    → first_too_long files ≡ None → is_err (script_by script) ≡ false
+    → status ≡ cond failed SinkFault (status_of stop) → Leaves failed old new pieces
     → Ended script files status old new
-ended_modules command script says (Some long) failed files status old new is same good h =
-    as_too_long long (same ∙ is)
-    (refused_status TooLong status (too_long_line long.name) failed old new h) (failed, h.1)
-ended_modules command script says None true files status old new is same good h =
-    by_cut is good (outcome_of_modules command says files).pieces h.0 h.1
-ended_modules command script says None false files status old new is same good h =
-    let run = run_of command.budget (beginning MEMORY_SIZE
-    (modules_from says.args 1 (modules_to_load command.generate files)) says.events) in
-    by_run is good run.stop h.0 h.1.1
+ended_run script files status old new pieces stop true fit good e h = by_cut fit good pieces e h
+ended_run script files status old new pieces stop false fit good e h = by_run fit good stop e h.1
 
--- by what a script's file that is not too long reads as
-ended_script : (command : Command) (named : NamedFile) (read : Result Script ℕ) (failed : Bool) (files : List NamedFile)
-    (status : Status) (old new : Output) → nat_lt LONGEST_FILE (length named.file) ≡ false
-    → script_of named.file ≡ read
-    → ComesBy failed (outcome_behind command (script_read read) files) status old new
-    → Ended (Some named) files status old new
-ended_script command named (Ok says) failed files status old new short is h =
-    ended_modules command (Some named) says (first_too_long files) failed files status old new refl
-    (ap (λ b. cond b (Some named) (first_too_long files)) short)
-    (ap is_err (from_short named (Ok says) short is)) h
-ended_script command named (Err number) failed files status old new short is h =
-    as_bad_script named number
-    (record { is_named = refl; short = short; bad = is })
-    (refused_status BadScript status (bad_script_line number) failed old new h) (failed, h.1)
+module _ (command : Command) (files : List NamedFile) (status : Status) (old new : Output)
+    (failed : Bool) where
+  -- the outcome came
+  abbrev Came : Outcome → Type 0
+  Came outcome =
+      (status ≡ cond failed outcome.status_if_cut outcome.status)
+      × Leaves failed old new outcome.pieces
 
--- by whether it is too long
-ended_file : (command : Command) (named : NamedFile) (is_long : Bool) (failed : Bool) (files : List NamedFile)
-    (status : Status) (old new : Output) → nat_lt LONGEST_FILE (length named.file) ≡ is_long
-    → ComesBy failed (outcome_behind command (cond is_long
-    (Err (refusal TooLong (too_long_line named.name))) (script_read (script_of named.file))) files)
-    status old new
-    → Ended (Some named) files status old new
-ended_file command named true failed files status old new long h =
-    as_too_long named (ap (λ b. cond b (Some named) (first_too_long files)) long)
-    (refused_status TooLong status (too_long_line named.name) failed old new h) (failed, h.1)
-ended_file command named false failed files status old new short h =
-    ended_script command named (script_of named.file) failed files status old new short refl h
+  -- of the modules, if the script is good: of all files the first that is too long is one of them
+  ended_modules : (script : Option NamedFile) (says : Script) (found : Option NamedFile)
+      → first_too_long files ≡ found
+      → first_too_long (option_to_list script ++ files) ≡ first_too_long files
+      → is_err (script_by script) ≡ false → Came (outcome_by command found says files)
+      → Ended script files status old new
+  ended_modules script says (Some long) is same good h =
+      as_too_long long (same ∙ is) (h.0 ∙ either_way failed TooLong) (failed, h.1)
+  ended_modules script says None is same good h =
+      let run = run_of command.budget (beginning MEMORY_SIZE
+      (modules_from says.args 1 (modules_to_load command.generate files)) says.events) in
+      ended_run script files status old new (outcome_of_modules command says files).pieces run.stop
+      failed is good h.0 h.1
 
--- by whether there is a script
-ended_by : (command : Command) (script : Option NamedFile) (failed : Bool) (files : List NamedFile) (status : Status)
-    (old new : Output) → ComesBy failed (outcome_of_inputs command script files) status old new
-    → Ended script files status old new
-ended_by command None failed files status old new h =
-    ended_modules command None empty_script (first_too_long files) failed files status old new refl refl
-    refl h
-ended_by command (Some named) failed files status old new h =
-    ended_file command named (nat_lt LONGEST_FILE (length named.file)) failed files status old new refl h
+  -- by what a script's file that is not too long reads as
+  ended_script : (named : NamedFile) (read : Result Script ℕ)
+      → nat_lt LONGEST_FILE (length named.file) ≡ false → script_of named.file ≡ read
+      → Came (outcome_behind command (script_read read) files)
+      → Ended (Some named) files status old new
+  ended_script named (Ok says) short is h =
+      ended_modules (Some named) says (first_too_long files) refl
+      (ap (λ b. cond b (Some named) (first_too_long files)) short)
+      (ap is_err (from_short named (Ok says) short is)) h
+  ended_script named (Err number) short is h =
+      as_bad_script named number (record { is_named = refl; short = short; bad = is })
+      (h.0 ∙ either_way failed BadScript) (failed, h.1)
+
+  -- by whether it is too long
+  ended_file : (named : NamedFile) (is_long : Bool)
+      → nat_lt LONGEST_FILE (length named.file) ≡ is_long
+      → Came (outcome_behind command (cond is_long
+      (Err (refusal TooLong (too_long_line named.name)))
+      (script_read (script_of named.file))) files)
+      → Ended (Some named) files status old new
+  ended_file named true long h =
+      as_too_long named (ap (λ b. cond b (Some named) (first_too_long files)) long)
+      (h.0 ∙ either_way failed TooLong) (failed, h.1)
+  ended_file named false short h = ended_script named (script_of named.file) short refl h
+
+  -- by whether there is a script
+  ended_by : (script : Option NamedFile) → Came (outcome_of_inputs command script files)
+      → Ended script files status old new
+  ended_by None h = ended_modules None empty_script (first_too_long files) refl refl refl h
+  ended_by (Some named) h = ended_file named (nat_lt LONGEST_FILE (length named.file)) refl h
 
 -- and without memory
-pub ended : (command : Command) (script : Option NamedFile) (files : List NamedFile) (status : Status)
-    (old new : Output) → Meets (outcome_of_inputs command script files) status old new
+pub ended : (command : Command) (script : Option NamedFile) (files : List NamedFile)
+    (status : Status) (old new : Output)
+    → Meets (outcome_of_inputs command script files) status old new
     → Ended script files status old new
 ended command script files status old new h = elim h [
   | inl none ↦ without_memory none.0 none.1
-  | inr came ↦ ended_by command script came.0 files status old new (came.1, came.2)
+  | inr came ↦ ended_by command files status old new came.0 script (came.1, came.2)
 ]
 
 -- the status of a run
@@ -129,28 +127,11 @@ run_code Quiet = inl refl
 run_code Budget = inr (inl refl)
 run_code (Fault kind pc) = inr (inr refl)
 
--- a run's status is another than any of 20 and more
-low_code : {n : ℕ} → IsRunCode n → n < 20
-low_code h = elim h [
-  | inl e ↦ omega (arith, e)
-  | inr f ↦ elim f [ inl e ↦ omega (arith, e) | inr e ↦ omega (arith, e) ]
-]
-
+-- it is another than any of 20 and more
 run_low : {status : Status} (stop : Stop) → status ≡ status_of stop → status_code status < 20
-run_low stop e = subst (λ (s : Status). status_code s < 20) (sym e) (low_code (run_code stop))
-
--- those of refusals are from 20 to 23
-refusal_range : {n : ℕ} → IsRefusalCode n → (20 ≤ n) × (n ≤ 23)
-refusal_range h = elim h [
-  | inl e ↦ (omega (arith, e), omega (arith, e))
-  | inr f ↦ elim f [
-    | inl e ↦ (omega (arith, e), omega (arith, e))
-    | inr g ↦ elim g [
-      | inl e ↦ (omega (arith, e), omega (arith, e))
-      | inr e ↦ (omega (arith, e), omega (arith, e))
-    ]
-  ]
-]
+run_low stop e =
+    let run = run_code stop in
+    subst (λ (s : Status). status_code s < 20) (sym e) (grind (arith, run))
 
 -- no module is too long and the script is good
 pub record IsRun (script : Option NamedFile) (files : List NamedFile) : Type 0 where
@@ -177,23 +158,12 @@ failed_sink : (piece : Piece) (old new : Output) → FailsAt piece old new
 failed_sink (Traced bytes) old new f = inl f.0
 failed_sink (Told bytes) old new f = inr f.0
 
--- a run's status is below those of the other answers, but for that of a run that was cut
-pub not_ran : (n : ℕ) → 20 ≤ n → n ≢ 24 → IsRanCode n → ⊥
-not_ran n high other r = elim r [
-  | inl run ↦ elim run [
-    | inl e ↦ omega (arith, e, high)
-    | inr f ↦ elim f [ inl e ↦ omega (arith, e, high) | inr e ↦ omega (arith, e, high) ]
-  ]
-  | inr cut ↦ other cut
-]
-
 -- what the answer shows
 pub record Shows (script : Option NamedFile) (files : List NamedFile) (status : Status)
     (old new : Output) : Type 0 where
   -- there is no other status, and 20 and 22 have other causes
   pub exit : IsExitCode (status_code status)
-  pub not_twenty : status_code status ≡ 20 → ⊥
-  pub not_twenty_two : status_code status ≡ 22 → ⊥
+  pub others : (status_code status ≢ 20) × (status_code status ≢ 22)
   pub ran : IsRanCode (status_code status) → IsRun script files
   -- 21 and 23, and their lines
   pub bad : status_code status ≡ 21 → IsBad script old new
@@ -214,9 +184,8 @@ shows {status = status} (without_memory e h) =
     let code : status_code status ≡ 30 = ap status_code e in
     record {
       exit = inr (inr (inr code));
-      not_twenty = λ s. omega (arith, s, code);
-      not_twenty_two = λ s. omega (arith, s, code);
-      ran = λ r. absurd (not_ran _ (omega arith) (λ s. omega (arith, s, code)) r);
+      others = (λ s. omega (arith, s, code), λ s. omega (arith, s, code));
+      ran = λ r. absurd (grind (arith, code));
       bad = λ s. absurd (omega (arith, s, code));
       too_long = λ s. absurd (omega (arith, s, code));
       cut = λ s. absurd (omega (arith, s, code));
@@ -233,9 +202,8 @@ shows {status = status} {old = old} {new = new} (as_too_long long is e h) =
     let same = refusal_console (too_long_line long.name) old new h in
     record {
       exit = inr (inl (inr (inr (inr code))));
-      not_twenty = λ s. omega (arith, s, code);
-      not_twenty_two = λ s. omega (arith, s, code);
-      ran = λ r. absurd (not_ran _ (omega arith) (λ s. omega (arith, s, code)) r);
+      others = (λ s. omega (arith, s, code), λ s. omega (arith, s, code));
+      ran = λ r. absurd (grind (arith, code));
       bad = λ s. absurd (omega (arith, s, code));
       too_long = λ s. record { long = long; is_first = is; line = h };
       cut = λ s. absurd (omega (arith, s, code));
@@ -249,9 +217,8 @@ shows {status = status} {old = old} {new = new} (as_bad_script named number is e
     let same = refusal_console (bad_script_line number) old new h in
     record {
       exit = inr (inl (inr (inl code)));
-      not_twenty = λ s. omega (arith, s, code);
-      not_twenty_two = λ s. omega (arith, s, code);
-      ran = λ r. absurd (not_ran _ (omega arith) (λ s. omega (arith, s, code)) r);
+      others = (λ s. omega (arith, s, code), λ s. omega (arith, s, code));
+      ran = λ r. absurd (grind (arith, code));
       bad = λ s. record { named = named; number = number; is_bad = is; line = h };
       too_long = λ s. absurd (omega (arith, s, code));
       cut = λ s. absurd (omega (arith, s, code));
@@ -264,29 +231,27 @@ shows {status = status} (by_run fit good stop e h) =
     let low = run_low stop e in
     record {
       exit = inl (subst (λ (s : Status). IsRunCode (status_code s)) (sym e) (run_code stop));
-      not_twenty = λ s. omega (arith, s, low);
-      not_twenty_two = λ s. omega (arith, s, low);
+      others = (λ s. omega (arith, s, low), λ s. omega (arith, s, low));
       ran = λ r. record { fit = fit; good = good };
       bad = λ s. absurd (omega (arith, s, low));
       too_long = λ s. absurd (omega (arith, s, low));
       cut = λ s. absurd (omega (arith, s, low));
       cut_shows = λ other. absurd (other h.trace);
       console_shows = λ other. absurd (other h.console);
-      console = λ r. let range = refusal_range r in absurd (omega (arith, range.0, low));
+      console = λ r. absurd (grind (arith, low));
       memory = λ s. absurd (omega (arith, s, low));
     }
 shows {status = status} {old = old} {new = new} (by_cut fit good pieces e h) =
     let code : status_code status ≡ 24 = ap status_code e in
     record {
       exit = inr (inr (inl code));
-      not_twenty = λ s. omega (arith, s, code);
-      not_twenty_two = λ s. omega (arith, s, code);
+      others = (λ s. omega (arith, s, code), λ s. omega (arith, s, code));
       ran = λ r. record { fit = fit; good = good };
       bad = λ s. absurd (omega (arith, s, code));
       too_long = λ s. absurd (omega (arith, s, code));
       cut = λ s. failed_sink h.piece old new h.fails;
       cut_shows = λ other. inl code;
       console_shows = λ other. code;
-      console = λ r. let range = refusal_range r in absurd (omega (arith, range.1, code));
+      console = λ r. absurd (grind (arith, code));
       memory = λ s. absurd (omega (arith, s, code));
     }

@@ -1,7 +1,6 @@
 -- What stands past the first bytes of a file does not matter, nor what stands behind a file that is
 -- too long or behind a bad script.
-use Rattle.std.proofs.Common.{◌≡◌, ◌⊎◌, ℕ, ◌<◌, ◌≤◌, nat_lt, Bool, true, false, cond, Option, Some, None, option_map, option_to_list, is_some, IsSome, Result, Ok, Err, is_err, List, [], ◌∷◌}
-use Rattle.std.proofs.Common.{◌++◌, length, map, take, append-nil, refl, ap, sym, ◌∙◌, subst, arith, inl, inr}
+use Rattle.std.proofs.Common.{◌≡◌, ◌⊎◌, ℕ, ◌<◌, ◌≤◌, nat_lt, Bool, true, false, cond, Option, Some, None, option_map, option_to_list, is_some, IsSome, Result, Ok, Err, is_err, List, [], ◌∷◌, ◌++◌, length, map, take, append-nil, refl, ap, sym, ◌∙◌, subst, arith, inl, inr}
 use Rattle.std.specs.Option.{option_or}
 use Rattle.std.proofs.lemmas.Bool.{lt-ltb}
 use Rattle.std.proofs.lemmas.Bool.Decides.{nat_tests}
@@ -10,15 +9,14 @@ use Rattle.std.proofs.lemmas.List.Folds.{find-append}
 use Rattle.iop_base.specs.Output.{Output}
 use Rattle.iop_machine.specs.Modules.{NamedFile}
 use Rattle.iop_modload.specs.declared.limits.TheConstants.{LONGEST_FILE}
+use Rattle.iop_options.specs.Commands.{Command}
 use Rattle.iop_ports.specs.Files.{FilesTold}
 use Rattle.iop_script.specs.Reading.{empty_script, script_of}
 use Rattle.iop_script.specs.Scripts.{Script}
 use Rattle.iop_front.specs.Answers.{EndsReading}
-use Rattle.iop_front.specs.Outcome.{Outcome, Meets, first_too_long, script_by, outcome_behind, outcome_of_files}
-use Rattle.iop_front.specs.Outcome.{outcome_of_inputs, outcome_named, read_limit}
+use Rattle.iop_front.specs.Outcome.{Outcome, Meets, first_too_long, script_by, outcome_behind, outcome_of_files, outcome_of_inputs, outcome_named, read_limit}
 use Rattle.iop_front.specs.Reading.{file_named}
 use Rattle.iop_front.specs.declared.status.Status.{Status}
-use Rattle.iop_options.specs.Commands.{Command}
 use Rattle.iop_front.specs.Named.{files_of}
 use Rattle.iop_front.proofs.OutcomeLemmas.{from_long, from_short, long_outcome}
 
@@ -160,8 +158,10 @@ module _ (command : Command) (told : FilesTold) where
     -- by whether it is too long
     file_same : (b : Bool) → nat_lt LONGEST_FILE (length (file_named told name)) ≡ b → IsSame
     file_same true e =
-        ap (λ r. outcome_behind command r (map front names)) (from_long (front name) (long_front name e))
-        ∙ sym (ap (λ r. outcome_behind command r (map whole (names ++ left))) (from_long (whole name) e))
+        ap (λ r. outcome_behind command r (map front names))
+        (from_long (front name) (long_front name e))
+        ∙ sym (ap (λ r. outcome_behind command r (map whole (names ++ left)))
+        (from_long (whole name) e))
     file_same false e = script_same (script_of (file_named told name)) e refl
 
   -- what was read has the outcome of all that is named

@@ -5,14 +5,10 @@ pub mod ScriptLemmas
 pub mod RoomLemmas
 pub mod SendingLemmas
 pub mod RunLemmas
-pub mod WordLemmas
 pub mod DumpLemmas
-pub mod RangeLemmas
 pub mod OutcomeLemmas
 pub mod AnswerLemmas
 pub mod FrontLemmas
-pub mod ConsoleLemmas
 pub mod Endings
-pub mod BadLemmas
 pub mod FilesAnswered
 pub mod Promising

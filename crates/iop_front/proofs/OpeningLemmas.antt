@@ -1,8 +1,6 @@
 -- Files that were opened and read one after the other.
-use Rattle.std.proofs.Common.{◌≡◌, ◌⊎◌, ℕ, ◌+◌, ◌<◌, ◌≤◌, nat_lt, min, Bool, true, false, cond, Option, Some, None, IfSome}
-use Rattle.std.proofs.Common.{IsSome, is_some, List, [], ◌∷◌, ◌++◌, All, Contains, length, map, take, unwrap_or, refl, ap, sym}
-use Rattle.std.proofs.Common.{◌∙◌, subst, arith, inl, inr}
-use Rattle.std.proofs.lemmas.Bool.Decides.{nat_tests}
+use Rattle.std.proofs.Common.{◌≡◌, ◌⊎◌, ℕ, ◌+◌, ◌<◌, ◌≤◌, nat_lt, min, Bool, true, false, cond, Option, Some, None, IfSome, IsSome, is_some, List, [], ◌∷◌, ◌++◌, All, Contains, length, map, take, unwrap_or, refl, ap, sym, ◌∙◌, subst, arith, inl, inr}
+use Rattle.std.proofs.lemmas.Bool.{ltb-true}
 use Rattle.std.proofs.lemmas.List.{map-append, length-take, take_all}
 use Rattle.std.proofs.lemmas.List.Elements.{All-head, All-tail, Contains-append_left, Contains-append_right, Contains-push}
 use Rattle.iop_base.specs.Counts.{last_count}
@@ -232,24 +230,20 @@ abbrev IsLongOf : List ℕ → ℕ → FilesTold → FilesTold → Type 0
 IsLongOf name faults old new =
     IsNameAsked name faults new × (LONGEST_FILE < length (file_named old name))
 
--- the test says it
-ltb_true : (a b : ℕ) → nat_lt a b ≡ true → a < b
-ltb_true a b e = grind (arith, nat_tests, e)
-
 long_alone : {name : List ℕ} {faults : ℕ} {old new : FilesTold} (long : NamedFile)
     → OpensAndReads name faults old new
     → nat_lt LONGEST_FILE (length (take read_limit (file_named old name))) ≡ true
     → name ≡ long.name → IsLongOf long.name faults old new
 long_alone {name = name} {faults = faults} {old = old} {new = new} long h is_long same =
     let file = file_named old name in
-    let over = ltb_true LONGEST_FILE (length (take read_limit file)) is_long in
+    let over = ltb-true LONGEST_FILE (length (take read_limit file)) is_long in
     subst (λ (n : List ℕ). IsLongOf n faults old new) same
     (asked_by_reading faults h, omega (arith, length-take read_limit file, over))
 
 not_long : (file : List ℕ) → length file ≤ LONGEST_FILE
     → nat_lt LONGEST_FILE (length (take read_limit file)) ≡ true → ⊥
 not_long file short e =
-    let over = ltb_true LONGEST_FILE (length (take read_limit file)) e in
+    let over = ltb-true LONGEST_FILE (length (take read_limit file)) e in
     omega (arith, length-take read_limit file, over, short)
 
 long_last : {faults : ℕ} {kind : FileKind} {names : List (List ℕ)} {old new : FilesTold}

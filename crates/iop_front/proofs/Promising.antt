@@ -1,6 +1,5 @@
 -- The command keeps what it promises, in each of the ways in which it comes to its answer.
-use Rattle.std.proofs.Common.{◌≡◌, ℕ, Option, Some, None, option_to_list, IsSome, List, [], ◌∷◌, ◌++◌, All}
-use Rattle.std.proofs.Common.{Contains, refl, ap, sym, ◌∙◌, subst, arith, inl, inr}
+use Rattle.std.proofs.Common.{◌≡◌, ℕ, Option, Some, None, option_to_list, IsSome, List, [], ◌∷◌, ◌++◌, All, Contains, refl, ap, sym, ◌∙◌, subst, arith, inl, inr}
 use Rattle.std.proofs.lemmas.List.{append_assoc}
 use Rattle.std.proofs.lemmas.List.Elements.{Contains-append_left, Contains-push}
 use Rattle.iop_base.specs.Output.{Output}
@@ -12,25 +11,14 @@ use Rattle.iop_front.specs.Answers.{Answers, Outside, AreFilesOf, AreGoodFiles, 
 use Rattle.iop_front.specs.Named.{first_kind, files_of}
 use Rattle.iop_front.specs.Outcome.{Meets, bad_words_line, cannot_read_line, outcome_of_inputs, refusal}
 use Rattle.iop_front.specs.Promises.{Promises}
-use Rattle.iop_front.specs.Statuses.{status_code, IsRanCode}
+use Rattle.iop_front.specs.Statuses.{status_code}
 use Rattle.iop_front.specs.declared.status.Status.{Status}
 use Rattle.iop_front.specs.declared.status.Status.TheVariants.{BadWords, NoMemory}
 use Rattle.iop_front.proofs.AnswerLemmas.{refusal_meets}
-use Rattle.iop_front.proofs.ConsoleLemmas.{refusal_console}
-use Rattle.iop_front.proofs.Endings.{not_ran}
+use Rattle.iop_front.proofs.SendingLemmas.{refusal_console}
 use Rattle.iop_front.proofs.FilesAnswered.{shown, read_all, has_run, bad_script, too_long, completes}
 use Rattle.iop_front.proofs.FrontLemmas.{read_outcome}
 use Rattle.iop_front.proofs.OpeningLemmas.{name_asked, no_stray, read_none}
-
--- three that are no run's
-not_20 : IsRanCode 20 → ⊥
-not_20 = not_ran 20 (omega arith) (λ e. omega (arith, e))
-
-not_22 : IsRanCode 22 → ⊥
-not_22 = not_ran 22 (omega arith) (λ e. omega (arith, e))
-
-not_30 : IsRanCode 30 → ⊥
-not_30 = not_ran 30 (omega arith) (λ e. omega (arith, e))
 
 -- what holds of a command holds of the one that the words are
 of_command : {command : Command} (holds : Command → Type 0) → holds command → (other : Command)
@@ -54,35 +42,44 @@ named_strays command old new names left are read first last p q there =
     no_stray old.faults (first_kind command) names left old.told new.told read first last p q
     (subst (λ ns. All (λ n. IsSome (first.content n)) ns) are there)
 
--- there was no memory for the words: nothing has changed
-without_words : (named : Option Command) (seen : Outside) → Promises named 30 seen seen
-without_words named seen = record {
-  outcome = λ told is none. (NoMemory, refl, inl (refl, refl));
-  ran = λ command is run. absurd (not_30 run);
+-- there was no memory: nothing was written
+without_memory : {named : Option Command} {old new : Outside} → new.faults ≡ old.faults
+    → new.sinks ≡ old.sinks
+    → ((command : Command) → named ≡ Some command → OpensFirst command old new)
+    → ((first last : FilesTold) → old.told ≡ Some first → new.told ≡ Some last
+    → HasFilesNamed named first → last.strays ≡ first.strays)
+    → Promises named 30 old new
+without_memory calm same read no_stray = record {
+  outcome = λ told is none. (NoMemory, refl, inl (refl, same));
+  ran = λ command is run. absurd (grind arith);
   bad_words = λ e. absurd (omega arith);
   bad_words_show = λ is. inr refl;
   bad_words_line = λ e. absurd (omega arith);
   bad_script_line = λ command is e. absurd (omega arith);
   unread = λ e. absurd (omega arith);
-  unread_shows = λ other. absurd (other refl);
+  unread_shows = λ other. absurd (other calm);
   unread_line = λ command is e. absurd (omega arith);
-  read = λ command is. record {
-    opened = [];
-    left = files_of command;
-    are_first = refl;
-    files = read_none (first_kind command) seen.faults seen.told;
-  };
-  read_all = λ command is run. absurd (not_30 run);
-  no_stray = λ first last p q there. same_strays refl first last p q;
+  read = read;
+  read_all = λ command is run. absurd (grind arith);
+  no_stray = no_stray;
   too_long_line = λ command is e. absurd (omega arith);
   cut = λ e. absurd (omega arith);
-  cut_shows = λ other. absurd (other refl);
-  console_cut_shows = λ other. absurd (other refl);
-  console = λ refused. refl;
-  memory = λ e. refl;
+  cut_shows = λ other. absurd (other (ap (λ (s : Output). s.trace_faults) same));
+  console_cut_shows = λ other. absurd (other (ap (λ (s : Output). s.console_faults) same));
+  console = λ refused. ap (λ (s : Output). s.console) same;
+  memory = λ e. same;
   statuses = inr (inr (inr refl));
   complete = λ command is told has good read traced printed. inr refl;
 }
+
+-- for the words: no file was touched
+without_words : (named : Option Command) (seen : Outside) → Promises named 30 seen seen
+without_words named seen = without_memory refl refl (λ command is. record {
+  opened = [];
+  left = files_of command;
+  are_first = refl;
+  files = read_none (first_kind command) seen.faults seen.told;
+}) (λ first last p q there. same_strays refl first last p q)
 
 -- the words are no command: its line was written
 no_command : {old new : Outside} → HasNoCommand old new → Promises None 20 old new
@@ -95,7 +92,7 @@ no_command {old = old} {new = new} was =
         refusal_meets BadWords BadWords bad_words_line (refusal BadWords bad_words_line) old.sinks
             new.sinks refl refl was.line,
       );
-      ran = λ command is run. absurd (not_20 run);
+      ran = λ command is run. absurd (grind arith);
       bad_words = λ e. refl;
       bad_words_show = λ is. inl refl;
       bad_words_line = λ e. was.line;
@@ -104,7 +101,7 @@ no_command {old = old} {new = new} was =
       unread_shows = λ other. absurd (other was.faults);
       unread_line = λ command is e. absurd (omega arith);
       read = λ command is. absurd (cc);
-      read_all = λ command is run. absurd (not_20 run);
+      read_all = λ command is run. absurd (grind arith);
       no_stray = λ first last p q there. same_strays was.told first last p q;
       too_long_line = λ command is e. absurd (omega arith);
       cut = λ e. absurd (omega arith);
@@ -128,7 +125,7 @@ unread {old = old} {new = new} {command = command} before name left are was =
     are ∙ sym (append_assoc before (name ∷ []) left) in
     record {
       outcome = λ told is none. absurd (none was.cause);
-      ran = λ command is run. absurd (not_22 run);
+      ran = λ command is run. absurd (grind arith);
       bad_words = λ e. absurd (omega arith);
       bad_words_show = λ is. absurd (cc);
       bad_words_line = λ e. absurd (omega arith);
@@ -148,7 +145,7 @@ unread {old = old} {new = new} {command = command} before name left are was =
         are_first = are_opened;
         files = was.files;
       });
-      read_all = λ command is run. absurd (not_22 run);
+      read_all = λ command is run. absurd (grind arith);
       no_stray = named_strays command old new opened left are_opened was.files;
       too_long_line = λ command is e. absurd (omega arith);
       cut = λ e. absurd (omega arith);
@@ -159,35 +156,6 @@ unread {old = old} {new = new} {command = command} before name left are was =
       statuses = inr (inl (inr (inr (inl refl))));
       complete = λ command is told has good read traced printed. absurd (read was.cause);
     }
-
--- there was no memory for the files: nothing was written
-without_files : {old new : Outside} {command : Command} (names left : List (List ℕ))
-    → files_of command ≡ names ++ left
-    → FilesRead (first_kind command) names old.faults old.told new.told
-    → new.faults ≡ old.faults → new.sinks ≡ old.sinks → Promises (Some command) 30 old new
-without_files {old = old} {new = new} {command = command} names left are read calm same = record {
-  outcome = λ told is none. (NoMemory, refl, inl (refl, same));
-  ran = λ command is run. absurd (not_30 run);
-  bad_words = λ e. absurd (omega arith);
-  bad_words_show = λ is. inr refl;
-  bad_words_line = λ e. absurd (omega arith);
-  bad_script_line = λ command is e. absurd (omega arith);
-  unread = λ e. absurd (omega arith);
-  unread_shows = λ other. absurd (other calm);
-  unread_line = λ command is e. absurd (omega arith);
-  read = of_command (λ c. OpensFirst c old new)
-      (record { opened = names; left = left; are_first = are; files = read });
-  read_all = λ command is run. absurd (not_30 run);
-  no_stray = named_strays command old new names left are read;
-  too_long_line = λ command is e. absurd (omega arith);
-  cut = λ e. absurd (omega arith);
-  cut_shows = λ other. absurd (other (ap (λ (s : Output). s.trace_faults) same));
-  console_cut_shows = λ other. absurd (other (ap (λ (s : Output). s.console_faults) same));
-  console = λ refused. ap (λ (s : Output). s.console) same;
-  memory = λ e. same;
-  statuses = inr (inr (inr refl));
-  complete = λ command is told has good read traced printed. inr refl;
-}
 
 -- files were read, and answered
 from_files : {status : Status} {old new : Outside} {command : Command}
@@ -209,14 +177,14 @@ from_files {status = status} {old = old} {new = new} {command = command} names l
       );
       ran = λ other is run.
           of_command (λ c. HasRun c (status_code status) old new) (has_run was ends h run) other is;
-      bad_words = λ e. absurd (so.not_twenty e);
+      bad_words = λ e. absurd (so.others.0 e);
       bad_words_show = λ is. absurd (cc);
-      bad_words_line = λ e. absurd (so.not_twenty e);
+      bad_words_line = λ e. absurd (so.others.0 e);
       bad_script_line = λ other is e.
           of_command (λ c. HasBadScript c old new) (bad_script was ends h e) other is;
-      unread = λ e. absurd (so.not_twenty_two e);
+      unread = λ e. absurd (so.others.1 e);
       unread_shows = λ other. absurd (other was.read.no_fault);
-      unread_line = λ command is e. absurd (so.not_twenty_two e);
+      unread_line = λ command is e. absurd (so.others.1 e);
       read = of_command (λ c. OpensFirst c old new) (record {
         opened = names;
         left = left;
@@ -236,7 +204,8 @@ from_files {status = status} {old = old} {new = new} {command = command} names l
       memory = so.memory;
       statuses = so.exit;
       complete = λ other is told has good read.
-          completes was ends h told has (of_command (λ c. AreGoodFiles c told) good command (sym is));
+          completes was ends h told has
+          (of_command (λ c. AreGoodFiles c told) good command (sym is));
     }
 
 pub promises : {named : Option Command} {status : Status} {old new : Outside}
@@ -245,7 +214,10 @@ promises {old = old} {new = new} (ways.no_memory_for_words {named = named} same)
     subst (λ (seen : Outside). Promises named 30 old seen) (sym same) (without_words named old)
 promises (ways.bad_words was) = no_command was
 promises (ways.cannot_read before name left are was) = unread before name left are was
-promises (ways.no_memory names left are read calm same) =
-    without_files names left are read calm same
+promises {old = old} {new = new}
+    (ways.no_memory {command = command} names left are read calm same) =
+    without_memory calm same (of_command (λ c. OpensFirst c old new)
+    (record { opened = names; left = left; are_first = are; files = read }))
+    (named_strays command old new names left are read)
 promises (ways.from_files names left script files was ends h) =
     from_files names left script files was ends h

@@ -1,6 +1,5 @@
 -- The steps of reading a file.
-use Rattle.std.proofs.Common.{◌≡◌, ℕ, ◌+◌, ◌-◌, ◌<◌, ◌≤◌, true, Option, Some, None, Ok, IfSome, option_map, List, ◌++◌, length}
-use Rattle.std.proofs.Common.{take, drop, arith, ap, sym, ◌∙◌, subst}
+use Rattle.std.proofs.Common.{◌≡◌, ℕ, ◌+◌, ◌-◌, ◌<◌, ◌≤◌, true, Option, Some, None, Ok, IfSome, option_map, List, ◌++◌, length, take, drop, arith, ap, sym, ◌∙◌, subst}
 use Rattle.std.proofs.Math.Seq.{take-add}
 use Rattle.std.proofs.lemmas.List.{take_at, drop_at, take-append-le, length-take-le, drop-drop, length-drop, take_all, drop_all}
 use borrow.Rule.Slice.PartMut.{put_mid, post_of}
@@ -56,7 +55,8 @@ module _ (name : List ℕ) (faults len n k : ℕ) (buf ys : List ℕ) where
       → ReadsMore n len buf ys mid new
       → HasReadSoFar name faults len buf old mid
       → HasRead name room faults (Ok len) (put_mid len k buf ys) old new
-  at_the_end room None mid new none all below size r h = r.told ∙ ap (option_map (after_reading n)) h
+  at_the_end room None mid new none all below size r h =
+      r.told ∙ ap (option_map (after_reading n)) h
   at_the_end room (Some files) mid new none all below size r h =
       let file = file_named files name in
       let more = so_far_more (Some files) mid new r h in

@@ -1,9 +1,9 @@
 -- From the reading of a script and of modules to that of a command's files.
-use Rattle.std.proofs.Common.{◌≡◌, ℕ, ◌≤◌, Option, Some, None, is_some, option_to_list, Ok, Err, is_ok, List}
-use Rattle.std.proofs.Common.{[], ◌∷◌, ◌++◌, All, length, append-nil, refl, ap, sym}
+use Rattle.std.proofs.Common.{◌≡◌, ℕ, ◌≤◌, Option, Some, None, is_some, option_to_list, Ok, Err, is_ok, List, [], ◌∷◌, ◌++◌, All, length, append-nil, refl, ap, sym}
 use Rattle.std.proofs.lemmas.List.Elements.{All-nil, All-cons}
 use Rattle.iop_machine.specs.Modules.{NamedFile}
 use Rattle.iop_modload.specs.declared.limits.TheConstants.{LONGEST_FILE}
+use Rattle.iop_options.specs.Commands.{Command}
 use Rattle.iop_script.specs.Answers.{Gives}
 use Rattle.iop_script.specs.Reading.{empty_script, script_of}
 use Rattle.iop_script.specs.Scripts.{Script}
@@ -11,7 +11,6 @@ use Rattle.iop_script.specs.declared.fault.ScriptFault.{ScriptFault}
 use Rattle.iop_script.specs.declared.fault.ScriptFault.TheVariants.{Line, Memory}
 use Rattle.iop_front.specs.Inputs.{Seen, HasTaken, HasStopped, HasScript, HasInputs, IsScriptOf, unread_of}
 use Rattle.iop_front.specs.Outcome.{IsGoodFile}
-use Rattle.iop_options.specs.Commands.{Command}
 use Rattle.iop_front.specs.Named.{FileKind, AsScript, AsModule, kind_by, first_kind, files_of}
 use Rattle.iop_front.specs.declared.unread.Unread.{Unread}
 use Rattle.iop_front.proofs.OpeningLemmas.{IsNotLong, AreFollowed}
@@ -24,8 +23,8 @@ module _ (name file : List ℕ) (old new : Seen) (short : length file ≤ LONGES
       → HasStopped AsScript (name ∷ []) (unread_of fault) old new
   stops_by_fault (Line number) bad = stops_bad name file number old new short bad taken
   stops_by_fault Memory h =
-      stops_short AsScript (name ∷ []) (name ∷ []) [] (record { name = name; file = file } ∷ []) old new
-      refl taken
+      stops_short AsScript (name ∷ []) (name ∷ []) [] (record { name = name; file = file } ∷ []) old
+      new refl taken
 
   -- a script was read
   pub script_read : (script : Script) → script_of file ≡ Ok script
@@ -80,7 +79,8 @@ module _ (command : Command) (script : Script) (old between new : Seen)
   }
 
   -- or one was not
-  pub stops_behind_script : (unread : Unread) → HasStopped AsModule command.modules unread between new
+  pub stops_behind_script : (unread : Unread)
+      → HasStopped AsModule command.modules unread between new
       → HasStopped (first_kind command) (files_of command) unread old new
   stops_behind_script unread k =
       let script_names = option_to_list command.script in

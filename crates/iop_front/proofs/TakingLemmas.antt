@@ -1,6 +1,5 @@
 -- From the reading of one file to that of many.
-use Rattle.std.proofs.Common.{◌≡◌, ℕ, suc, ◌+◌, ◌<◌, ◌≤◌, nat_lt, true, cond, Option, Some, None, Ok, Err, List}
-use Rattle.std.proofs.Common.{[], ◌∷◌, ◌++◌, All, get_or, length, map, take, drop, refl, ap, sym, ◌∙◌, subst, arith}
+use Rattle.std.proofs.Common.{◌≡◌, ℕ, suc, ◌+◌, ◌<◌, ◌≤◌, nat_lt, true, cond, Option, Some, None, Ok, Err, List, [], ◌∷◌, ◌++◌, All, get_or, length, map, take, drop, refl, ap, sym, ◌∙◌, subst, arith}
 use Rattle.std.specs.Option.{option_or}
 use Rattle.std.proofs.lemmas.Bool.{lt-ltb}
 use Rattle.std.proofs.lemmas.Bool.Decides.{nat_tests}
@@ -100,7 +99,8 @@ module _ (kind : FileKind) (names xs ys zs : List (List ℕ)) (files : List Name
       → names ≡ xs ++ opened ++ (left ++ zs)
   are_names opened left s = e ∙ ap (λ t. xs ++ (t ++ zs)) s ∙ within xs opened left zs
 
-  read_then : (opened : List (List ℕ)) → FilesRead AsModule opened between.faults between.told new.told
+  read_then : (opened : List (List ℕ))
+      → FilesRead AsModule opened between.faults between.told new.told
       → FilesRead kind (xs ++ opened) old.faults old.told new.told
   read_then opened h =
       read-append kind xs opened files old.faults old.told between.told new.told

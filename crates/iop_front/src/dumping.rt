@@ -1,10 +1,9 @@
 //! The dump behind a run.
 
-ghost use Rattle.std.specs.Prelude.{◌≡◌, ◌+◌, ◌-◌, ◌<◌, ◌^◌, [], not, map, length};
+ghost use Rattle.std.specs.Prelude.{◌+◌, ◌<◌, ◌^◌, map, length};
 ghost use Rattle.iop_base.specs.Piece.{Traced};
 ghost use Rattle.iop_machine.specs.Standing.{StandsForWorld, IsSoundMachine};
 ghost use Rattle.iop_machine.specs.World.{World};
-ghost use Rattle.iop_ports.specs.Sinks.{SinkTold};
 ghost use Rattle.iop_trace.specs.Dumps.{dump_lines};
 ghost use Rattle.iop_front.specs.Outcome.{TraceLeaves, dump_pieces};
 

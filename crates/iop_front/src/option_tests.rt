@@ -8,8 +8,8 @@ use std::alloc::Global;
 use std::process::Abort;
 use std::test::Fail;
 
-/// Runs the module that prints `hi`, with an import of this version and number, under these options,
-/// and compares the status, the console and the trace.
+/// Runs the module that prints `hi`, with an import of this version and number, under these
+/// options, and compares the status, the console and the trace.
 fn says_hi(
     rt: &impl Abort,
     alloc: Global,

@@ -6,9 +6,9 @@ use Rattle.iop_base.specs.Piece.{Piece}
 use Rattle.iop_base.specs.declared.code.TheConstants.Code.{WAIT_RELEASED}
 use Rattle.iop_intr.specs.InterruptLines.{IrqLine}
 use Rattle.iop_registry.specs.declared.registry.Entry.{Entry}
-use Rattle.iop_services.proofs.Rows.{home}
 use Rattle.iop_services.specs.declared.codes.TheConstants.{INTRMAN, THBASE}
 use Rattle.iop_services.specs.declared.service.Service.{Service}
+use Rattle.iop_services.proofs.Rows.{home}
 use Rattle.iop_thread.specs.ThreadTable.{ThreadTable}
 use Rattle.iop_thread.specs.declared.kind.Kind.{Kind}
 use Rattle.iop_thread.specs.declared.kind.Kind.TheVariants.{Semaphore, EventFlag, Mailbox}
@@ -66,7 +66,7 @@ requeueing_rest k thread priority (Some (Object kind id)) =
 requeueing_rest k thread priority other = same_rest k
 
 -- the library of a kind serves the kernel, and is neither intrman nor thbase
-pub kind_serves : (kind : Kind) → serves_kernel (library_of kind) ≡ true
+kind_serves : (kind : Kind) → serves_kernel (library_of kind) ≡ true
 kind_serves Semaphore = refl
 kind_serves EventFlag = refl
 kind_serves Mailbox = refl
@@ -167,7 +167,8 @@ module _ (s : System) (library : ℕ) where
       prints = λ text. still s.libraries (λ is. refl);
     };
     registry = λ own. record {
-      registers = λ libraries. still libraries (λ serves. absurd (cc (ap serves_kernel own, serves)));
+      registers = λ libraries.
+          still libraries (λ serves. absurd (cc (ap serves_kernel own, serves)));
     };
     blocks = λ own. record {
       takes = λ mode size at. still s.libraries (λ is. refl);
@@ -199,7 +200,8 @@ module _ (s : System) (library : ℕ) where
       rotates_beside = λ priority same may is. by_thbase own _ (same_rest k);
       rotates_own = λ priority id same may is. by_thbase own _ (same_rest k);
       releases = λ id t wait found is.
-          by_thbase own _ (leaving_rest (wakes_with s.core t.id WAIT_RELEASED).kernel t.id (Some wait));
+          by_thbase own _
+          (leaving_rest (wakes_with s.core t.id WAIT_RELEASED).kernel t.id (Some wait));
       takes_wakeup = λ left is. by_thbase own _ (same_rest k);
       sleeps = λ left is may asks. by_thbase own _ (same_rest k);
       wakes_up = λ id other. by_thbase own _ (same_rest k);

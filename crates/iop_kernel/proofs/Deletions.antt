@@ -1,4 +1,2 @@
 pub mod Objects
-pub mod Refused
 pub mod Threads
-pub mod Waiters

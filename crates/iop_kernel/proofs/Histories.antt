@@ -1,15 +1,6 @@
 pub mod Calls
-pub mod CountedCalls
 pub mod CountedHistories
-pub mod CountedSemaphores
-pub mod CountedTables
 pub mod Counts
-pub mod DeliveredCalls
 pub mod DeliveredHistories
-pub mod DeliveredMailboxes
-pub mod DeliveredMessages
-pub mod DeliveredTables
 pub mod Messages
-pub mod ObjectChanges
-pub mod SameObjects
 pub mod Telling

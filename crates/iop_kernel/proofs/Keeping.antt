@@ -1,13 +1,11 @@
 pub mod Blocks
-pub mod Boards
 pub mod Core
-pub mod Faults
 pub mod Goes
 pub mod Handlers
 pub mod Meetings
 pub mod Memory
 pub mod Moves
-pub mod Returns
+pub mod Outcomes
 pub mod RunningThread
 pub mod Services
 pub mod Settled

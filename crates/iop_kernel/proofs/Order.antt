@@ -1,5 +1,4 @@
 pub mod DeliveryCalls
-pub mod Dispatches
 pub mod First
 pub mod Nothing
 pub mod Results

@@ -1,4 +1,3 @@
 pub mod Statuses
 pub mod Times
 pub mod WordBytes
-pub mod Words

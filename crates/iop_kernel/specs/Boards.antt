@@ -57,6 +57,10 @@ writes memory place words c = writes_with memory place words c OK
 abbrev pub word_in : Memory → (place k : ℕ) → ℕ
 word_in memory place k = number_at memory.ram (place + 4 * k) 4
 
+-- the physical place of a word, if it has one; 0 has none
+abbrev pub place_of_word : Memory → ℕ → Option ℕ
+place_of_word memory at = if at == 0 then None else words_place memory at 1
+
 -- the physical place of a word where 0 stands for none; there is none at all where it is bad
 abbrev pub optional_place : Memory → ℕ → Option (Option ℕ)
 optional_place memory at =

@@ -11,7 +11,7 @@ use Rattle.iop_event.specs.EventFlags as flags
 use Rattle.iop_event.specs.WakeConditions.{settles}
 use Rattle.iop_event.specs.declared.met.Met.{Met}
 use Rattle.iop_event.specs.declared.wanted.Wanted.{Wanted}
-use Rattle.iop_kernel.specs.Boards.{Board, quiet, writes, word_in, bytes_of_words, optional_place}
+use Rattle.iop_kernel.specs.Boards.{Board, quiet, writes, word_in, bytes_of_words, optional_place, place_of_word}
 use Rattle.iop_kernel.specs.Kinds.{Live}
 use Rattle.iop_kernel.specs.ObjectServices.{waits_for, delete_object, refer_status}
 use Rattle.iop_kernel.specs.System.{Core, Left, Done, argument, may_switch, caller, with_event_flags, answers, answers_result, faults, words_place}
@@ -58,11 +58,11 @@ module _ (c : Core) where
   waits_for_bits = waits_for EventFlag c
 
 module _ (b : Board) where
-  -- a thread whose condition held is woken with 0, and the pattern is written to its place, if it
-  -- has one
+  -- where the pattern is written for a thread whose condition held
   abbrev pub met_place : Met → Option ℕ
-  met_place one = if one.place == 0 then None else words_place b.memory one.place 1
+  met_place one = place_of_word b.memory one.place
 
+  -- such a thread is woken with 0, and the pattern is written to its place, if it has one
   abbrev pub meets_one : Met → Board
   meets_one one = record {
     core = wakes_with b.core one.thread OK;

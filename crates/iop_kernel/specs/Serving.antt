@@ -53,14 +53,15 @@ module _ (s : System) where
   answers_or_faults (Ok word) = on_core s (resumes s.core word)
   answers_or_faults (Err kind) = faults s kind
 
--- a service of loadcore
-unfoldable pub serves_loadcore : System → LoadcoreService → Served
+-- a service of loadcore; what those of this library, of sysmem and of stdio do is told by iop_libs,
+-- so that here each is one case
+abbrev pub serves_loadcore : System → LoadcoreService → Served
 serves_loadcore s x =
     let done = libs.serves_loadcore (sight s) s.libraries x in
     silent (answers_or_faults (record s { libraries = done.1 }) done.0)
 
 -- a service of sysmem
-unfoldable pub serves_sysmem : System → SysmemService → Served
+abbrev pub serves_sysmem : System → SysmemService → Served
 serves_sysmem s x =
     let done = libs.serves_sysmem (sight s) s.blocks x in record {
       left = on_core (record s { blocks = done.1 }) (resumes s.core done.0);
@@ -68,7 +69,7 @@ serves_sysmem s x =
     }
 
 -- a service of stdio
-unfoldable pub serves_stdio : System → StdioService → Served
+abbrev pub serves_stdio : System → StdioService → Served
 serves_stdio s x = record {
   left = on_core s (resumes s.core (libs.serves_stdio (sight s) x));
   pieces = stdio_pieces (sight s) x;

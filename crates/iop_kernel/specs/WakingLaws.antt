@@ -7,14 +7,17 @@ use Rattle.iop_objects.specs.Objects.{Objects, object_of}
 use Rattle.iop_thread.specs.ThreadTable.{ThreadTable, thread_of}
 use Rattle.iop_thread.specs.Waits.{wait_of}
 use Rattle.iop_thread.specs.declared.kind.Kind.{Kind}
+use Rattle.iop_thread.specs.declared.kind.Kind.TheVariants.{Semaphore, EventFlag, Mailbox}
 use Rattle.iop_thread.specs.declared.state.State.{State}
 use Rattle.iop_thread.specs.declared.state.State.TheVariants.{Ready, Waiting, Suspended, WaitingSuspended}
 use Rattle.iop_thread.specs.declared.wait.Wait.{Wait}
 use Rattle.iop_thread.specs.declared.wait.Wait.TheVariants.{Object}
-use Rattle.iop_kernel.specs.ObjectServices.{delete_object}
+use Rattle.iop_kernel.specs.EventFlags.{delete_event_flag}
 use Rattle.iop_kernel.specs.Kinds.{Live, table}
+use Rattle.iop_kernel.specs.Mailboxes.{delete_mbx}
 use Rattle.iop_kernel.specs.Placing.{IsPlaced}
-use Rattle.iop_kernel.specs.System.{Core, code_word}
+use Rattle.iop_kernel.specs.Semaphores.{delete_sema}
+use Rattle.iop_kernel.specs.System.{Core, Left, code_word}
 
 -- the state of the live thread of an id
 abbrev pub state_in : ThreadTable → ℕ → Option State
@@ -42,10 +45,16 @@ pub record WakesAll {A W : Type 0} (id : ℕ) (wait : Wait) (old left : ThreadTa
   -- it is no longer live
   pub gone : object_of s.live id ≡ None
 
+-- the service that deletes an object of a kind
+abbrev pub deletes_of : Kind → Core → (id : ℕ) → Left Core
+deletes_of Semaphore c id = delete_sema c id
+deletes_of EventFlag c id = delete_event_flag c id
+deletes_of Mailbox c id = delete_mbx c id
+
 -- so it is where a live object of any kind is deleted
 abbrev pub DeletionsWakeAll : Type 0
 DeletionsWakeAll =
     (kind : Kind) (c : Core) (id : ℕ) (o : Live kind) → IsPlaced c.kernel
     → object_of (table kind c.kernel).live id ≡ Some o
-    → let left = (delete_object kind c id).state.kernel in
+    → let left = (deletes_of kind c id).state.kernel in
     WakesAll id (Object kind id) c.kernel.threads left.threads (table kind left)

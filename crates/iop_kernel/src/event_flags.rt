@@ -12,8 +12,8 @@ ghost use Rattle.iop_kernel.specs.Standing.{Holds, IsHeld, TakesCore, TakesBoard
 use crate::after::After;
 use crate::answering::{answer, answer_result};
 use crate::kernel::Kernel;
-use crate::places::{optional_place, words_place};
-use crate::words::store_words;
+use crate::places::{optional_place, place_of_word, word_in, words_place};
+use crate::words::store_word;
 use iop_base::{Code, GuestFault, Lines};
 use iop_event::{Met, Wanted};
 use iop_exec::Cpu;
@@ -21,7 +21,6 @@ use iop_ready::Ready;
 use iop_services::TheventService;
 use iop_stubs::Guest;
 use iop_thread::{Kind, Wait};
-use irx_tables::word;
 
 /// How many words ask for an event flag: attribute, option, first pattern.
 const FLAG_WORDS: u32 = 3;
@@ -40,11 +39,10 @@ impl<R: Ready> Kernel<R> {
         let Some(place) = words_place(guest, at, FLAG_WORDS) else {
             return After::Fault(GuestFault::Address);
         };
-        let ram = guest.ram();
         let made = self.event_flags.create(
-            word(ram, place),
-            word(ram, place + 4),
-            word(ram, place + 8),
+            word_in(guest, place, 0),
+            word_in(guest, place, 1),
+            word_in(guest, place, 2),
         );
         answer_result(cpu, made)
     }
@@ -82,9 +80,8 @@ impl<R: Ready> Kernel<R> {
             → Gives (L.output lines.old) (L.output lines.new)
             (meeting_lines (board k cpu guest.old) met) }
     {
-        if let Some(Some(place)) = optional_place(guest, met.place) {
-            store_words(guest, place, &[met.pattern], self.clock, lines);
-        }
+        let place = place_of_word(guest, met.place);
+        store_word(guest, place, met.pattern, self.clock, lines);
         self.wake(met.thread, Code::OK);
     }
 
@@ -92,6 +89,7 @@ impl<R: Ready> Kernel<R> {
     /// waits is looked at in order, on the pattern as it then stands: where its condition holds
     /// the pattern is written to its place, it is woken with 0, and the pattern is cleared if its
     /// mode says so.
+    #[tactic(auto, using(iop_base::proofs::Giving::gives_none, crate::proofs::Bodies::Reads::no_object))]
     pub(crate) fn set_event_flag<L: Lines>(
         &mut self,
         id: u32,
@@ -137,6 +135,7 @@ impl<R: Ready> Kernel<R> {
     /// place, if there is one, and cleared if the mode says so; where it does not the thread that
     /// calls waits. It answers a code of `EventFlags::test`, or before them `CANNOT_WAIT` where no
     /// other thread may run. The place is looked at first.
+    #[tactic(auto, using(iop_base::proofs::Giving::gives_none))]
     pub(crate) fn wait_event_flag<L: Lines>(
         &mut self,
         id: u32,
@@ -167,6 +166,7 @@ impl<R: Ready> Kernel<R> {
     /// Tests a condition on bits of an event flag, and answers a code of `EventFlags::test`. Where
     /// it holds the pattern is written to the place, if there is one, and cleared if the mode says
     /// so. The place is looked at first.
+    #[tactic(auto, using(iop_base::proofs::Giving::gives_none))]
     pub(crate) fn poll_event_flag<L: Lines>(
         &mut self,
         id: u32,
@@ -191,6 +191,7 @@ impl<R: Ready> Kernel<R> {
     /// Writes the five words of an event flag's status at `at`: attribute, option, first pattern,
     /// pattern, how many threads wait. The place is looked at first. `UNKNOWN_EVENT_FLAG` where
     /// none of this id is live.
+    #[tactic(auto, using(iop_base::proofs::Giving::gives_none, crate::proofs::Bodies::Reads::no_object))]
     pub(crate) fn refer_event_flag_status<L: Lines>(
         &self,
         id: u32,
@@ -211,8 +212,7 @@ impl<R: Ready> Kernel<R> {
         };
         let waiters = self.event_flags.waiters(id) as u32;
         let words = [flag.attr, flag.option, flag.first, flag.pattern, waiters];
-        store_words(guest, place, &words, self.clock, lines);
-        answer(cpu, Code::OK)
+        self.answer_words_at(place, &words, cpu, guest, lines)
     }
 
     /// Does what a service of `thevent` does.

@@ -89,7 +89,8 @@ pub fn seconds_are_read()
 
 /// Where a live semaphore, event flag or mailbox is deleted, each thread that waited for it is
 /// ready, or suspended where it was suspended too, with `OBJECT_DELETED` in `$v0`. Each other
-/// thread is in the state in which it was, and none waits for the object any more.
+/// thread is in the state in which it was, none waits for the object any more, and it is no longer
+/// live.
 pub fn deletions_wake_all()
     ensures { DeletionsWakeAll }
 {}

@@ -10,8 +10,7 @@ ghost use Rattle.iop_kernel.specs.Standing.{Holds, IsHeld, TakesCore, TakesBoard
 use crate::after::After;
 use crate::answering::{answer, answer_result};
 use crate::kernel::Kernel;
-use crate::places::words_place;
-use crate::words::store_words;
+use crate::places::{word_in, words_place};
 use iop_base::{Code, GuestFault, Lines};
 use iop_exec::Cpu;
 use iop_mbx::Mailbox;
@@ -19,7 +18,6 @@ use iop_ready::Ready;
 use iop_services::ThmsgbxService;
 use iop_stubs::Guest;
 use iop_thread::{Kind, Wait};
-use irx_tables::word;
 
 /// How many words ask for a mailbox: attribute, option.
 const MAILBOX_WORDS: u32 = 2;
@@ -55,10 +53,9 @@ impl<R: Ready> Kernel<R> {
         let Some(place) = words_place(guest, at, MAILBOX_WORDS) else {
             return After::Fault(GuestFault::Address);
         };
-        let ram = guest.ram();
         let made = self
             .mailboxes
-            .create(word(ram, place), word(ram, place + 4));
+            .create(word_in(guest, place, 0), word_in(guest, place, 1));
         answer_result(cpu, made)
     }
 
@@ -97,7 +94,7 @@ impl<R: Ready> Kernel<R> {
     /// Sends a message, which is an address: it is written to the place of the next thread that
     /// waits, which is woken with 0, or it is queued. It answers a code: `UNKNOWN_MAILBOX` where
     /// none of this id is live, `NO_MEMORY` where no thread waits and there is no room.
-    #[tactic(auto, using(iop_base::proofs::Giving::gives_none))]
+    #[tactic(auto, using(iop_base::proofs::Giving::gives_none, crate::proofs::Bodies::Refusals::no_waiter))]
     pub(crate) fn send_mbx<L: Lines>(
         &mut self,
         id: u32,
@@ -198,7 +195,7 @@ impl<R: Ready> Kernel<R> {
     /// Writes the five words of a mailbox's status at `at`: attribute, option, how many threads
     /// wait, how many messages it has, and the one that is next, or 0. The place is looked at
     /// first. `UNKNOWN_MAILBOX` where none of this id is live.
-    #[tactic(auto, using(iop_base::proofs::Giving::gives_none))]
+    #[tactic(auto, using(iop_base::proofs::Giving::gives_none, crate::proofs::Bodies::Reads::no_mailbox))]
     pub(crate) fn refer_mbx_status<L: Lines>(
         &self,
         id: u32,
@@ -224,8 +221,7 @@ impl<R: Ready> Kernel<R> {
             self.mailboxes.messages(id) as u32,
             self.mailboxes.next_message(id).unwrap_or(0),
         ];
-        store_words(guest, place, &words, self.clock, lines);
-        answer(cpu, Code::OK)
+        self.answer_words_at(place, &words, cpu, guest, lines)
     }
 
     /// Does what a service of `thmsgbx` does.

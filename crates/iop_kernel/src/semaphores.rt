@@ -10,15 +10,13 @@ ghost use Rattle.iop_kernel.specs.Standing.{Holds, IsHeld, TakesCore, TakesBoard
 use crate::after::After;
 use crate::answering::{answer, answer_result};
 use crate::kernel::Kernel;
-use crate::places::words_place;
-use crate::words::store_words;
+use crate::places::{word_in, words_place};
 use iop_base::{Code, GuestFault, Lines};
 use iop_exec::Cpu;
 use iop_ready::Ready;
 use iop_services::ThsemapService;
 use iop_stubs::Guest;
 use iop_thread::{Kind, Wait};
-use irx_tables::word;
 
 /// How many words ask for a semaphore: attribute, option, first count, most.
 const SEMAPHORE_WORDS: u32 = 4;
@@ -37,12 +35,11 @@ impl<R: Ready> Kernel<R> {
         let Some(place) = words_place(guest, at, SEMAPHORE_WORDS) else {
             return After::Fault(GuestFault::Address);
         };
-        let ram = guest.ram();
         let made = self.semaphores.create(
-            word(ram, place),
-            word(ram, place + 4),
-            word(ram, place + 8),
-            word(ram, place + 12),
+            word_in(guest, place, 0),
+            word_in(guest, place, 1),
+            word_in(guest, place, 2),
+            word_in(guest, place, 3),
         );
         answer_result(cpu, made)
     }
@@ -93,6 +90,7 @@ impl<R: Ready> Kernel<R> {
 
     /// Takes one of a semaphore's count, or lets the thread that calls wait where it is 0. It
     /// answers a code of `Semaphores::take`, or first `CANNOT_WAIT` where no other thread may run.
+    #[tactic(auto, using(crate::proofs::Bodies::Refusals::take_is_zero))]
     pub(crate) fn wait_sema(&mut self, id: u32, cpu: &mut Cpu) -> After
         requires sound { IsHeld R.stands self.old }
         requires room { self.old.handler ≡ None → waiting self.old.semaphores < MOST_WAITERS }
@@ -120,7 +118,7 @@ impl<R: Ready> Kernel<R> {
     /// Writes the six words of a semaphore's status at `at`: attribute, option, first count, most,
     /// count, how many threads wait. The place is looked at first. `UNKNOWN_SEMAPHORE` where none
     /// of this id is live.
-    #[tactic(auto, using(iop_base::proofs::Giving::gives_none))]
+    #[tactic(auto, using(iop_base::proofs::Giving::gives_none, crate::proofs::Bodies::Reads::no_object))]
     pub(crate) fn refer_sema_status<L: Lines>(
         &self,
         id: u32,
@@ -147,8 +145,7 @@ impl<R: Ready> Kernel<R> {
             semaphore.count,
             self.semaphores.waiters(id) as u32,
         ];
-        store_words(guest, place, &words, self.clock, lines);
-        answer(cpu, Code::OK)
+        self.answer_words_at(place, &words, cpu, guest, lines)
     }
 
     /// Does what a service of `thsemap` does.

@@ -1,6 +1,6 @@
 //! What a `syscall` asks of the kernel.
 
-ghost use Rattle.iop_kernel.specs.Serving.{serves, calls_row, calls_library, services};
+ghost use Rattle.iop_kernel.specs.Serving.{serves, calls_library, services};
 ghost use Rattle.iop_kernel.specs.Standing.{Holds, IsHeld, Stands, IsActive, HasNumber, HasRoomToWait, HasSizeOf, Serves, ServesPlaced, system};
 ghost use Rattle.iop_kernel.specs.System.{Kernel as State};
 
@@ -19,7 +19,7 @@ use iop_sysmem::Blocks;
 
 impl<R: Ready> Kernel<R> {
     /// Does what a service does.
-    #[tactic(auto, using(iop_base::proofs::Giving::gives_none), unfolding(crate::specs::Serving::serves, crate::specs::Serving::serves_loadcore, crate::specs::Serving::serves_sysmem, crate::specs::Serving::serves_stdio))]
+    #[tactic(auto, using(iop_base::proofs::Giving::gives_none), unfolding(crate::specs::Serving::serves))]
     fn serve<L: Lines>(
         &mut self,
         service: Service,
@@ -59,8 +59,8 @@ impl<R: Ready> Kernel<R> {
         }
     }
 
-    /// Calls service `number` of a kernel library, from a handler or from a thread. A number with no
-    /// row answers -1 and is told; one that is called from elsewhere than its row allows answers
+    /// Calls service `number` of a kernel library, from a handler or from a thread. A number with
+    /// no row answers -1 and is told; one that is called from elsewhere than its row allows answers
     /// `ILLEGAL_CONTEXT`.
     #[tactic(auto, using(iop_base::proofs::Giving::gives_none), unfolding(crate::specs::Serving::calls_library))]
     fn call_library<L: Lines>(
@@ -136,11 +136,11 @@ impl<R: Ready> Kernel<R> {
     /// It answers `Fault` exactly where the code has no meaning, where a place that it looks at is
     /// not in RAM or not aligned, where a handler returns as a thread or a module does, where a
     /// thread returns as a handler does, and where one other than the loader's returns as a module
-    /// does: nothing has changed then. A number that no row lists answers -1 and is told, and one that
-    /// is called from elsewhere than its row allows `ILLEGAL_CONTEXT`. `ModuleReturned` comes exactly where the call ends the
-    /// loader's thread: interrupts are then on and dispatch is enabled, and nothing else has
-    /// changed. `Switch` comes exactly where the caller waits, has ended, stands in the ready list,
-    /// or is a handler that returned.
+    /// does: nothing has changed then. A number that no row lists answers -1 and is told, and one
+    /// that is called from elsewhere than its row allows `ILLEGAL_CONTEXT`. `ModuleReturned` comes
+    /// exactly where the call ends the loader's thread: interrupts are then on and dispatch is
+    /// enabled, and nothing else has changed. `Switch` comes exactly where the caller waits, has
+    /// ended, stands in the ready list, or is a handler that returned.
     pub fn service<L: Lines>(
         &mut self,
         code: u32,

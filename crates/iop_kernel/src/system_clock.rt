@@ -131,8 +131,7 @@ impl<R: Ready> Kernel<R> {
             TakesBoard R.stands done result self.now cpu.new guest.new (L.output lines.old)
             (L.output lines.new) }
     {
-        store_words(guest, place, &time_words(ticks), self.clock, lines);
-        answer(cpu, Code::OK)
+        self.answer_words_at(place, &time_words(ticks), cpu, guest, lines)
     }
 
     /// Writes the moment, in ticks, in two words at `at`. The place is looked at first.

@@ -37,11 +37,15 @@ const DELETE_SEMA: u32 = 0x405;
 
 const SIGNAL_SEMA: u32 = 0x406;
 
+const SIGNAL_SEMA_BY_HANDLER: u32 = 0x407;
+
 const WAIT_SEMA: u32 = 0x408;
 
 const POLL_SEMA: u32 = 0x409;
 
 const REFER_SEMA_STATUS: u32 = 0x40B;
+
+const UNLISTED: u32 = 0x43F;
 
 /// Where the words of a new thread or semaphore stand.
 const PARAM: u32 = 0x2_0000;
@@ -230,6 +234,25 @@ fn threads_run(rt: HostRuntime) -> Result<(), Fail> {
     assert_eq!(rt; world.dispatch(), (true, Some(Line::Run(2))));
     assert_eq!(rt; world.call(&rt, SLEEP, 0, 0), (After::Switch, 0));
     assert_eq!(rt; world.dispatch(), (true, Some(Line::Run(1))));
+    Ok(())
+}
+
+#[test]
+fn unlisted_and_misplaced_calls_are_refused(rt: HostRuntime) -> Result<(), Fail> {
+    let mut world = World::new(rt.alloc())?;
+    assert_eq!(rt; world.dispatch(), (true, Some(Line::Run(1))));
+    assert_eq!(rt; world.call(&rt, UNLISTED, 0, 0), goes_on(-1));
+    assert_eq!(rt;
+        world.lines.line,
+        Some(Line::Unlisted {
+            lib: 4,
+            index: 0x3F
+        })
+    );
+    assert_eq!(rt;
+        world.call(&rt, SIGNAL_SEMA_BY_HANDLER, 0, 0),
+        goes_on(-100)
+    );
     Ok(())
 }
 

@@ -55,7 +55,48 @@ pub(crate) fn store_words<L: Lines>(
     let _ = guest.store_bytes(place, &bytes[..4 * words.len()], moment, lines);
 }
 
+/// Stores a word at a physical place, if there is one, as `store_words` does. It lies in RAM.
+#[tactic(auto, using(iop_base::proofs::Giving::gives_none))]
+pub(crate) fn store_word<L: Lines>(
+    guest: &mut Guest,
+    place: Option<u32>,
+    word: u32,
+    moment: u64,
+    lines: &mut L,
+)
+    requires inside { IfSome place (λ place. place + 4 ≤ length guest.old.ram) }
+    requires sized { IsRamSize (length guest.old.ram) }
+    ensures memory { guest.new ≡ after_store guest.old place (bytes_of_words (word ∷ [])) }
+    ensures lines { Gives (L.output lines.old) (L.output lines.new)
+        (store_lines moment guest.old place (length (bytes_of_words (word ∷ [])))) }
+{
+    if let Some(place) = place {
+        store_words(guest, place, &[word], moment, lines);
+    }
+}
+
 impl<R: Ready> Kernel<R> {
+    /// Writes one to `MOST_WORDS` words at a physical place, where they lie in RAM, and answers 0.
+    pub(crate) fn answer_words_at<L: Lines>(
+        &self,
+        place: u32,
+        words: &[u32],
+        cpu: &mut Cpu,
+        guest: &mut Guest,
+        lines: &mut L,
+    ) -> After
+        requires some { 0 < length words.now }
+        requires few { length words.now ≤ MOST_WORDS }
+        requires inside { place + 4 * length words.now ≤ length guest.old.ram }
+        requires sized { IsRamSize (length guest.old.ram) }
+        ensures { (k : State) → Holds R.stands self.now k
+            → TakesBoard R.stands (writes guest.old (Some place) words.now (core k cpu.old)) result
+            self.now cpu.new guest.new (L.output lines.old) (L.output lines.new) }
+    {
+        store_words(guest, place, words, self.clock, lines);
+        answer(cpu, Code::OK)
+    }
+
     /// Writes a word at a physical place, if there is one, where it lies in RAM, and answers a
     /// code.
     pub(crate) fn answer_code_at<L: Lines>(
@@ -73,9 +114,7 @@ impl<R: Ready> Kernel<R> {
             → TakesBoard R.stands (writes_with guest.old place (word ∷ []) (core k cpu.old) code)
             result self.now cpu.new guest.new (L.output lines.old) (L.output lines.new) }
     {
-        if let Some(place) = place {
-            store_words(guest, place, &[word], self.clock, lines);
-        }
+        store_word(guest, place, word, self.clock, lines);
         answer(cpu, code)
     }
 

@@ -1,6 +1,6 @@
 -- What is done where nothing is to be delivered or dispatched: the clock goes on, the run stops, or
 -- instructions are executed.
-use Rattle.std.proofs.Common.{◌≡◌, ℕ, suc, ◌+◌, ◌-◌, ◌*◌, ◌<◌, ◌≤◌, ◌^◌, Bool, true, false, Option, Some, None, [], length, refl, ap, sym, ◌∙◌, arith, subst}
+use Rattle.std.proofs.Common.{◌≡◌, ℕ, suc, ◌+◌, ◌-◌, ◌*◌, ◌<◌, ◌≤◌, Bool, true, false, Option, Some, None, [], length, refl, ap, sym, ◌∙◌, arith, subst}
 use Rattle.std.specs.Prelude.{IfSome}
 use Rattle.iop_base.specs.Output.{Output, Gives}
 use Rattle.iop_base.specs.declared.stop.Stop.TheVariants.{Budget}
@@ -9,6 +9,7 @@ use Rattle.iop_kernel.specs.Standing.{HasNumber}
 use Rattle.iop_kernel.specs.System.{Kernel, is_active}
 use Rattle.iop_time.specs.Timers.{Timers}
 use Rattle.iop_machine.specs.Advancing.{Advances, Stops, IsSettled, IsLess, calls_by}
+use Rattle.iop_machine.specs.Events.{CanCome}
 use Rattle.iop_machine.specs.Iop.{Iop, with_state}
 use Rattle.iop_machine.specs.Laws.{IsMachine}
 use Rattle.iop_machine.specs.Looking.{takes_events, next_coming}
@@ -20,14 +21,13 @@ use Rattle.iop_machine.specs.declared.iop.Iop.{Iop as Program}
 use Rattle.iop_machine.specs.declared.progress.Progress.TheVariants.{Advanced}
 use Rattle.iop_machine.proofs.Advancing.{then_advances}
 use Rattle.iop_machine.proofs.Alike.{advances_alike, advances_more, taken_alike}
-use Rattle.iop_machine.proofs.Bounding.{calls_left, few_turns, few_left, is_less}
-use Rattle.iop_machine.proofs.Coming.{IsBetween, coming_later}
-use Rattle.iop_machine.proofs.KeepingMachine.{steps_keep_machine}
+use Rattle.iop_machine.proofs.CallsLeft.{calls_left, few_turns, few_left, is_less}
+use Rattle.iop_machine.proofs.Coming.{IsComing, coming_later}
+use Rattle.iop_machine.proofs.KeepingMachine.{steps_keep_machine, steps_clock}
 use Rattle.iop_machine.proofs.LookingLemmas.{taken_kernel, taken_clock, taken_active, taken_later}
 use Rattle.iop_machine.proofs.Reaching.{advanced}
 use Rattle.iop_machine.proofs.Settling.{same_calls}
 use Rattle.iop_machine.proofs.Stepping.{Looks, IsNext, next_waits, stop_budget}
-use Rattle.iop_machine.proofs.Timing.{steps_clock}
 
 -- what lets the clock go on gives nothing
 waits_pieces : (v : Iop) (o : Option ℕ) → (waits_by v o).pieces ≡ []
@@ -40,9 +40,11 @@ module _ {w : World} {budget k : ℕ} {m : Program} {a b : Output}
   abbrev pub now : Iop
   now = (steps k w).state.iop
 
+  -- the program stands for it
   pub stands_now : Stands m now
   stands_now = settled.reached.state.1
 
+  -- nothing is to be delivered or dispatched in it
   looks_so : (active : Bool) → is_active now.kernel ≡ active → Looks now None None active
   looks_so active is = record {
     delivery_is = settled.delivery;
@@ -76,20 +78,20 @@ module _ {w : World} {budget k : ℕ} {m : Program} {a b : Output}
         })
 
     -- by what comes next
-    waits_less : (o : Option ℕ) → IfSome o (IsBetween (takes_events now).kernel.clock (2 ^ 63))
+    waits_less : (o : Option ℕ) → IfSome o (IsComing now) → CanCome now.events
         → Stands new (waits_by (takes_events now) o).state → {first : Program} → Stands first w.iop
         → (failed : Bool) → IsLess (Advanced budget) failed new.over false new.kernel
         (most_between * budget + calls_by None false first.kernel)
-    waits_less None between left first =
+    waits_less None coming come left first =
         let same = calls_now in
         let taken = ap calls_left (taken_kernel now) in
         is_less first left budget budget None false (omega (arith, same, taken))
-    waits_less (Some moment) between left first =
+    waits_less (Some moment) coming come left first =
         let same = calls_now in
         let taken = ap calls_left (taken_kernel now) in
         let turns = few_turns now.over in
-        let later = between.0 in
-        let comes = between.1 in
+        let later = coming.0 in
+        let comes = coming.1 come in
         is_less first left budget budget None false
         (omega (arith, same, taken, turns, later, comes))
 
@@ -99,7 +101,8 @@ module _ {w : World} {budget k : ℕ} {m : Program} {a b : Output}
         (most_between * budget + calls_by None false first.kernel)
     settled_waits_less machine =
         waits_less (next_coming (takes_events now))
-        (coming_later (booted now) (machine_now machine) settled.delivery idle) waits
+        (coming_later now (machine_now machine).core settled.delivery idle)
+        (machine_now machine).events waits
 
   -- or the run stops, where no instruction is left
   pub settled_stops : is_active now.kernel ≡ true → budget ≡ 0

@@ -1,10 +1,10 @@
 -- How the calls of a run follow one another, and how it ends.
 use Rattle.std.proofs.Common.{◌≡◌, ℕ, suc, ◌+◌, Bool, true, false, Some, List, [], ◌∷◌, ◌++◌, refl, ap, sym, ◌∙◌, arith, subst, append_assoc, add-suc}
+use Rattle.std.specs.Borrow.{GName}
 use Rattle.iop_base.specs.Piece.{Piece, Traced, Told, console_of, trace_of}
 use Rattle.iop_base.specs.Output.{Output, Adds, Gives, HasNoFault, StopsShort, FailsAt, extended}
 use Rattle.iop_base.specs.declared.stop.Stop.{Stop}
 use Rattle.iop_base.proofs.Giving.{gives_then, gives_whole, gives_short, gives_names, adds_then}
-use Rattle.std.specs.Borrow.{GName}
 use Rattle.iop_ports.specs.Sinks.{SinkTold}
 use Rattle.iop_trace.specs.Outs.{output_with}
 use Rattle.iop_machine.specs.declared.progress.Progress.{Progress}
@@ -14,8 +14,7 @@ use Rattle.iop_machine.specs.Running.{GoesOnFor, Finishes, Faults}
 use Rattle.iop_machine.specs.Stepping.{step, steps, executed, stop_at}
 use Rattle.iop_machine.specs.World.{World}
 use Rattle.iop_machine.specs.Iop.{Transition}
-use Rattle.iop_machine.proofs.GoingOn.{goes_on_both}
-use Rattle.iop_machine.proofs.Composing.{steps_more, executed_more}
+use Rattle.iop_machine.proofs.Composing.{goes_on_both, steps_more, executed_more}
 use Rattle.iop_machine.proofs.Reaching.{here, told}
 
 -- the same of something else that stands for each state for which it stands
@@ -74,7 +73,8 @@ module _ {P : Type 0} {stands_for : P → World → Type 0} where
         (subst (λ n. GoesOnFor w n i) (sym all_is) r.before) before)
 
     -- what follows further steps follows them all
-    pub then_advances : {Q : Type 0} {stands : Q → World → Type 0} {k left : ℕ} {new : Q} {c : Output}
+    pub then_advances : {Q : Type 0} {stands : Q → World → Type 0} {k left : ℕ} {new : Q}
+        {c : Output}
         → Advances stands (steps i w).state budget k left new b c
         → Advances stands w most (i + k) left new a c
     then_advances {stands = stands} {k} {left} {new} {c} h =
@@ -124,7 +124,8 @@ module _ {P : Type 0} {stands_for : P → World → Type 0} where
           (sym (ap (λ (d : Transition World). d.state) (steps_more w i k))) h.stops;
     }
 
--- what is seen of two sinks before a run and after it, by what is seen of the object that writes to them
+-- what is seen of two sinks before a run and after it, by what is seen of the object that writes to
+-- them
 pub record SameSeen (x a : Output) : Type 0 where
   pub console : x.console ≡ a.console
   pub trace : x.trace ≡ a.trace

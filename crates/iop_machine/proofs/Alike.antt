@@ -12,8 +12,7 @@ use Rattle.iop_machine.specs.Looking.{takes_events, next_coming}
 use Rattle.iop_machine.specs.Running.{GoesOn, GoesOnFor}
 use Rattle.iop_machine.specs.Stepping.{Turn, turn_by, turn_of, moves_to, performs, waits_by, takes_turn, is_execution, step, steps, executes, executed, stops_by, stop_at}
 use Rattle.iop_machine.specs.World.{World, booted}
-use Rattle.iop_machine.proofs.Composing.{steps_front, executed_front}
-use Rattle.iop_machine.proofs.GoingOn.{goes_on_with}
+use Rattle.iop_machine.proofs.Composing.{steps_front, executed_front, goes_on_with}
 use Rattle.iop_machine.proofs.LookingLemmas.{takes_again}
 use Rattle.iop_machine.proofs.Stepping.{IsTurn, stopped, unbooted, delivery, dispatch, execution, waiting, turn_is, step_is, executes_are}
 
@@ -25,7 +24,7 @@ pub record AreAlike (w v : World) : Type 0 where
 
 module _ (w v : World) (alike : AreAlike w v) where
   -- so are all steps from the first on
-  pub steps_alike : (k : ℕ) → steps (suc k) w ≡ steps (suc k) v
+  steps_alike : (k : ℕ) → steps (suc k) w ≡ steps (suc k) v
   steps_alike k =
       steps_front w k
       ∙ ap (λ (t : Transition World). record {
@@ -36,7 +35,7 @@ module _ (w v : World) (alike : AreAlike w v) where
       ∙ sym (steps_front v k)
 
   -- and what they execute
-  pub executed_alike : (k : ℕ) → executed (suc k) w ≡ executed (suc k) v
+  executed_alike : (k : ℕ) → executed (suc k) w ≡ executed (suc k) v
   executed_alike k =
       executed_front w k
       ∙ ap (λ b. one_if b + executed k (step w).state) alike.executes
@@ -53,21 +52,16 @@ module _ (w v : World) (alike : AreAlike w v) where
       ap (λ (t : Transition World). stop_at t.state (budget - executed (suc j) w)) (steps_alike j)
       ∙ ap (λ n. stop_at (steps (suc j) v).state (budget - n)) (executed_alike j) ∙ goes
 
-  -- the pieces of the first steps, and those of the next one
-  first_alike : (k : ℕ) (a b : Output) → Gives a b (steps k v).pieces
-      → Gives a b (steps k w).pieces
+  -- the pieces of the first steps are the same, and the step behind them
+  pieces_alike : (k : ℕ) → (steps k w).pieces ≡ (steps k v).pieces
   unfolding steps
-  first_alike zero a b gives = gives
-  first_alike (suc k) a b gives =
-      subst (λ (t : Transition World). Gives a b t.pieces) (sym (steps_alike k)) gives
+  pieces_alike zero = refl
+  pieces_alike (suc k) = ap (λ (t : Transition World). t.pieces) (steps_alike k)
 
-  next_alike : (k : ℕ) (a b : Output) → Gives a b (step (steps k v).state).pieces
-      → Gives a b (step (steps k w).state).pieces
+  next_alike : (k : ℕ) → step (steps k w).state ≡ step (steps k v).state
   unfolding steps
-  next_alike zero a b gives =
-      subst (λ (t : Transition World). Gives a b t.pieces) (sym alike.step) gives
-  next_alike (suc k) a b gives =
-      subst (λ (t : Transition World). Gives a b (step t.state).pieces) (sym (steps_alike k)) gives
+  next_alike zero = alike.step
+  next_alike (suc k) = ap (λ (t : Transition World). step t.state) (steps_alike k)
 
   pub advances_alike : {P : Type 0} {stands_for : P → World → Type 0} {budget k left : ℕ}
       {now : P} {a b : Output}
@@ -77,9 +71,9 @@ module _ (w v : World) (alike : AreAlike w v) where
     state = subst (λ (t : Transition World). stands_for now t.state) (sym (steps_alike k)) h.state;
     left_is = let same = executed_alike k in omega (arith, h.left_is, same);
     seen = h.seen;
-    first = first_alike k a h.seen h.first;
+    first = subst (Gives a h.seen) (sym (pieces_alike k)) h.first;
     well = h.well;
-    last = next_alike k h.seen b h.last;
+    last = subst (λ (t : Transition World). Gives h.seen b t.pieces) (sym (next_alike k)) h.last;
   }
 
 -- where more is allowed more is left

@@ -12,14 +12,13 @@ use Rattle.iop_machine.specs.declared.begun_module.BegunModule.{BegunModule}
 use Rattle.iop_machine.specs.AreaLaws.{HasKernel, BootingKeepsKernel}
 use Rattle.iop_machine.specs.Iop.{Iop, Transition}
 use Rattle.iop_machine.specs.Loading.{with_kernel, loading_of, places, passes, enters_or, loads_first, starts_by, boots}
-use Rattle.iop_machine.specs.Modules.{Module, HasRoom, strings, argument_block}
+use Rattle.iop_machine.specs.Modules.{Module, HasRoom, argument_block}
 use Rattle.iop_machine.specs.Stepping.{Boots}
 use Rattle.iop_machine.specs.Storing.{fills, stores_bytes}
 use Rattle.iop_machine.specs.World.{beginning}
-use Rattle.iop_machine.proofs.AreaLemmas.{HoldsArea, area_holds, store_holds}
+use Rattle.iop_machine.proofs.Area.{HoldsArea, area_holds, store_holds}
 use Rattle.iop_machine.proofs.AreaReading.{area_is_read}
-use Rattle.iop_machine.proofs.ArgumentLemmas.{length-argument_block}
-use Rattle.iop_machine.proofs.ArgumentReading.{stored}
+use Rattle.iop_machine.proofs.ArgumentReading.{length-argument_block, stored}
 use Rattle.iop_machine.proofs.KeepingMachine.{area_blocks, begins_holding}
 use Rattle.iop_machine.proofs.Stepping.{step_as, turn_boots}
 

@@ -30,8 +30,7 @@ use Rattle.iop_machine.specs.AreaLaws.{HasCall, HasService, HasLibrary, HasKerne
 use Rattle.iop_machine.specs.KernelArea.{syscall_word, service_at, table_at, each, function_of, table_of, service_of, services_of, return_of, tables, returns, services}
 use Rattle.iop_machine.specs.World.{zeros}
 use Rattle.iop_machine.specs.declared.kernel_area.TheConstants.{VERSION, TABLE_REST, SERVICES_AT, SERVICES_LEN, SERVICE_LEN}
-use Rattle.iop_machine.proofs.Area.{HasBytes, has_first, has_second, has_item}
-use Rattle.iop_machine.proofs.AreaLemmas.{HoldsArea, area_holds, length-name, length-functions, length-table, length-tables, length-services, length-all_services, has_tables, has_returns, has_services, holds_bytes}
+use Rattle.iop_machine.proofs.Area.{HasBytes, has_first, has_second, has_item, HoldsArea, area_holds, length-name, length-functions, length-table, length-tables, length-services, length-all_services, has_tables, has_returns, has_services, holds_bytes}
 
 calls_with : (word code : ℕ) → word ≡ syscall_word code → code < 2 ^ 20
     → inst_of word ≡ Some (Syscall code)
@@ -82,7 +81,8 @@ service_is library number few h =
     let none = has_second (first ++ bytes_of 4 JUMP_BACK) (replicate 8 0) h in
     let back = word_of JUMP_BACK (omega arith) (has_second first (bytes_of 4 JUMP_BACK) both) in
     record {
-      calls = call_of (service_code library number) few (has_first first (bytes_of 4 JUMP_BACK) both);
+      calls = call_of (service_code library number) few
+          (has_first first (bytes_of 4 JUMP_BACK) both);
       back = back;
       jump = ap inst_of back ∙ jumps_back;
       slot = word_of 0 (omega arith) (has_first (bytes_of 4 0) (replicate 4 0) none);

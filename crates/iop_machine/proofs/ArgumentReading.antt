@@ -1,13 +1,12 @@
--- The argument block as a module reads it.
-use Rattle.std.proofs.Common.{◌≡◌, ℕ, zero, suc, ◌+◌, ◌*◌, ◌^◌, ◌<◌, ◌≤◌, Some, List, [], ◌∷◌, ◌++◌, append_assoc, length, take, drop, replicate, get_or, refl, ap, sym, ◌∙◌, subst, arith, inl, inr}
+-- The argument block as it is written, word after word, and as a module reads it.
+use Rattle.std.proofs.Common.{◌≡◌, ℕ, zero, suc, ◌+◌, ◌*◌, ◌/◌, ◌%◌, ◌<◌, ◌≤◌, Some, List, [], ◌∷◌, ◌++◌, length, take, drop, get_or, replicate, append_assoc, drop-cons, refl, ap, sym, ◌∙◌, subst, arith, inl, inr}
 use Rattle.std.specs.Prelude.{slice_get, slice_index}
-use Rattle.std.proofs.Math.Seq.{drop-append_seam, drop-append-add, take-append_seam, take-append-add}
 use Rattle.std.proofs.lemmas.Bool.{lt-ltb, le-leb}
-use Rattle.std.proofs.lemmas.Option.{get_or_from_slice_get, slice_get_within}
-use Rattle.std.proofs.lemmas.List.{get_or-replicate, length-append, length-replicate, length-take-le}
+use Rattle.std.proofs.lemmas.Option.{get_or_from_slice_get}
+use Rattle.std.proofs.lemmas.List.{get_or-replicate, length-append, length-replicate}
 use Rattle.iop_base.specs.Numbers.{number_at, bytes_of, with_bytes}
 use Rattle.iop_base.specs.Places.{IsRamSize, range_at}
-use Rattle.iop_base.proofs.Lists.{number_at-word, number_at_behind}
+use Rattle.iop_base.proofs.Lists.{bytes_inside, number_at-word, number_at_behind, length-bytes_of}
 use Rattle.iop_base.proofs.Memory.{length-with_bytes, number_at_inside}
 use Rattle.iop_stubs.specs.Stubs.{after_store}
 use Rattle.iop_machine.specs.declared.arguments.TheConstants.{ARGUMENTS, ARGUMENTS_LEN, MOST_WORDS, MOST_WORD_BYTES}
@@ -16,61 +15,154 @@ use Rattle.iop_machine.specs.Iop.{Iop}
 use Rattle.iop_machine.specs.Loading.{passes}
 use Rattle.iop_machine.specs.Modules.{addresses, strings, argument_block}
 use Rattle.iop_machine.specs.Storing.{fills, stores_bytes}
-use Rattle.iop_machine.proofs.AreaLemmas.{part_of_first}
-use Rattle.iop_machine.proofs.ArgumentLemmas.{length-addresses, length-argument_block}
+use Rattle.iop_machine.proofs.Area.{HasBytes, has_first, has_second}
 
--- a part of bytes that were put into memory
-part_of_bytes : (memory : List ℕ) (p : ℕ) (bytes : List ℕ) (k n : ℕ) → p ≤ length memory
-    → k + n ≤ length bytes → take n (drop (p + k) (with_bytes memory p bytes)) ≡ take n (drop k bytes)
-part_of_bytes memory p bytes k n inside fits =
-    let rest = drop (p + length bytes) memory in
-    let front = length-take-le p memory inside in
-    ap (λ l. take n (drop (p + k) l)) (append_assoc (take p memory) bytes rest)
-    ∙ ap (λ q. take n (drop (q + k) (take p memory ++ (bytes ++ rest)))) (sym front)
-    ∙ ap (take n) (drop-append-add (take p memory) (bytes ++ rest) k)
-    ∙ part_of_first bytes rest k n fits
+-- an address has four bytes
+pub length-addresses : (at : ℕ) (words : List (List ℕ))
+    → length (addresses at words) ≡ 4 * length words
+length-addresses at [] = refl
+length-addresses at (word ∷ words) =
+    omega (
+      arith,
+      length-append (bytes_of 4 at) (addresses (at + length word + 1) words),
+      length-bytes_of 4 at,
+      length-addresses (at + length word + 1) words,
+    )
 
--- a word's place among the strings, and its address where these stand from an address on
-record IsString (at : ℕ) (words : List (List ℕ)) (i : ℕ) (word : List ℕ) : Type 0 where
+-- behind the addresses a word 0 stands, and then the strings
+pub length-argument_block : (words : List (List ℕ))
+    → length (argument_block words) ≡ 4 * (length words + 1) + length (strings words)
+unfolding argument_block
+length-argument_block words =
+    let heads = addresses (ARGUMENTS + 4 * (length words + 1)) words in
+    omega (
+      arith,
+      length-append (heads ++ bytes_of 4 0) (strings words),
+      length-append heads (bytes_of 4 0),
+      length-addresses (ARGUMENTS + 4 * (length words + 1)) words,
+    )
+
+-- the words that are left at an index
+module _ (words : List (List ℕ)) (i : ℕ) (word : List ℕ) (inside : i < length words)
+    (is : word ≡ get_or words i word) where
+  words_left : drop i words ≡ word ∷ drop (i + 1) words
+  words_left =
+      let next : suc i ≡ i + 1 = omega arith in
+      drop-cons words i word inside ∙ ap (λ x. x ∷ drop (suc i) words) (sym is)
+      ∙ ap (λ n. word ∷ drop n words) next
+
+  -- one word more was appended
+  pub strings_go_on : (block whole : List ℕ) → block ++ strings (drop i words) ≡ whole
+      → block ++ word ++ 0 ∷ [] ++ strings (drop (i + 1) words) ≡ whole
+  strings_go_on block whole e =
+      append_assoc (block ++ word) (0 ∷ []) (strings (drop (i + 1) words))
+      ∙ append_assoc block word (0 ∷ strings (drop (i + 1) words))
+      ∙ ap (λ ws. block ++ strings ws) (sym words_left) ∙ e
+
+  -- it has room
+  pub strings_fit : (block whole : List ℕ) (room : ℕ) → block ++ strings (drop i words) ≡ whole
+      → length whole ≤ room → length block + length word + 1 ≤ room
+  strings_fit block whole room e fits =
+      omega (
+        arith,
+        ap length e,
+        length-append block (strings (drop i words)),
+        ap (λ ws. length (strings ws)) words_left,
+        length-append word (0 ∷ strings (drop (i + 1) words)),
+        fits,
+      )
+
+  -- one address more was appended
+  pub addresses_go_on : (at : ℕ) (block whole : List ℕ)
+      → block ++ addresses at (drop i words) ≡ whole
+      → block ++ bytes_of 4 at ++ addresses (at + length word + 1) (drop (i + 1) words) ≡ whole
+  addresses_go_on at block whole e =
+      append_assoc block (bytes_of 4 at) (addresses (at + length word + 1) (drop (i + 1) words))
+      ∙ ap (λ ws. block ++ addresses at ws) (sym words_left) ∙ e
+
+  -- it has room
+  pub address_fits : (at : ℕ) (block whole : List ℕ) (room : ℕ)
+      → block ++ addresses at (drop i words) ≡ whole
+      → length whole ≤ room → length block + 4 ≤ room
+  address_fits at block whole room e fits =
+      omega (
+        arith,
+        ap length e,
+        length-append block (addresses at (drop i words)),
+        ap (λ ws. length (addresses at ws)) words_left,
+        length-append (bytes_of 4 at) (addresses (at + length word + 1) (drop (i + 1) words)),
+        length-bytes_of 4 at,
+        fits,
+      )
+
+  -- where the words end
+  pub strings_end : length (strings (drop i words))
+      ≡ length word + 1 + length (strings (drop (i + 1) words))
+  strings_end =
+      omega (
+        arith,
+        ap (λ ws. length (strings ws)) words_left,
+        length-append word (0 ∷ strings (drop (i + 1) words)),
+      )
+
+-- the four bytes of a word, the lowest first
+pub le_bytes : (value : ℕ) → value % 256 ∷ value / 256 % 256 ∷ value / 65536 % 256
+    ∷ value / 16777216 % 256 ∷ [] ≡ bytes_of 4 value
+le_bytes value =
+    let third : value / 65536 ≡ value / 256 / 256 = omega arith in
+    let fourth : value / 16777216 ≡ value / 256 / 256 / 256 = omega arith in
+    ap (λ n. value % 256 ∷ value / 256 % 256 ∷ n % 256 ∷ value / 16777216 % 256 ∷ []) third
+    ∙ ap (λ n. value % 256 ∷ value / 256 % 256 ∷ value / 256 / 256 % 256 ∷ n % 256 ∷ []) fourth
+
+-- a word stands at a place among those from a place on, and its address in a row of addresses
+record StandsAt (memory : List ℕ) (row at : ℕ) (words : List (List ℕ)) (i : ℕ) (word : List ℕ)
+    : Type 0 where
   place : ℕ
-  inside : place + (length word + 1) ≤ length (strings words)
-  bytes : take (length word + 1) (drop place (strings words)) ≡ word ++ 0 ∷ []
-  address : take 4 (drop (4 * i) (addresses at words)) ≡ bytes_of 4 (at + place)
+  begins : at ≤ place
+  ends : place + (length word + 1) ≤ at + length (strings words)
+  string : HasBytes memory place (word ++ 0 ∷ [])
+  address : HasBytes memory (row + 4 * i) (bytes_of 4 place)
 
-first_string : (at : ℕ) (word : List ℕ) (words : List (List ℕ)) → IsString at (word ∷ words) 0 word
-first_string at word words = record {
-  place = 0;
-  inside = omega (arith, length-append word (0 ∷ strings words));
-  bytes = take-append-add word (0 ∷ strings words) 1;
-  address =
-      let same : at ≡ at + 0 = omega arith in
-      take-append_seam (bytes_of 4 at) (addresses (at + length word + 1) words) ∙ ap (bytes_of 4) same;
-}
+module _ {memory : List ℕ} where
+  -- the first word and the others
+  parted : (at : ℕ) (word : List ℕ) (words : List (List ℕ))
+      → HasBytes memory at (strings (word ∷ words))
+      → HasBytes memory at ((word ++ 0 ∷ []) ++ strings words)
+  parted at word words =
+      subst (HasBytes memory at) (sym (append_assoc word (0 ∷ []) (strings words)))
 
-later_string : (at : ℕ) (first : List ℕ) (words : List (List ℕ)) (i : ℕ) (word : List ℕ)
-    → IsString (at + length first + 1) words i word → IsString at (first ∷ words) (suc i) word
-later_string at first words i word is = record {
-  place = length first + suc is.place;
-  inside = omega (arith, is.inside, length-append first (0 ∷ strings words));
-  bytes =
-      ap (take (length word + 1)) (drop-append-add first (0 ∷ strings words) (suc is.place)) ∙ is.bytes;
-  address =
+  -- each of the words does
+  word_stands : (row at : ℕ) (words : List (List ℕ)) (i : ℕ) (word : List ℕ)
+      → slice_get words i ≡ Some word → HasBytes memory row (addresses at words)
+      → HasBytes memory at (strings words) → StandsAt memory row at words i word
+  word_stands row at [] i word e heads texts = absurd (cc e)
+  word_stands row at (first ∷ words) zero word e heads texts =
+      let row_is : row ≡ row + 4 * 0 = omega arith in
+      subst (StandsAt memory row at (first ∷ words) 0)
+      (get_or_from_slice_get (first ∷ words) 0 word [] e) (record {
+        place = at;
+        begins = omega arith;
+        ends = omega (arith, length-append first (0 ∷ strings words));
+        string = has_first (first ++ 0 ∷ []) (strings words) (parted at first words texts);
+        address = subst (λ p. HasBytes memory p (bytes_of 4 at)) row_is
+            (has_first (bytes_of 4 at) (addresses (at + length first + 1) words) heads);
+      })
+  word_stands row at (first ∷ words) (suc i) word e heads texts =
       let next = at + length first + 1 in
-      let more : 4 * suc i ≡ 4 + 4 * i = omega arith in
-      let same : next + is.place ≡ at + (length first + suc is.place) = omega arith in
-      ap (λ p. take 4 (drop p (bytes_of 4 at ++ addresses next words))) more
-      ∙ ap (take 4) (drop-append-add (bytes_of 4 at) (addresses next words) (4 * i))
-      ∙ is.address ∙ ap (bytes_of 4) same;
-}
-
-string_of : (at : ℕ) (words : List (List ℕ)) (i : ℕ) (word : List ℕ) → slice_get words i ≡ Some word
-    → IsString at words i word
-string_of at [] i word e = absurd (cc e)
-string_of at (first ∷ words) zero word e =
-    subst (IsString at (first ∷ words) 0) (get_or_from_slice_get (first ∷ words) 0 word [] e)
-    (first_string at first words)
-string_of at (first ∷ words) (suc i) word e =
-    later_string at first words i word (string_of (at + length first + 1) words i word e)
+      let next_is : at + length (first ++ 0 ∷ []) ≡ next =
+      omega (arith, length-append first (0 ∷ [])) in
+      let row_is : row + 4 + 4 * i ≡ row + 4 * suc i = omega arith in
+      let is = word_stands (row + 4) next words i word e
+      (has_second (bytes_of 4 at) (addresses next words) heads)
+      (subst (λ p. HasBytes memory p (strings words)) next_is
+      (has_second (first ++ 0 ∷ []) (strings words) (parted at first words texts))) in
+      record {
+        place = is.place;
+        begins = omega (arith, is.begins);
+        ends = omega (arith, is.ends, length-append first (0 ∷ strings words));
+        string = is.string;
+        address = subst (λ p. HasBytes memory p (bytes_of 4 is.place)) row_is is.address;
+      }
 
 -- bytes that the kernel stores into the block
 pub stored : (s : Iop) (bytes : List ℕ) → ARGUMENTS + ARGUMENTS_LEN ≤ length s.memory.ram
@@ -148,34 +240,28 @@ module _ (s : Iop) (sized : IsRamSize (length s.memory.ram)) where
     inside : ARGUMENTS + length block ≤ length zeroed
     inside = omega (arith, fits, length-zeroed, long)
 
-    -- an address, or the word 0 behind the last one
-    word_there : (p value : ℕ) → p + 4 ≤ 4 * (length words + 1) → value < 2 ^ 32
-        → take 4 (drop p (heads ++ bytes_of 4 0)) ≡ bytes_of 4 value
-        → number_at passed (ARGUMENTS + p) 4 ≡ value
+    -- the addresses, the word 0 behind the last one, and the strings
+    heads_there : HasBytes passed ARGUMENTS (heads ++ bytes_of 4 0)
     unfolding passed argument_block
-    word_there p value below small e =
-        number_at_inside zeroed ARGUMENTS block inside p 4 (omega (arith, length-block))
-        ∙ number_at-word block p value small
-        (part_of_first (heads ++ bytes_of 4 0) (strings words) p 4 (omega (arith, length-heads)) ∙ e)
+    heads_there =
+        has_first (heads ++ bytes_of 4 0) (strings words)
+        (record { part = bytes_inside zeroed ARGUMENTS block inside })
 
-    -- a part of the strings
-    bytes_there : (p n : ℕ) → p + n ≤ length (strings words)
-        → take n (drop (at + p) passed) ≡ take n (drop p (strings words))
+    strings_there : HasBytes passed at (strings words)
     unfolding passed argument_block
-    bytes_there p n below =
-        let k = length (heads ++ bytes_of 4 0) + p in
-        let place : at + p ≡ ARGUMENTS + k = omega (arith, length-heads) in
-        ap (λ q. take n (drop q passed)) place
-        ∙ part_of_bytes zeroed ARGUMENTS block k n (omega (arith, inside))
-        (omega (arith, length-block, length-heads))
-        ∙ ap (take n) (drop-append-add (heads ++ bytes_of 4 0) (strings words) p)
+    strings_there =
+        let place : ARGUMENTS + length (heads ++ bytes_of 4 0) ≡ at = omega (arith, length-heads) in
+        subst (λ p. HasBytes passed p (strings words)) place
+        (has_second (heads ++ bytes_of 4 0) (strings words)
+        (record { part = bytes_inside zeroed ARGUMENTS block inside }))
 
     last_is : number_at passed (ARGUMENTS + 4 * length words) 4 ≡ 0
     last_is =
-        let all = length-addresses at words in
-        word_there (4 * length words) 0 (omega arith) (omega arith)
-        (ap (λ p. take 4 (drop p (heads ++ bytes_of 4 0))) (sym all)
-        ∙ ap (take 4) (drop-append_seam heads (bytes_of 4 0)))
+        let place : ARGUMENTS + length heads ≡ ARGUMENTS + 4 * length words =
+        omega (arith, length-addresses at words) in
+        number_at-word passed (ARGUMENTS + 4 * length words) 0 (omega arith)
+        (subst (λ p. HasBytes passed p (bytes_of 4 0)) place
+        (has_second heads (bytes_of 4 0) heads_there)).part
 
     behind_is : (k : ℕ) → length block ≤ k → k < ARGUMENTS_LEN
         → slice_index passed (ARGUMENTS + k) ≡ 0
@@ -185,24 +271,19 @@ module _ (s : Iop) (sized : IsRamSize (length s.memory.ram)) where
         let same = number_at_behind zeroed ARGUMENTS block inside (ARGUMENTS + k) 1 at_end in
         omega (arith, same, zero_there k below)
 
-    module _ (i : ℕ) (word : List ℕ) (e : slice_get words i ≡ Some word) where
-      is : IsString at words i word
-      is = string_of at words i word e
-
-      address_is : number_at passed (ARGUMENTS + 4 * i) 4 ≡ at + is.place
-      address_is =
-          let one_of = slice_get_within words i word e in
-          word_there (4 * i) (at + is.place) (omega arith) (omega (arith, is.inside, few, short))
-          (part_of_first heads (bytes_of 4 0) (4 * i) 4 (omega (arith, length-addresses at words))
-          ∙ is.address)
-
-      string_is : HasString passed (number_at passed (ARGUMENTS + 4 * i) 4) word
-      string_is =
-          subst (λ a. HasString passed a word) (sym address_is) (record {
-            begins = omega arith;
-            ends = omega (arith, is.inside, few, short);
-            bytes = bytes_there is.place (length word + 1) is.inside ∙ is.bytes;
-          })
+    string_is : (i : ℕ) (word : List ℕ) → slice_get words i ≡ Some word
+        → HasString passed (number_at passed (ARGUMENTS + 4 * i) 4) word
+    string_is i word e =
+        let is = word_stands ARGUMENTS at words i word e
+        (has_first heads (bytes_of 4 0) heads_there) strings_there in
+        let address = number_at-word passed (ARGUMENTS + 4 * i) is.place
+        (omega (arith, is.ends, few, short)) is.address.part in
+        subst (λ a. HasString passed a word) (sym address) (record {
+          begins = omega (arith, is.begins);
+          ends = omega (arith, is.ends, few, short);
+          bytes = subst (λ n. take n (drop is.place passed) ≡ word ++ 0 ∷ [])
+              (length-append word (0 ∷ [])) is.string.part;
+        })
 
     passes_is : (passes s block).state.memory.ram ≡ passed
     unfolding passed

@@ -1,20 +1,21 @@
--- What one instruction of a burst does. Its processor and its clock are kept apart from the machine meanwhile.
+-- What one instruction of a burst does. Its processor and its clock are kept apart from the machine
+-- meanwhile.
 use Rattle.std.proofs.Common.{◌≡◌, ℕ, suc, ◌+◌, ◌-◌, ◌<◌, ◌^◌, true, false, Some, None, [], length, refl, ap, sym, ◌∙◌, subst, arith}
 use Rattle.iop_base.specs.Numbers.{width_bytes}
 use Rattle.iop_base.specs.Output.{Output, Gives}
+use Rattle.iop_base.proofs.Giving.{gives_none}
+use Rattle.iop_base.proofs.Lists.{length-bytes_of}
 use Rattle.iop_exec.specs.declared.cpu.Cpu.{Cpu}
 use Rattle.iop_exec.specs.declared.cpu.Event.{Event}
 use Rattle.iop_exec.specs.declared.cpu.Event.TheVariants.{Plain, Service, Fault}
 use Rattle.iop_exec.specs.Row.{Row, Goes, Serves, Faults, row, at_next}
-use Rattle.iop_stubs.specs.Stubs.{access_place, Memory, store_lines}
-use Rattle.iop_base.proofs.Giving.{gives_none}
-use Rattle.iop_base.proofs.Lists.{length-bytes_of}
 use Rattle.iop_exec.specs.declared.position.Position.{Position}
 use Rattle.iop_exec.specs.declared.registers.Registers.{Registers}
 use Rattle.iop_exec.specs.Processors.{cpu_of, position_of, registers_of, standing_at}
 use Rattle.iop_kernel.specs.System.{is_active}
 use Rattle.iop_kernel.proofs.Placing.Basics.{clock_place}
 use Rattle.iop_kernel.specs.Standing.{HasNumber}
+use Rattle.iop_stubs.specs.Stubs.{access_place, Memory, store_lines}
 use Rattle.iop_time.specs.Timers.{Timers}
 use Rattle.iop_machine.specs.Advancing.{Reached, Advances}
 use Rattle.iop_machine.specs.Iop.{Iop, Transition, Takes, silent, with_state}
@@ -26,10 +27,10 @@ use Rattle.iop_machine.specs.Stepping.{performs, steps}
 use Rattle.iop_machine.specs.Storing.{Performs}
 use Rattle.iop_machine.specs.World.{World, booted}
 use Rattle.iop_machine.specs.declared.iop.Iop.{Iop as Program}
-use Rattle.iop_machine.proofs.Inside.{length-memory_after}
+use Rattle.iop_machine.proofs.Storing.{length-memory_after}
 use Rattle.iop_machine.proofs.Reaching.{reached_none, reached_more, advanced}
 use Rattle.iop_machine.proofs.Stepping.{IsNext, next_executes}
-use Rattle.iop_machine.proofs.Taking.{takes_with, takes_as, silent_then}
+use Rattle.iop_machine.proofs.StandingLemmas.{takes_with, takes_as, silent_then}
 
 -- the machine with this processor and this memory at a moment
 abbrev pub after : Iop → Cpu → Memory → ℕ → Iop
@@ -95,7 +96,7 @@ runs_with s memory h = record {
 }
 
 -- after a plain instruction nothing is to be done before those that are left
-pub keeps_running : (s : Iop) (cpu : Cpu) (memory : Memory) (left : ℕ) → 0 < left - 1
+keeps_running : (s : Iop) (cpu : Cpu) (memory : Memory) (left : ℕ) → 0 < left - 1
     → RunsFor s left → RunsFor (after s cpu memory (s.kernel.clock + 1)) (left - 1)
 keeps_running s cpu memory left some h = record {
   now = runs_with (moved s cpu (s.kernel.clock + 1)) memory
@@ -130,8 +131,8 @@ module _ (s : Iop) (cpu' : Cpu) (memory' : Memory) (b c : Output) where
       subst (λ (e : Event). Performed e (performs s (Goes next (Some storing)))) (sym h.0) (
         ap (λ x. after s x memory' (s.kernel.clock + 1)) h.1
             ∙ ap (λ x. after s next x (s.kernel.clock + 1)) h.2,
-        subst (λ n. Gives b c
-            (store_lines s.kernel.clock s.memory (access_place s.memory storing.at storing.width) n))
+        subst (λ n. Gives b c (store_lines s.kernel.clock s.memory
+            (access_place s.memory storing.at storing.width) n))
             (sym (length-bytes_of (width_bytes storing.width) storing.value)) h.3,
       )
   performed_by event (Serves code) h =
@@ -155,8 +156,8 @@ module _ (s : Iop) (cpu' : Cpu) (memory' : Memory) (b c : Output) where
   is_left (Service code) t other h = h
 
 -- an instruction leaves memory as long as it was
-pub length-performed : (r : Row) (event : Event) (clock : ℕ) (cpu cpu' : Cpu) (memory memory' : Memory)
-    (b c : Output) → Performs r event clock cpu memory b cpu' memory' c
+pub length-performed : (r : Row) (event : Event) (clock : ℕ) (cpu cpu' : Cpu)
+    (memory memory' : Memory) (b c : Output) → Performs r event clock cpu memory b cpu' memory' c
     → length memory'.ram ≡ length memory.ram
 length-performed (Goes after storing) event clock cpu cpu' memory memory' b c h =
     ap (λ (m : Memory). length m.ram) h.2 ∙ length-memory_after memory storing
@@ -175,10 +176,7 @@ pub bursts_first : (m : Program) (registers : Registers) (position : Position) (
     → Bursts (booted s) budget budget (held m (cpu_of registers position) m.guest clock) a a
 unfolding steps
 bursts_first m registers position clock budget a r p e well s h runs =
-    let same = ap (λ x. held m (cpu_of x position) m.guest clock) r
-    ∙ ap (λ x. held m (cpu_of (registers_of m.cpu) x) m.guest clock) p
-    ∙ ap (λ n. held m m.cpu m.guest n) e in
-    subst (λ x. Bursts (booted s) budget budget x a a) (sym same) (record {
+    rw (r, p, e) (record {
       taken = 0;
       reached = reached_none (booted s) budget m a a (refl, h) (gives_none a) well;
       runs = runs;
@@ -197,7 +195,8 @@ burst_runs m memory r bursts =
       before.runs.now.active,
     )
 
--- an instruction of the burst, and what it left of the processor, of memory and of what takes the lines
+-- an instruction of the burst, and what it left of the processor, of memory and of what takes the
+-- lines
 pub record Turn (w : World) (budget left : ℕ) (m : Program) (a b : Output) (event : Event)
     (cpu' : Cpu) (memory' : Memory) (c : Output) : Type 0 where
   pub bursts : Bursts w budget left m a b
@@ -227,8 +226,8 @@ module _ {w : World} {budget left : ℕ} {m : Program} {a b c : Output} {event :
   performs_now =
       let s = subst (λ (s : Iop). Performs (row s.memory.ram s.cpu) event m.kernel.clock s.cpu
       s.memory b cpu' memory' c) (sym stands.rest) turn.done in
-      subst (λ n. Performs (row before.memory.ram before.cpu) event n before.cpu before.memory b cpu'
-      memory' c) (sym stands.kernel.holds.clock) s
+      subst (λ n. Performs (row before.memory.ram before.cpu) event n before.cpu before.memory b
+      cpu' memory' c) (sym stands.kernel.holds.clock) s
 
   performed : Performed before cpu' memory' b c event executed
   performed =
@@ -282,7 +281,8 @@ module _ {w : World} {budget left : ℕ} {m : Program} {a b c : Output} {event :
   module _ {now : Program}
       (to : (s : Iop) → Stands m s → Stands now (after s cpu' memory' m.kernel.clock)) where
     now_stands : Stands now (settled before cpu' memory' b c)
-    now_stands = subst (λ n. Stands now (after before cpu' memory' n)) (sym stands.kernel.holds.clock)
+    now_stands =
+        subst (λ n. Stands now (after before cpu' memory' n)) (sym stands.kernel.holds.clock)
         (to before stands)
 
     -- an instruction that is not plain

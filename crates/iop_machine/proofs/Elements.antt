@@ -1,11 +1,20 @@
--- Elements of a list that pass a test, or do not.
-use Rattle.std.proofs.Common.{◌≡◌, ℕ, zero, suc, ◌<◌, Bool, true, false, cond, not, List, [], ◌∷◌, refl, arith, subst, inl, inr}
-use Rattle.std.specs.Prelude.{◌⊎◌, Contains, filter, map, slice_index_or}
+-- Elements of a list that pass a test, or do not, and what an option has.
+use Rattle.std.proofs.Common.{◌≡◌, ℕ, zero, suc, Bool, true, false, cond, not, Option, Some, None, is_some, List, [], ◌∷◌, Bor, refl, ap, sym, ◌∙◌, subst, arith, inl, inr}
+use Rattle.std.specs.List.{slice_get}
+use Rattle.std.specs.Slice.{IsItemAt}
+use Rattle.std.specs.Prelude.{◌⊎◌, option_copied, Contains, filter, map}
 use Rattle.std.proofs.lemmas.List.Elements.{Contains-append_right, Contains-append_cases}
+use Rattle.iop_base.proofs.Lists.{option_copied-item}
 
-only : {X : Type 0} (x y : X) (k : ℕ) → k < 1 → slice_index_or (y ∷ []) k x ≡ x → y ≡ x
-only x y zero lt e = e
-only x y (suc k) lt e = absurd (omega (arith, lt))
+-- what is there is some
+pub there : {X : Type 0} (o : Option X) → is_some o ≡ true → (x : X) × (o ≡ Some x)
+there None some = absurd (cc some)
+there (Some x) some = (x, refl)
+
+-- a list of one has that one
+pub only : {X : Type 0} {x y : X} → Contains (y ∷ []) x → y ≡ x
+only (zero, lt, is) = is
+only (suc k, lt, is) = absurd (omega (arith, lt))
 
 module _ {X Y : Type 0} (test : X → Bool) (f : X → Y) where
   head : (b : Bool) (y : X) (fails passes : List X)
@@ -32,7 +41,13 @@ module _ {X Y : Type 0} (test : X → Bool) (f : X → Y) where
       let passes = filter test ys in
       elim (Contains-append_cases (y ∷ []) ys x h) [
         | inl here ↦ subst (λ z. Contains (filter (λ z. not (test z)) (y ∷ ys)) z
-            ⊎ Contains (map f (filter test (y ∷ ys))) (f z)) (only x y here.0 here.1 here.2)
+            ⊎ Contains (map f (filter test (y ∷ ys))) (f z)) (only here)
             (head (test y) y fails passes)
         | inr there ↦ tail (test y) x y fails passes (fails_or_passes ys x there)
       ]
+
+-- the element that was looked up
+pub looked_up : {X : Type 0} {xs ys : List X} {i : ℕ} {r : Option (Bor X)} {x : Bor X} → ys ≡ xs
+    → IsItemAt ys i r → r ≡ Some x → slice_get xs i ≡ Some x.now
+looked_up {xs = xs} {ys} {i} {r} e lookup is =
+    ap (λ zs. slice_get zs i) (sym e) ∙ sym (option_copied-item ys i r lookup) ∙ ap option_copied is

@@ -1,11 +1,12 @@
 -- The script's events, as they are taken one by one in the order of their ticks.
-use Rattle.std.proofs.Common.{◌≡◌, ℕ, zero, suc, ◌+◌, ◌<◌, ◌≤◌, ◌^◌, min, Bool, true, false, cond, not, Some, List, [], ◌∷◌, length, drop, get_or, refl, ap, sym, ◌∙◌, arith, subst, inl, inr}
-use Rattle.std.specs.Prelude.{◌⊎◌, All, MatchOption, filter, map, fold}
+use Rattle.std.proofs.Common.{◌≡◌, ℕ, zero, suc, ◌+◌, ◌^◌, ◌<◌, ◌≤◌, min, Bool, true, false, cond, not, Some, List, [], ◌∷◌, length, drop, refl, ap, sym, ◌∙◌, subst, arith, inl, inr}
+use Rattle.std.specs.Prelude.{◌⊎◌, MatchOption, All, Contains, filter, map, fold}
 use Rattle.std.specs.List.{slice_get, list_any}
+use Rattle.std.proofs.lemmas.Bool.{cases_lt}
 use Rattle.std.proofs.lemmas.Bool.Decides.{nat_tests}
 use Rattle.std.proofs.Math.Seq.{drop-cons}
 use Rattle.std.proofs.lemmas.Option.{get_or_from_slice_get, slice_get_within}
-use Rattle.std.proofs.lemmas.List.Elements.{All-nil, All-cons, All-head, All-tail, All-filter}
+use Rattle.std.proofs.lemmas.List.Elements.{All-nil, All-cons, All-contains, All-head, All-tail, All-filter, Contains-append_right}
 use Rattle.std.proofs.lemmas.List.Filters.{length-filter_both}
 use Rattle.std.proofs.lemmas.List.Kept.{AllPairs-filter}
 use Rattle.iop_base.proofs.Lists.{filter-none_passes, filter-none_fails}
@@ -84,17 +85,12 @@ no_lines moment (event ∷ rest) none =
 -- an event that is due comes first, and its line is raised
 pub first_line : (moment : ℕ) (event : Raise) (rest : List Raise) → event.at ≤ moment
     → due_lines moment (event ∷ rest) ≡ event.line ∷ due_lines moment rest
-first_line moment event rest come =
-    ap (λ b. map (λ (e : Raise). e.line)
-    (cond b (event ∷ filter (is_due moment) rest) (filter (is_due moment) rest)))
-    (due moment event come)
+first_line moment event rest come = rw (due moment event come) refl
 
 -- it is not among those that are left
 first_left : (moment : ℕ) (event : Raise) (rest : List Raise) → event.at ≤ moment
     → left_events moment (event ∷ rest) ≡ left_events moment rest
-first_left moment event rest come =
-    ap (λ b. cond (not b) (event ∷ left_events moment rest) (left_events moment rest))
-    (due moment event come)
+first_left moment event rest come = rw (due moment event come) refl
 
 -- where the first is later, all are
 pub all_later : (moment : ℕ) (event : Raise) (rest : List Raise) → CanCome (event ∷ rest)
@@ -105,7 +101,7 @@ all_later moment event rest come later =
     (λ k d below. let other = behind k d below in omega arith)
 
 -- events of which the first was taken can come
-pub rest_comes : (event : Raise) (rest : List Raise) → CanCome (event ∷ rest) → CanCome rest
+rest_comes : (event : Raise) (rest : List Raise) → CanCome (event ∷ rest) → CanCome rest
 rest_comes event rest come = record {
   order = AllPairs-tail (λ (x y : Raise). x.at ≤ y.at) event rest come.order;
   ticks = All-tail (λ (e : Raise). e.at < 2 ^ 63) event rest come.ticks;
@@ -156,21 +152,22 @@ left_fewer moment (event ∷ rest) =
     fewer_by moment event rest (left_events moment rest) (is_due moment event) refl
     (left_few moment rest) (left_fewer moment rest)
 
--- the event at a place stands before those behind it
-pub event_at : (events : List Raise) (i : ℕ) (none : Raise) → i < length events
-    → drop i events ≡ get_or events i none ∷ drop (i + 1) events
-event_at events i none within =
-    let one : i + 1 ≡ suc i = omega arith in
-    drop-cons events i none within
-    ∙ ap (λ n. get_or events i none ∷ drop n events) (sym one)
+-- an event has this tick
+abbrev pub HasTick : List Raise → ℕ → Type 0
+HasTick events tick = (event : Raise) × Contains events event × (event.at ≡ tick)
+
+-- one of more events has it
+behind_has : (first : Raise) (events : List Raise) (tick : ℕ) → HasTick events tick
+    → HasTick (first ∷ events) tick
+behind_has first events tick (event, has, is) =
+    (event, Contains-append_right (first ∷ []) events event has, is)
 
 -- the least tick of a moment and of some events
 record IsEarliest (first : ℕ) (events : List Raise) (tick : ℕ) : Type 0 where
   is : fold earlier_with (Some first) events ≡ Some tick
+  has : (first ≡ tick) ⊎ HasTick events tick
   least : tick ≤ first
   all : All (λ e. tick ≤ e.at) events
-  later : (moment : ℕ) → moment < first → AreLater moment events → moment < tick
-  below : (bound : ℕ) → first < bound → All (λ e. e.at < bound) events → tick < bound
 
 -- it is found from the first event on
 earliest : (first : ℕ) (events : List Raise) → (tick : ℕ) × IsEarliest first events tick
@@ -178,52 +175,54 @@ earliest first [] = (
   first,
   record {
     is = refl;
+    has = inl refl;
     least = omega arith;
     all = All-nil (λ (e : Raise). first ≤ e.at);
-    later = λ moment lt all. lt;
-    below = λ bound lt all. lt;
   },
 )
 earliest first (event ∷ rest) =
-    let next = earliest (min first event.at) rest in
-    let h = next.1 in
-    let tick = next.0 in (
+    let (tick, h) = earliest (min first event.at) rest in (
       tick,
       record {
         is = h.is;
+        has = elim h.has [
+          | inl same ↦ from (cases_lt first event.at) same
+          | inr has ↦ inr (behind_has event rest tick has)
+        ];
         least = omega (arith, h.least);
         all = All-cons (λ (e : Raise). tick ≤ e.at) event rest (omega (arith, h.least)) h.all;
-        later = λ moment lt all.
-            let one = All-head (λ (e : Raise). moment < e.at) event rest all in
-            h.later moment (omega (arith, lt, one))
-            (All-tail (λ (e : Raise). moment < e.at) event rest all);
-        below = λ bound lt all.
-            h.below bound (omega (arith, lt))
-            (All-tail (λ (e : Raise). e.at < bound) event rest all);
       },
     )
+  where
+    from : {tick : ℕ} → (first < event.at) ⊎ (event.at ≤ first) → min first event.at ≡ tick
+        → (first ≡ tick) ⊎ HasTick (event ∷ rest) tick
+    from (inl before) same = inl (omega (arith, before, same))
+    from (inr behind) same = inr (event, (0, omega arith, refl), omega (arith, behind, same))
 
--- none has an earlier tick; it is later than what all are later than, and below what all are below
+-- an event has it, and none an earlier one
 pub record IsNextTick (events : List Raise) (tick : ℕ) : Type 0 where
+  pub has : HasTick events tick
   pub all : All (λ e. tick ≤ e.at) events
-  pub later : (moment : ℕ) → AreLater moment events → moment < tick
-  pub below : (bound : ℕ) → All (λ e. e.at < bound) events → tick < bound
+
+-- so what holds of all ticks holds of it
+pub of_next : (P : ℕ → Type 0) {events : List Raise} {tick : ℕ} → IsNextTick events tick
+    → All (λ e. P e.at) events → P tick
+of_next P {events} h all =
+    subst P h.has.2 (All-contains (λ (e : Raise). P e.at) events h.has.0 all h.has.1)
 
 -- the next tick is such a one
 pub next_tick_is : (events : List Raise)
     → MatchOption (next_tick events) (events ≡ []) (IsNextTick events)
 next_tick_is [] = refl
 next_tick_is (event ∷ rest) =
-    let h = earliest event.at rest in
-    let tick = h.0 in
-    subst (λ o. MatchOption o (event ∷ rest ≡ []) (IsNextTick (event ∷ rest))) (sym h.1.is)
+    let (tick, h) = earliest event.at rest in
+    subst (λ o. MatchOption o (event ∷ rest ≡ []) (IsNextTick (event ∷ rest))) (sym h.is)
     (record {
-      all = All-cons (λ (e : Raise). tick ≤ e.at) event rest h.1.least h.1.all;
-      later = λ moment all. h.1.later moment
-          (All-head (λ (e : Raise). moment < e.at) event rest all)
-          (All-tail (λ (e : Raise). moment < e.at) event rest all);
-      below = λ bound all. h.1.below bound (All-head (λ (e : Raise). e.at < bound) event rest all)
-          (All-tail (λ (e : Raise). e.at < bound) event rest all);
+      has = elim h.has [
+        | inl same ↦ (event, (0, omega arith, refl), same)
+        | inr has ↦ behind_has event rest tick has
+      ];
+      all = All-cons (λ (e : Raise). tick ≤ e.at) event rest h.least h.all;
     })
 
 -- in the order of their ticks it is that of the first

@@ -1,20 +1,19 @@
 -- The script's events that are due raise their interrupt lines, and change nothing else.
-use mathlib.Core.Logic.{◌⊎◌, inl, inr}
-use Rattle.std.proofs.Common.{◌≡◌, ◌≢◌, ℕ, zero, suc, ◌<◌, ◌≤◌, true, List, [], ◌∷◌, length, refl, ap, sym, ◌∙◌, arith, subst}
+use mathlib.Core.Logic.{inl, inr}
+use Rattle.std.proofs.Common.{◌≡◌, ◌≢◌, ℕ, zero, suc, ◌<◌, ◌≤◌, true, List, [], ◌∷◌, length, refl, ap, sym, ◌∙◌, subst, arith}
 use Rattle.std.specs.Prelude.{All, Contains, filter, slice_index_or}
-use Rattle.std.proofs.Math.ListN.{length-set, get_or-eq_default}
-use Rattle.std.proofs.lemmas.Bool.{cases_eq, cases_lt}
+use Rattle.std.proofs.Math.ListN.{length-set}
 use Rattle.std.proofs.lemmas.Bool.Decides.{nat_tests}
-use Rattle.std.proofs.lemmas.List.{get_or-set_same, get_or-set_other}
+use Rattle.std.proofs.lemmas.List.{get_or-set_other}
 use Rattle.std.proofs.lemmas.List.Elements.{All-contains, All-contains_itself, All-filter, All-head, All-map, All-tail, Contains-append_cases, filter_passes}
 use Rattle.iop_intr.specs.InterruptLines.{IrqLine, idle, line_of, raising}
+use Rattle.iop_kernel.specs.System.{Kernel}
 use Rattle.iop_script.specs.declared.raise.Raise.{Raise}
 use Rattle.iop_machine.specs.EventLaws.{RaisesLines, EventsRaiseTheirLines}
 use Rattle.iop_machine.specs.Events.{is_due, due_lines, left_events}
-use Rattle.iop_kernel.specs.System.{Kernel}
 use Rattle.iop_machine.specs.Iop.{Iop}
 use Rattle.iop_machine.specs.Looking.{takes_events}
-use Rattle.iop_machine.proofs.Elements.{fails_or_passes}
+use Rattle.iop_machine.proofs.Elements.{only, fails_or_passes}
 use Rattle.iop_machine.proofs.EventLemmas.{left_later}
 use Rattle.iop_machine.proofs.LookingLemmas.{taken_irqs, taken_kernel}
 use Rattle.iop_machine.proofs.Raising.{raising_all}
@@ -23,51 +22,29 @@ use Rattle.iop_machine.proofs.Raising.{raising_all}
 abbrev raised_line : List IrqLine → (l n : ℕ) → IrqLine
 raised_line irqs l n = line_of (raising irqs l) n
 
--- it is as it was, or it was raised itself
-abbrev StaysOrRises : List IrqLine → (l n : ℕ) → Type 0
-StaysOrRises irqs l n =
-    (raised_line irqs l n ≡ line_of irqs n)
-    ⊎ ((n ≡ l) × (raised_line irqs l n ≡ record (line_of irqs n) { raised = true }))
+-- but for whether it is raised it is as it was
+rises_alone : (irqs : List IrqLine) (l n : ℕ)
+    → raised_line irqs l n ≡ record (line_of irqs n) { raised = (raised_line irqs l n).raised }
+rises_alone [] l n = refl
+rises_alone (x ∷ xs) zero zero = refl
+rises_alone (x ∷ xs) zero (suc n) = refl
+rises_alone (x ∷ xs) (suc l) zero = refl
+rises_alone (x ∷ xs) (suc l) (suc n) = rises_alone xs l n
 
-module _ (irqs : List IrqLine) (l : ℕ) where
-  -- the line itself, by whether there is one of its number
-  itself : (l < length irqs) ⊎ (length irqs ≤ l) → StaysOrRises irqs l l
-  itself (inl within) = inr (refl, get_or-set_same irqs l _ idle within)
-  itself (inr past) =
-      let still : length (raising irqs l) ≤ l = omega (arith, past, length-set irqs l (record (line_of irqs l) { raised = true })) in
-      inl (get_or-eq_default (raising irqs l) idle still ∙ sym (get_or-eq_default irqs idle past))
+-- one that is raised stays so
+stays_raised : (irqs : List IrqLine) (l n : ℕ) → (line_of irqs n).raised ≡ true
+    → (raised_line irqs l n).raised ≡ true
+stays_raised [] l n h = h
+stays_raised (x ∷ xs) zero zero h = refl
+stays_raised (x ∷ xs) zero (suc n) h = h
+stays_raised (x ∷ xs) (suc l) zero h = h
+stays_raised (x ∷ xs) (suc l) (suc n) h = stays_raised xs l n h
 
-  -- each line, by whether it is that one
-  stays_by : (n : ℕ) → (n ≡ l) ⊎ (n ≢ l) → StaysOrRises irqs l n
-  stays_by n (inl same) =
-      subst (StaysOrRises irqs l) (sym same) (itself (cases_lt l (length irqs)))
-  stays_by n (inr other) = inl (get_or-set_other irqs l n _ idle other)
-
-  stays_or_rises : (n : ℕ) → StaysOrRises irqs l n
-  stays_or_rises n = stays_by n (cases_eq n l)
-
-  -- but for whether it is raised it is as it was
-  rises_alone : (n : ℕ)
-      → raised_line irqs l n ≡ record (line_of irqs n) { raised = (raised_line irqs l n).raised }
-  rises_alone n = elim (stays_or_rises n) [
-    | inl same ↦ subst (λ (x : IrqLine). x ≡ record (line_of irqs n) { raised = x.raised })
-        (sym same) refl
-    | inr rises ↦ subst (λ (x : IrqLine). x ≡ record (line_of irqs n) { raised = x.raised })
-        (sym rises.1) refl
-  ]
-
-  -- one that is raised stays so
-  stays_raised : (n : ℕ) → (line_of irqs n).raised ≡ true → (raised_line irqs l n).raised ≡ true
-  stays_raised n h = elim (stays_or_rises n) [
-    | inl same ↦ ap (λ (x : IrqLine). x.raised) same ∙ h
-    | inr rises ↦ ap (λ (x : IrqLine). x.raised) rises.1
-  ]
-
-  -- that one is raised, where there is one of its number
-  rises : l < length irqs → (raised_line irqs l l).raised ≡ true
-  rises within =
-      ap (λ (x : IrqLine). x.raised)
-      (get_or-set_same irqs l (record (line_of irqs l) { raised = true }) idle within)
+-- that one is raised, where there is one of its number
+rises : (irqs : List IrqLine) (l : ℕ) → l < length irqs → (raised_line irqs l l).raised ≡ true
+rises [] l within = absurd (omega (arith, within))
+rises (x ∷ xs) zero within = refl
+rises (x ∷ xs) (suc l) within = rises xs l (omega (arith, within))
 
 -- and so over several lines
 rise_alone : (irqs : List IrqLine) (lines : List ℕ) (n : ℕ)
@@ -79,11 +56,13 @@ rise_alone irqs (l ∷ rest) n =
     rise_alone (raising irqs l) rest n
     ∙ ap (λ (x : IrqLine). record x { raised = new.raised }) (rises_alone irqs l n)
 
+-- a line that is raised stays so
 stay_raised : (irqs : List IrqLine) (lines : List ℕ) (n : ℕ) → (line_of irqs n).raised ≡ true
     → (line_of (raising_all irqs lines) n).raised ≡ true
 stay_raised irqs [] n h = h
 stay_raised irqs (l ∷ rest) n h = stay_raised (raising irqs l) rest n (stays_raised irqs l n h)
 
+-- a line that is none of them stays as it is
 others_stay : (irqs : List IrqLine) (lines : List ℕ) (n : ℕ) → All (λ l. l ≢ n) lines
     → line_of (raising_all irqs lines) n ≡ line_of irqs n
 others_stay irqs [] n none = refl
@@ -92,29 +71,20 @@ others_stay irqs (l ∷ rest) n none =
     others_stay (raising irqs l) rest n (All-tail (λ l. l ≢ n) l rest none)
     ∙ get_or-set_other irqs l n _ idle (λ same. other (sym same))
 
--- by whether it is the first of them
-all_rise_by : (irqs : List IrqLine) (l : ℕ) (rest : List ℕ) (n : ℕ) → n < length irqs
-    → Contains (l ∷ []) n ⊎ Contains rest n
-    → (Contains rest n → (line_of (raising_all (raising irqs l) rest) n).raised ≡ true)
-    → (line_of (raising_all (raising irqs l) rest) n).raised ≡ true
-all_rise_by irqs l rest n within (inl here) later =
-    let same : l ≡ n = only here in
-    stay_raised (raising irqs l) rest n
-    (subst (λ k. (raised_line irqs l k).raised ≡ true) same
-    (rises irqs l (omega (arith, within, same))))
-  where
-    only : Contains (l ∷ []) n → l ≡ n
-    only (zero, lt, is) = is
-    only (suc k, lt, is) = absurd (omega (arith, lt))
-all_rise_by irqs l rest n within (inr there) later = later there
-
+-- each of them is raised then
 all_rise : (irqs : List IrqLine) (lines : List ℕ) (n : ℕ) → n < length irqs → Contains lines n
     → (line_of (raising_all irqs lines) n).raised ≡ true
 all_rise irqs [] n within has = absurd (omega (arith, has.1))
-all_rise irqs (l ∷ rest) n within has =
-    all_rise_by irqs l rest n within (Contains-append_cases (l ∷ []) rest n has)
-    (λ there. all_rise (raising irqs l) rest n
-    (omega (arith, within, length-set irqs l (record (line_of irqs l) { raised = true }))) there)
+all_rise irqs (l ∷ rest) n within has = elim (Contains-append_cases (l ∷ []) rest n has) [
+  | inl here ↦
+      let same : l ≡ n = only here in
+      stay_raised (raising irqs l) rest n
+      (subst (λ k. (raised_line irqs l k).raised ≡ true) same
+      (rises irqs l (omega (arith, within, same))))
+  | inr there ↦
+      let all = length-set irqs l (record (line_of irqs l) { raised = true }) in
+      all_rise (raising irqs l) rest n (omega (arith, within, all)) there
+]
 
 module _ (s : Iop) where
   -- the line of an event that is due is one of those

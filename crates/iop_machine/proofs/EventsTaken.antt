@@ -1,21 +1,47 @@
 -- Each event of the script is taken once, in the first step at its tick or behind it.
-use Rattle.std.proofs.Common.{◌≡◌, ℕ, zero, suc, ◌<◌, false, None, List, refl, ap, sym, ◌∙◌, arith, subst, ◌≤◌}
-use Rattle.std.proofs.lemmas.List.Elements.{All-contains}
-use Rattle.std.specs.Prelude.{Contains}
+use Rattle.std.proofs.Common.{◌≡◌, ℕ, zero, suc, ◌<◌, ◌≤◌, true, false, not, None, List, refl, ap, sym, ◌∙◌, subst, arith, inl, inr}
+use Rattle.std.proofs.lemmas.List.Elements.{All-contains, All-contains_itself, All-filter, filter_passes}
+use Rattle.std.specs.Prelude.{Contains, filter}
+use Rattle.std.proofs.lemmas.Bool.Decides.{nat_tests}
+use Rattle.std.proofs.lemmas.List.{map-id}
 use Rattle.iop_kernel.specs.Laws.{IsCore}
 use Rattle.iop_script.specs.declared.raise.Raise.{Raise}
 use Rattle.iop_machine.specs.EventLaws.{StepsTakeTheirEvents}
-use Rattle.iop_machine.specs.Events.{left_events}
+use Rattle.iop_machine.specs.Events.{left_events, is_due}
 use Rattle.iop_machine.specs.Iop.{Iop, Transition, core_of}
 use Rattle.iop_machine.specs.Laws.{RunsKeepEvents}
 use Rattle.iop_machine.specs.Stepping.{step, steps, Turn, Stays, Boots, turn_of}
 use Rattle.iop_machine.specs.World.{World, beginning}
 use Rattle.iop_machine.proofs.EventLemmas.{left_later}
-use Rattle.iop_machine.proofs.EventsLeft.{left_stood, later_stands}
-use Rattle.iop_machine.proofs.KeepingEvents.{events_after, turn_events}
-use Rattle.iop_machine.proofs.KeepingMachine.{begins_as_core, step_core}
-use Rattle.iop_machine.proofs.Rising.{step_rises}
+use Rattle.iop_machine.proofs.LoadingLands.{events_after, turn_events}
+use Rattle.iop_machine.proofs.KeepingMachine.{begins_as_core}
+use Rattle.iop_machine.proofs.Moving.{step_moves}
 use Rattle.iop_machine.proofs.Stepping.{IsTurn, stopped, unbooted, turn_is, step_is}
+use Rattle.iop_machine.proofs.Elements.{fails_or_passes}
+
+-- one that is left stood before
+left_stood : (moment : ℕ) (events : List Raise) (event : Raise)
+    → Contains (left_events moment events) event → Contains events event
+left_stood moment events event has =
+    let is_left = λ (e : Raise). not (is_due moment e) in
+    All-contains (Contains events) (left_events moment events) event
+    (All-filter is_left (Contains events) events (All-contains_itself events)) has
+
+-- and one that is later is left
+later_stands : (moment : ℕ) (events : List Raise) (event : Raise) → Contains events event
+    → moment < event.at → Contains (left_events moment events) event
+later_stands moment events event has later =
+    let due = filter (is_due moment) events in
+    elim (fails_or_passes (is_due moment) (λ (e : Raise). e) events event has) [
+      | inl stands ↦ stands
+      | inr passes ↦ absurd (not_due event later
+          (All-contains (λ e. is_due moment e ≡ true) due event
+          (filter_passes (is_due moment) events)
+          (subst (λ (es : List Raise). Contains es event) (map-id due) passes)))
+    ]
+  where
+    not_due : (e : Raise) → moment < e.at → is_due moment e ≡ true → ⊥
+    not_due e after is = grind (arith, nat_tests)
 
 module _ (events : List Raise) where
   -- the events that are left are events of the script, and those of later ticks are among them
@@ -53,9 +79,11 @@ module _ (events : List Raise) where
       stood_by Boots event has = has
       stood_by other event has = left_stood w.iop.kernel.clock w.iop.events event has
 
+  -- each step leaves them so
   step_leaves : (w : World) → Leaves w.iop → Leaves (step w).state.iop
   step_leaves w h =
-      turn_leaves w (turn_of w) h (step_rises w h.core) (step_core w h.core)
+      let moves = step_moves w h.core in
+      turn_leaves w (turn_of w) h moves.rises moves.core
       (ap (λ (t : Transition World). t.state.iop.events) (step_is w)
       ∙ turn_events w (turn_of w))
 

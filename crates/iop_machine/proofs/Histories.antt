@@ -8,11 +8,12 @@ use Rattle.iop_exec.specs.Laws.{IsSteady, cpu_after}
 use Rattle.iop_exec.specs.Row.{Row, Goes, Serves, Faults, at_next, row}
 use Rattle.iop_exec.specs.declared.cpu.Cpu.{Cpu}
 use Rattle.iop_kernel.proofs.Histories.Counts.{services_count}
-use Rattle.iop_kernel.proofs.Histories.CountedHistories.{IsHistory, longer, history_grows}
+use Rattle.iop_kernel.proofs.Histories.CountedHistories.{IsHistory, history_grows}
+use Rattle.iop_kernel.proofs.Histories.Telling.{longer}
 use Rattle.iop_kernel.proofs.Order.First.{deliveries_are_in_order}
 use Rattle.iop_kernel.proofs.Histories.Messages.{services_deliver}
 use Rattle.iop_kernel.proofs.Histories.DeliveredHistories.{IsDeliveryHistory, delivery_history_grows}
-use Rattle.iop_kernel.proofs.Keeping.Faults.{services_alone}
+use Rattle.iop_kernel.proofs.Keeping.Outcomes.{services_alone}
 use Rattle.iop_kernel.specs.Histories.{Called, called}
 use Rattle.iop_kernel.specs.Laws.{IsCore}
 use Rattle.iop_kernel.specs.Serving.{services}
@@ -34,7 +35,7 @@ use Rattle.iop_machine.specs.World.{World, beginning}
 use Rattle.iop_machine.proofs.Landing.{runs_stay_sound}
 use Rattle.iop_machine.proofs.LoadingLands.{boots_leave, returns_leave}
 use Rattle.iop_machine.proofs.LookingLemmas.{taken_kernel}
-use Rattle.iop_machine.proofs.Moving.{moves_with, takes_move}
+use Rattle.iop_machine.proofs.Moving.{moves_with, takes_core}
 use Rattle.iop_machine.proofs.Raising.{dispatch_kernel}
 use Rattle.iop_machine.proofs.Stepping.{IsTurn, stopped, unbooted, delivery, dispatch, execution, waiting, turn_is}
 
@@ -108,32 +109,25 @@ serves_grow s code core history h = record {
       (services_deliver s code (omega (arith, core.steady.registers)) core.overdue) h.mailboxes;
 }
 
--- a `syscall`
-calls_grow : (s : Iop) (behind : Cpu) (code : ℕ) → IsCore (core_of (record s { cpu = behind }))
-    → Grows s.kernel (calls s behind code).state.kernel
-    (called (system_of (record s { cpu = behind })) code)
-unfolding calls
-calls_grow s behind code core history h =
-    let system = system_of (record s { cpu = behind }) in
-    let d = services system code in
-    told_so (longer history (called system code))
-    (calls_by_same s behind d d.left.after (services_alone system code))
-    (serves_grow system code core history h)
-
 -- the clock goes on to a moment, if one comes
 waits_same : (s : Iop) (o : Option ℕ) → SameObjects s.kernel (waits_by s o).state.kernel
 waits_same s None = refl
 waits_same s (Some moment) = refl
 
-module _ (s : Iop) (core : IsCore (core_of s)) where
-  -- an instruction of the thread that runs, or of a handler
-  performs_grow : (r : Row) → (IsSteady s.cpu → IsSteady (cpu_after s.cpu r))
-      → Grows s.kernel (performs s r).state.kernel (call_at s r)
-  performs_grow (Goes after None) moved = stays refl
-  performs_grow (Goes after (Some storing)) moved = stays refl
-  performs_grow (Serves code) moved =
-      calls_grow s (at_next s.cpu) code (moves_with s (at_next s.cpu) moved core)
-  performs_grow (Faults kind) moved = stays refl
+-- an instruction of the thread that runs, or of a handler
+performs_grow : (s : Iop) → IsCore (core_of s) → (r : Row)
+    → (IsSteady s.cpu → IsSteady (cpu_after s.cpu r))
+    → Grows s.kernel (performs s r).state.kernel (call_at s r)
+unfolding calls
+performs_grow s core (Goes after None) moved = stays refl
+performs_grow s core (Goes after (Some storing)) moved = stays refl
+performs_grow s core (Serves code) moved = λ history h.
+    let system = system_of (record s { cpu = at_next s.cpu }) in
+    let d = services system code in
+    told_so (longer history (called system code))
+    (calls_by_same s (at_next s.cpu) d d.left.after (services_alone system code))
+    (serves_grow system code (moves_with s (at_next s.cpu) moved core) history h)
+performs_grow s core (Faults kind) moved = stays refl
 
 -- the events that are due change interrupt lines alone
 taken_same : (s : Iop) {new : Semaphores × Mailboxes} → new ≡ objects (takes_events s).kernel
@@ -148,13 +142,13 @@ turn_grows w core (stopped stop over) = stays refl
 turn_grows w core (unbooted over new) = stays (ap objects (boots_leave w.iop).kernel)
 turn_grows w core (delivery d goes is) =
     let keeps = deliveries_are_in_order.delivered (core_of (takes_events w.iop)) d
-    ((takes_move w.iop).core core) is in
+    (takes_core w.iop core) is in
     stays (taken_same w.iop (ap objects keeps.kernel))
 turn_grows w core (dispatch d goes none is) =
     stays (taken_same w.iop (ap objects (dispatch_kernel (core_of (takes_events w.iop)) d is)))
 turn_grows w core (execution goes looks) = λ history h.
     let v = takes_events w.iop in
-    performs_grow v ((takes_move w.iop).core core) (row v.memory.ram v.cpu)
+    performs_grow v (takes_core w.iop core) (row v.memory.ram v.cpu)
     (rows_stay_steady v.memory.ram v.cpu) history
     (told_so history (taken_same w.iop refl) h)
 turn_grows w core (waiting goes looks) =

@@ -7,7 +7,6 @@ use Rattle.iop_base.specs.Places.{phys}
 use Rattle.iop_base.specs.declared.code.Code.{Code}
 use Rattle.iop_base.specs.declared.line.Line.{Line}
 use Rattle.iop_base.specs.declared.line.Line.TheVariants.{Load, Refused}
-use Rattle.iop_exec.specs.declared.cpu.Cpu.{Cpu}
 use Rattle.iop_exec.specs.Row.{Row, Goes, Serves, Faults, Storing, at_next}
 use Rattle.iop_kernel.specs.Laws.{Store, after_stores, stores_lines, Writes, ServiceKeeps}
 use Rattle.iop_kernel.specs.Serving.{services}
@@ -33,10 +32,10 @@ use Rattle.iop_machine.specs.Storing.{stores_bytes, fills}
 use Rattle.iop_machine.specs.declared.arguments.TheConstants.{ARGUMENTS, ARGUMENTS_LEN}
 use Rattle.iop_machine.specs.declared.begun_module.BegunModule.{BegunModule}
 use Rattle.iop_machine.proofs.Elements.{fails_or_passes}
-use Rattle.iop_machine.proofs.Inside.{LiesInside, LieInside, range_by, number_inside, first_inside, others_inside, length-after_store}
+use Rattle.iop_machine.proofs.Storing.{LiesInside, LieInside, range_by, number_inside, first_inside, others_inside, length-after_store}
 
--- what stays of memory at a moment, which has these blocks then, where these pieces were given and these
--- stubs bound
+-- what stays of memory at a moment, which has these blocks then, where these pieces were given and
+-- these stubs bound
 pub record Stays (clock : ℕ) (old new : Memory) (blocks : BlockMap) (pieces : List Piece)
     (bound : List Stub) : Type 0 where
   pub whole : HasBlocks new blocks
@@ -90,6 +89,7 @@ stays_stores s at bytes =
     stays_store s.kernel.clock s.memory s.blocks _ bytes
     (λ p e. range_by (phys size at) size at (length bytes) p refl e)
 
+-- the number that an instruction stores
 stays_number : (s : Iop) (storing : Storing) → HasBlocks s.memory s.blocks
     → Keeps s (stores_it s (Some storing))
 stays_number s storing =
@@ -100,7 +100,9 @@ stays_number s storing =
 module _ {clock : ℕ} {a b c : Memory} {between blocks : BlockMap} {first second : List Piece}
     {new newer : List Stub} (g : Stays clock a b between first new)
     (h : Stays clock b c blocks second newer) where
-  live_then : (stub : Stub) → Contains c.live stub → Contains a.live stub ⊎ Contains (new ++ newer) stub
+  -- each stub that is live was so before both, or was bound
+  live_then : (stub : Stub) → Contains c.live stub
+      → Contains a.live stub ⊎ Contains (new ++ newer) stub
   live_then stub x = elim (h.live stub x) [
     | inl there ↦ elim (g.live stub there) [
       | inl old ↦ inl old
@@ -117,6 +119,7 @@ module _ {clock : ℕ} {a b c : Memory} {between blocks : BlockMap} {first secon
     | inr told ↦ inr (Contains-append_right first second _ told)
   ]
 
+  -- from the state before both
   line_old : (stub : Stub) → Contains a.live stub ⊎ Contains new stub
       → Contains c.live stub ⊎ Contains (first ++ second) (stub_line clock stub)
   line_old stub x = elim (g.line stub x) [
@@ -124,6 +127,7 @@ module _ {clock : ℕ} {a b c : Memory} {between blocks : BlockMap} {first secon
     | inr told ↦ inr (Contains-append_left first second _ told)
   ]
 
+  -- each stub that was live or was bound is live, or its line was given
   line_then : (stub : Stub) → Contains a.live stub ⊎ Contains (new ++ newer) stub
       → Contains c.live stub ⊎ Contains (first ++ second) (stub_line clock stub)
   line_then stub (inl old) = line_old stub (inl old)
@@ -132,7 +136,8 @@ module _ {clock : ℕ} {a b c : Memory} {between blocks : BlockMap} {first secon
     | inr one ↦ line_from stub (inr one)
   ]
 
-  pub stays_then : Stays clock a c blocks (first ++ second) (new ++ newer)
+  -- both keep it
+  stays_then : Stays clock a c blocks (first ++ second) (new ++ newer)
   stays_then = record { whole = h.whole; live = live_then; line = line_then }
 
 -- a loading or a finishing
@@ -157,9 +162,10 @@ passes_keeps s block h =
 
 -- a line, and then a transition
 told : (s : Iop) (line : Line) (t : Transition Iop) → HasBlocks s.memory s.blocks → Keeps s t
-    → Stays s.kernel.clock s.memory t.state.memory t.state.blocks ((tells s line).pieces ++ t.pieces)
-    t.bound
-told s line t h keeps = stays_then (same s.kernel.clock s.memory s.blocks (tells s line).pieces h) keeps
+    → Stays s.kernel.clock s.memory t.state.memory t.state.blocks
+    ((tells s line).pieces ++ t.pieces) t.bound
+told s line t h keeps =
+    stays_then (same s.kernel.clock s.memory s.blocks (tells s line).pieces h) keeps
 
 -- by what the loading came to, where the next one keeps it
 enters_keeps : (next : Iop → Transition Iop)
@@ -194,11 +200,12 @@ pub starts_keep : {clock : ℕ} {old : Memory} {pieces : List Piece} {bound : Li
 starts_keep s None h = h
 starts_keep s (Some begun) h = h
 
--- a module returns
-ends_keep : (s : Iop) (m : BegunModule) (value : ℕ) → HasBlocks s.memory s.blocks
-    → Keeps s (ends_module s m value)
+-- the loader's thread returned, by whether a module had begun
+returns_keep : (s : Iop) (o : Option BegunModule) (value : ℕ) → HasBlocks s.memory s.blocks
+    → Keeps s (returns_by s o value)
 unfolding ends_module
-ends_keep s m value h =
+returns_keep s None value h = same s.kernel.clock s.memory s.blocks [] h
+returns_keep s (Some m) value h =
     let left = (leaves s
     (finishes s.kernel.clock s.memory s.blocks s.libraries m.number m.loaded value)).state in
     let now = (loads_first s.modules left).state in
@@ -206,19 +213,14 @@ ends_keep s m value h =
     m.loaded value) in
     goes_on_keeps now now.begun (stays_then ended (loads_first_keeps s.modules left ended.whole))
 
--- the loader's thread returned
-returns_keep : (s : Iop) (o : Option BegunModule) (value : ℕ) → HasBlocks s.memory s.blocks
-    → Keeps s (returns_by s o value)
-returns_keep s None value h = same s.kernel.clock s.memory s.blocks [] h
-returns_keep s (Some m) value h = ends_keep s m value h
-
 -- several stores, one after the other
 stays_stored : (clock : ℕ) (old : Memory) (blocks : BlockMap) (stores : List Store)
     → LieInside old stores → HasBlocks old blocks
     → Stays clock old (after_stores old stores) blocks (stores_lines clock old stores) []
 stays_stored clock old blocks [] inside h = same clock old blocks [] h
 stays_stored clock old blocks (x ∷ xs) inside h =
-    let first = stays_store clock old blocks (Some x.place) x.bytes (first_inside old x xs inside) h in
+    let first = stays_store clock old blocks (Some x.place) x.bytes
+    (first_inside old x xs inside) h in
     stays_then first (stays_stored clock (after_store old (Some x.place) x.bytes) blocks xs
     (others_inside old x xs inside) first.whole)
 
@@ -257,27 +259,23 @@ calls_by_keep s d served clock h Switch = served
 calls_by_keep s d served clock h (ModuleReturned value) =
     let now = (serves s d).state in
     let t = returns_by now now.begun value in
-    stays_then served (subst (λ k. Stays k now.memory t.state.memory t.state.blocks t.pieces t.bound)
-    clock (returns_keep now now.begun value served.whole))
+    stays_then served
+    (subst (λ k. Stays k now.memory t.state.memory t.state.blocks t.pieces t.bound) clock
+    (returns_keep now now.begun value served.whole))
 calls_by_keep s d served clock h (Fault kind) = same s.kernel.clock s.memory s.blocks [] h
 
--- a `syscall` of what executes
-calls_keep : (s : Iop) (behind : Cpu) (code : ℕ) → is_active s.kernel ≡ true
-    → HasBlocks s.memory s.blocks → Keeps s (calls s behind code)
-unfolding calls
-calls_keep s behind code active h =
-    let system = system_of (record s { cpu = behind }) in
-    let kept = services_keep system code active in
-    let d = services system code in
-    calls_by_keep s d (serves_keep system d kept h) kept.clock h d.left.after
-
--- an instruction of it
+-- an instruction of what executes
 pub performs_keeps : (s : Iop) (r : Row) → is_active s.kernel ≡ true → HasBlocks s.memory s.blocks
     → Keeps s (performs s r)
+unfolding calls
 performs_keeps s (Goes after None) active h = same s.kernel.clock s.memory s.blocks [] h
 performs_keeps s (Goes after (Some storing)) active h =
     stays_number (record s { cpu = after }) storing h
-performs_keeps s (Serves code) active h = calls_keep s (at_next s.cpu) code active h
+performs_keeps s (Serves code) active h =
+    let system = system_of (record s { cpu = at_next s.cpu }) in
+    let kept = services_keep system code active in
+    let d = services system code in
+    calls_by_keep s d (serves_keep system d kept h) kept.clock h d.left.after
 performs_keeps s (Faults kind) active h = same s.kernel.clock s.memory s.blocks [] h
 
 -- the clock goes on

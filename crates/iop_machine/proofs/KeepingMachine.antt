@@ -1,15 +1,11 @@
--- A machine stays one over its steps.
-use Rattle.std.proofs.Common.{◌≡◌, inl, inr, ℕ, zero, suc, ◌<◌, true, Option, Some, None, List, [], length, All, refl, ap, sym, ◌∙◌, arith, subst, ◌≤◌, IfSome}
+-- A machine stays one over its steps, which take the clock on.
+use Rattle.std.proofs.Common.{◌≡◌, ℕ, zero, suc, ◌+◌, ◌-◌, ◌^◌, ◌<◌, ◌≤◌, max, true, List, [], All, length, refl, ap, sym, ◌∙◌, subst, arith, inl, inr}
 use Rattle.std.proofs.lemmas.List.Elements.{All-nil}
 use Rattle.iop_base.proofs.Memory.{length-with_bytes}
 use Rattle.iop_base.specs.Places.{IsRamSize}
-use Rattle.iop_exec.proofs.RowKeeps.{rows_stay_steady}
 use Rattle.iop_exec.specs.Row.{row}
-use Rattle.iop_kernel.proofs.Order.First.{deliveries_are_in_order}
 use Rattle.iop_kernel.proofs.Keeping.Steps.{opening_core}
-use Rattle.iop_kernel.proofs.Order.Strict.{dispatches_are_strict}
 use Rattle.iop_kernel.specs.Laws.{IsCore}
-use Rattle.iop_kernel.specs.System.{Kernel}
 use Rattle.iop_modload.specs.Laws.{HasBlocks}
 use Rattle.iop_script.specs.declared.raise.Raise.{Raise}
 use Rattle.iop_stubs.specs.Binding.{IsBound}
@@ -24,17 +20,14 @@ use Rattle.iop_machine.specs.Laws.{IsMachine}
 use Rattle.iop_machine.specs.Loading.{with_kernel, loads_first, boots}
 use Rattle.iop_machine.specs.Looking.{takes_events, next_coming}
 use Rattle.iop_machine.specs.Modules.{Module}
-use Rattle.iop_machine.specs.Stepping.{step, steps, Turn, Stays as StaysTurn, Boots, turn_of, takes_turn, performs, waits_by}
+use Rattle.iop_machine.specs.Stepping.{step, steps, executed, Turn, Stays as StaysTurn, Boots, turn_of, takes_turn, performs, waits_by}
 use Rattle.iop_machine.specs.World.{World, reset, beginning, zeros}
-use Rattle.iop_machine.proofs.Area.{length-zeros}
-use Rattle.iop_machine.proofs.AreaLemmas.{length-kernel_area}
-use Rattle.iop_machine.proofs.Coming.{IsBetween, coming_later}
+use Rattle.iop_machine.proofs.Area.{length-zeros, length-kernel_area}
 use Rattle.iop_machine.proofs.EventLemmas.{left_comes}
 use Rattle.iop_machine.proofs.Keeping.{Stays, Keeps, same, loads_first_keeps, starts_keep, performs_keeps, waits_keep}
-use Rattle.iop_machine.proofs.KeepingEvents.{events_after, turn_events}
-use Rattle.iop_machine.proofs.LookingLemmas.{taken_clock, taken_active}
-use Rattle.iop_machine.proofs.Moving.{AreNumbered, boots_stand, takes_move, performs_move, waits_core, waits_numbered, delivery_numbers}
-use Rattle.iop_machine.proofs.Raising.{dispatch_kernel}
+use Rattle.iop_machine.proofs.LoadingLands.{events_after, turn_events}
+use Rattle.iop_machine.proofs.LookingLemmas.{taken_clock}
+use Rattle.iop_machine.proofs.Moving.{step_moves}
 use Rattle.iop_machine.proofs.Stepping.{IsTurn, stopped, unbooted, delivery, dispatch, execution, waiting, turn_is}
 
 -- memory behind the kernel's area
@@ -91,30 +84,7 @@ pub record StepKeeps (w : World) (t : Transition World) : Type 0 where
   pub stays : StaysOver w t
   pub holds : Holds t.state
 
--- a turn keeps what holds of the kernel
-turn_core : (w : World) {t : Turn} → IsCore (core_of w.iop) → IsTurn w t
-    → IsCore (core_of (takes_turn w t).state.iop)
-turn_core w core (stopped stop over) = core
-turn_core w core (unbooted over new) = (boots_stand w.iop).core core
-turn_core w core (delivery d goes is) =
-    (deliveries_are_in_order.delivered (core_of (takes_events w.iop)) d
-    ((takes_move w.iop).core core) is).core
-turn_core w core (dispatch d goes none is) =
-    (dispatches_are_strict.dispatched (core_of (takes_events w.iop)) d
-    ((takes_move w.iop).core core) is).core
-turn_core w core (execution goes looks) =
-    let v = takes_events w.iop in
-    (performs_move v (row v.memory.ram v.cpu) looks.active_is
-    (rows_stay_steady v.memory.ram v.cpu)).core ((takes_move w.iop).core core)
-turn_core w core (waiting goes looks) =
-    waits_core (takes_events w.iop) (next_coming (takes_events w.iop))
-    ((takes_move w.iop).core core)
-
-pub step_core : (w : World) → IsCore (core_of w.iop) → IsCore (core_of (step w).state.iop)
-unfolding step
-step_core w core = turn_core w core (turn_is w)
-
--- and memory with its blocks
+-- a turn keeps memory with its blocks
 turn_stays : (w : World) {t : Turn} → Holds w → IsTurn w t → StaysOver w (takes_turn w t)
 turn_stays w h (stopped stop over) = same w.iop.kernel.clock w.iop.memory w.iop.blocks [] h.whole
 turn_stays w h (unbooted over new) = boots_keep w.iop h.whole (h.none_live new)
@@ -147,7 +117,7 @@ step_keeps w h =
       holds = record {
         whole = stays.whole;
         none_live = turn_none w (turn_of w) h.none_live;
-        core = turn_core w h.core (turn_is w);
+        core = (step_moves w h.core).core;
       };
     }
 
@@ -157,45 +127,8 @@ turn_comes w StaysTurn come = come
 turn_comes w Boots come = come
 turn_comes w other come = left_comes w.iop.kernel.clock w.iop.events come
 
--- and each alarm and each delay took an instruction
-turn_numbers : (w : World) {t : Turn} → IsMachine w → IsTurn w t
-    → AreNumbered (takes_turn w t).state.iop.kernel
-turn_numbers w machine (stopped stop over) = machine.numbers
-turn_numbers w machine (unbooted over new) =
-    let stands = boots_stand w.iop in
-    let next = stands.next in
-    let clock = stands.clock in
-    let numbers = machine.numbers in
-    omega (arith, next, clock, numbers)
-turn_numbers w machine (delivery d goes is) =
-    let v = takes_events w.iop in
-    let moved = takes_move w.iop in
-    let kept = deliveries_are_in_order.delivered (core_of v) d (moved.core machine.core) is in
-    let clock = ap (λ (k : Kernel). k.clock) kept.kernel in
-    let same = delivery_numbers (core_of v) d kept.first in
-    let numbers = moved.numbers machine.numbers in
-    omega (arith, numbers, clock, same)
-turn_numbers w machine (dispatch d goes none is) =
-    subst AreNumbered (sym (dispatch_kernel (core_of (takes_events w.iop)) d is))
-    ((takes_move w.iop).numbers machine.numbers)
-turn_numbers w machine (execution goes looks) =
-    let v = takes_events w.iop in
-    (performs_move v (row v.memory.ram v.cpu) looks.active_is
-    (rows_stay_steady v.memory.ram v.cpu)).numbers ((takes_move w.iop).numbers machine.numbers)
-turn_numbers w machine (waiting goes looks) =
-    let v = takes_events w.iop in
-    waits_numbered v (next_coming v)
-    (no_earlier _ _ (next_coming v)
-    (coming_later w machine looks.delivery_is (sym (taken_active w.iop) ∙ looks.active_is)))
-    ((takes_move w.iop).numbers machine.numbers)
-  where
-    no_earlier : (low high : ℕ) (o : Option ℕ) → IfSome o (IsBetween low high)
-        → IfSome o (λ moment. low ≤ moment)
-    no_earlier low high None h = h
-    no_earlier low high (Some moment) h = let later = h.0 in omega (arith, later)
-
 -- each step keeps a machine
-keeps_machine : (w : World) → IsMachine w → IsMachine (step w).state
+pub keeps_machine : (w : World) → IsMachine w → IsMachine (step w).state
 unfolding step
 keeps_machine w machine =
     let holds = (step_keeps w (holds_of machine)).holds in
@@ -203,14 +136,10 @@ keeps_machine w machine =
       whole = holds.whole;
       none_live = holds.none_live;
       core = holds.core;
-      numbers = turn_numbers w machine (turn_is w);
+      numbers = (step_moves w machine.core).numbers machine.numbers;
       events = subst CanCome (sym (turn_events w (turn_of w)))
           (turn_comes w (turn_of w) machine.events);
     }
-
--- also one that is not stopped
-pub step_keeps_machine : (w : World) → IsMachine w → w.iop.over ≡ None → IsMachine (step w).state
-step_keeps_machine w machine over = keeps_machine w machine
 
 -- so do all steps
 pub steps_keep_machine : (w : World) (k : ℕ) → IsMachine w → IsMachine (steps k w).state
@@ -219,11 +148,34 @@ steps_keep_machine w zero machine = machine
 steps_keep_machine w (suc k) machine =
     keeps_machine (steps k w).state (steps_keep_machine w k machine)
 
+-- the clock is not put back, and goes on by so many ticks at most, or up to the last moment that
+-- comes
+pub record GoesTo (old ticks new : ℕ) : Type 0 where
+  pub rises : old ≤ new
+  pub latest : max new (2 ^ 63 - 1) ≤ max old (2 ^ 63 - 1) + ticks
+
+-- so many steps take it on by one tick for each instruction
+pub steps_clock : (w : World) (k : ℕ) → IsMachine w
+    → GoesTo w.iop.kernel.clock (executed k w) (steps k w).state.iop.kernel.clock
+unfolding steps executed
+steps_clock w zero machine = record { rises = omega arith; latest = omega arith }
+steps_clock w (suc k) machine =
+    let v = (steps k w).state in
+    let before = steps_clock w k machine in
+    let now = steps_keep_machine w k machine in
+    let next = step_moves v now.core in
+    let latest = next.latest now.events in
+    record {
+      rises = omega (arith, before.rises, next.rises);
+      latest = omega (arith, before.latest, latest);
+    }
+
 -- the block of the kernel alone is used
 kernel_blocks : (size : ℕ) → IsRamSize size → AreBlocks (reset size [] []).blocks
 kernel_blocks size sized =
     let behind = behind_area size sized in
-    let first : (i : ℕ) → i < 1 → block_of (reset size [] []).blocks i ≡ KERNEL = kernel_first size in
+    let first : (i : ℕ) → i < 1 → block_of (reset size [] []).blocks i ≡ KERNEL =
+    kernel_first size in
     record {
       some = omega arith;
       kernel = refl;

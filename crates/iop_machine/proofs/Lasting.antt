@@ -9,13 +9,12 @@ use Rattle.iop_machine.specs.Running.{Ends, GoesOn, GoesOnFor}
 use Rattle.iop_machine.specs.Stepping.{step, steps, executes, executed, stop_at, stops_by, Ran, ran_by, run_within, run_of, most_between, most_steps}
 use Rattle.iop_machine.specs.World.{World}
 use Rattle.iop_machine.specs.Iop.{Transition, silent, and_then}
-use Rattle.iop_machine.proofs.Composing.{steps_more, steps_front, executed_front}
-use Rattle.iop_machine.proofs.GoingOn.{one_left, within, at_shift, goes_on_with, goes_on_both}
-use Rattle.iop_machine.proofs.KeepingMachine.{step_keeps_machine, steps_keep_machine}
+use Rattle.iop_machine.proofs.Composing.{steps_more, steps_front, executed_front, one_left, within, at_shift, goes_on_with, goes_on_both}
+use Rattle.iop_machine.proofs.KeepingMachine.{keeps_machine, steps_keep_machine}
 use Rattle.iop_machine.proofs.Reaching.{not_over}
 use Rattle.iop_machine.proofs.Rests.{rest, rest_few}
 use Rattle.iop_machine.proofs.Resting.{rest_step}
-use Rattle.iop_machine.proofs.Stepping.{step_over}
+use Rattle.iop_machine.proofs.Stepping.{step_over, stop_over}
 
 over_steps : (w : World) (k : ℕ) (stop : Stop) → w.iop.over ≡ Some stop → steps k w ≡ silent w
 unfolding steps
@@ -28,15 +27,17 @@ over_steps w (suc k) stop e =
       bound = [] ++ d.bound;
     }) (step_over w stop e)
 
-over_ends : (w : World) (n : ℕ) (stop : Stop) → w.iop.over ≡ Some stop → Ends w n 0 stop
-unfolding steps
-over_ends w n stop e = record {
-  before = λ j lt. absurd (omega (arith, lt));
-  now = ap (λ o. stops_by o (executes w) (n - executed 0 w)) e;
-}
+-- at the first step all is left
+at_first : (w : World) (n : ℕ) → stop_at (steps 0 w).state (n - executed 0 w) ≡ stop_at w n
+unfolding steps executed
+at_first w n = let all : n - 0 ≡ n = omega arith in ap (stop_at w) all
+
+ends_now : (w : World) (n : ℕ) (stop : Stop) → stop_at w n ≡ Some stop → Ends w n 0 stop
+ends_now w n stop e =
+    record { before = λ j lt. absurd (omega (arith, lt)); now = at_first w n ∙ e }
 
 pub over_stays : OverStays
-over_stays = λ w n k stop e. (over_ends w n stop e, over_steps w k stop e)
+over_stays = λ w n k stop e. (ends_now w n stop (stop_over w n stop e), over_steps w k stop e)
 
 not_before : (w : World) (n k j : ℕ) (a b : Stop) → Ends w n k a → Ends w n j b → k < j → ⊥
 not_before w n k j a b p q lt = let x = p.now in let y = q.before k lt in cc (x, y)
@@ -60,12 +61,12 @@ at_end None true (suc l) stop e = cc
 compose_over : (w : World) (n m k j : ℕ) (a b : Stop) → Ends w n k a → Ends (steps k w).state m j b
     → (steps k w).state.iop.over ≡ Some a → Ends w (n + m) (k + j) b
 compose_over w n m k j a b p q o =
-    let same = runs_are_determined (steps k w).state m j 0 b a q (over_ends (steps k w).state m a o)
-    in
+    let v = (steps k w).state in
+    let same = runs_are_determined v m j 0 b a q (ends_now v m a (stop_over v m a o)) in
     let sum : k ≡ k + j = omega (arith, same.0) in
     let here : Ends w (n + m) k a = record {
       before = goes_on_with w n m k p.before;
-      now = ap (λ x. stops_by x (executes (steps k w).state) (n + m - executed k w)) o;
+      now = stop_over v (n + m - executed k w) a o;
     } in
     subst (λ i. Ends w (n + m) i b) sum (subst (Ends w (n + m) k) (sym same.1) here)
 
@@ -93,14 +94,6 @@ goes_later w n j =
     ∙ sym (ap (λ (d : Transition World). stop_at d.state (n - executed (suc j) w))
     (steps_front w j))
 
-first_goes : (w : World) (n : ℕ) → GoesOn w n 0 → stop_at w n ≡ None
-unfolding steps executed
-first_goes w n h = let e : n ≡ n - 0 = omega arith in ap (stop_at w) e ∙ h
-
-first_stops : (w : World) (n : ℕ) (stop : Stop) → Ends w n 0 stop → stop_at w n ≡ Some stop
-unfolding steps executed
-first_stops w n stop h = let e : n ≡ n - 0 = omega arith in ap (stop_at w) e ∙ h.now
-
 ends_later : (w : World) (n k : ℕ) (stop : Stop) → Ends w n (suc k) stop
     → Ends (step w).state (n - one_if (executes w)) k stop
 ends_later w n k stop h = record {
@@ -115,17 +108,17 @@ unfolding run_within steps
 computed_at zero w n k stop h lt = absurd (omega (arith, lt))
 computed_at (suc f) w n zero stop h lt =
     ap (λ o. ran_by o w (run_within f (n - one_if (executes w)) (step w).state))
-    (first_stops w n stop h)
+    (sym (at_first w n) ∙ h.now)
 computed_at (suc f) w n (suc k) stop h lt =
     ap (λ o. ran_by o w (run_within f (n - one_if (executes w)) (step w).state))
-    (first_goes w n (h.before 0 (omega arith)))
+    (sym (at_first w n) ∙ h.before 0 (omega arith))
     ∙ ap (ran_by None w) (computed_at f (step w).state (n - one_if (executes w)) k stop
     (ends_later w n k stop h) (omega (arith, lt)))
     ∙ sym (ap (λ (d : Transition World). record { world = d.state; pieces = d.pieces; stop = stop })
     (steps_front w k))
 
 -- the steps without an instruction are few
-pub few_steps : (w : World) (n k : ℕ) → IsMachine w → GoesOnFor w n k
+few_steps : (w : World) (n k : ℕ) → IsMachine w → GoesOnFor w n k
     → k + rest (steps k w).state ≤ (most_between + 1) * executed k w + rest w
 unfolding steps executed
 few_steps w n zero machine f = omega arith
@@ -135,6 +128,7 @@ few_steps w n (suc k) machine f =
     let next = rest_step v (steps_keep_machine w k machine) (not_over v _ (f k (omega arith))) in
     omega (arith, so_far, next)
 
+-- so a run ends within so many steps
 ends_soon : (w : World) (n k : ℕ) (stop : Stop) → IsMachine w → Ends w n k stop
     → k < most_steps n w
 ends_soon w n k stop machine h =
@@ -150,26 +144,19 @@ unfolding run_of
 runs_are_computed = λ w n k stop machine h.
     computed_at (most_steps n w) w n k stop h (ends_soon w n k stop machine h)
 
-ends_now : (w : World) (n : ℕ) (stop : Stop) → stop_at w n ≡ Some stop → Ends w n 0 stop
-unfolding steps executed
-ends_now w n stop e =
-    let same : n - 0 ≡ n = omega arith in
-    record { before = λ j lt. absurd (omega (arith, lt)); now = ap (stop_at w) same ∙ e }
-
-goes_first : (w : World) (n : ℕ) → stop_at w n ≡ None → GoesOn w n 0
-unfolding steps executed
-goes_first w n e = let same : n - 0 ≡ n = omega arith in ap (stop_at w) same ∙ e
-
+-- a run that goes on behind a step goes on with it
 before_cons : (w : World) (n k : ℕ) → stop_at w n ≡ None
     → GoesOnFor (step w).state (n - one_if (executes w)) k → (j : ℕ) → j < suc k → GoesOn w n j
-before_cons w n k e f zero lt = goes_first w n e
+before_cons w n k e f zero lt = at_first w n ∙ e
 before_cons w n k e f (suc j) lt = sym (goes_later w n j) ∙ f j (omega (arith, lt))
 
+-- and it ends one step later
 ends_cons : (w : World) (n k : ℕ) (stop : Stop) → stop_at w n ≡ None
     → Ends (step w).state (n - one_if (executes w)) k stop → Ends w n (suc k) stop
 ends_cons w n k stop e h =
     record { before = before_cons w n k e h.before; now = sym (goes_later w n k) ∙ h.now }
 
+-- where a run ends, and how
 record Ending (w : World) (n : ℕ) : Type 0 where
   k : ℕ
   stop : Stop
@@ -189,7 +176,7 @@ any_by f less w n machine None e lt =
     let over = not_over w n e in
     let next = rest_step w machine over in
     let one = one_left _ _ _ e in
-    let h = less (step w).state (n - one_if (executes w)) (step_keeps_machine w machine over)
+    let h = less (step w).state (n - one_if (executes w)) (keeps_machine w machine)
     (omega (arith, lt, next, one)) in
     record { k = suc h.k; stop = h.stop; ends = ends_cons w n h.k h.stop e h.ends }
 

@@ -1,5 +1,5 @@
 -- How the machine begins, and how its modules come into memory.
-use Rattle.std.proofs.Common.{◌≡◌, ℕ, suc, true, false, Option, Some, None, Result, Ok, Err, List, [], ◌∷◌, length, drop, get_or, replicate, refl, ap, sym, ◌∙◌, subst}
+use Rattle.std.proofs.Common.{◌≡◌, ℕ, suc, true, false, Some, None, Result, Ok, Err, List, [], ◌∷◌, length, drop, get_or, replicate, refl, ap, sym, ◌∙◌, subst}
 use Rattle.std.specs.Prelude.{is_some}
 use Rattle.std.specs.List.{slice_get}
 use Rattle.iop_base.specs.Numbers.{with_bytes}
@@ -7,6 +7,7 @@ use Rattle.iop_base.specs.Output.{Output, Gives}
 use Rattle.iop_base.specs.declared.code.Code.{Code}
 use Rattle.iop_base.specs.declared.line.Line.TheVariants.{Refused}
 use Rattle.iop_exec.specs.declared.cpu.Cpu.{Cpu}
+use Rattle.iop_kernel.proofs.Order.Nothing.{none_of}
 use Rattle.iop_kernel.specs.Standing as kernel
 use Rattle.iop_kernel.specs.System.{Kernel}
 use Rattle.iop_kernel.specs.declared.kernel.Kernel.{Kernel as Kernels}
@@ -28,8 +29,8 @@ use Rattle.iop_machine.specs.Standing.{iop_of, Stands}
 use Rattle.iop_machine.specs.World.{reset, zeros}
 use Rattle.iop_machine.specs.declared.begun_module.BegunModule.{BegunModule}
 use Rattle.iop_machine.specs.declared.iop.Iop.{Iop as Program}
-use Rattle.iop_machine.proofs.StandingLemmas.{IsMoment, carried, stands_for}
-use Rattle.iop_machine.proofs.Taking.{silent_takes, silent_then, takes_as, takes_then, takes_with}
+use Rattle.iop_machine.proofs.Elements.{there}
+use Rattle.iop_machine.proofs.StandingLemmas.{IsMoment, carried, stands_for, silent_takes, silent_then, takes_as, takes_then, takes_with}
 
 -- what is 0 everywhere is zeros
 zeros_are : (xs : List ℕ) → ((p : ℕ) → get_or xs p 0 ≡ 0) → xs ≡ replicate (length xs) 0
@@ -60,15 +61,10 @@ pub record IsReset (n : ℕ) (m : Program) : Type 0 where
 -- it stands for the machine as it begins
 pub reset_stands : (n : ℕ) (m : Program) → IsReset n m → Stands m (reset n m.modules m.events)
 reset_stands n m h =
-    let start = reset n m.modules m.events in
+    let memory = zero_memory n m.guest h.zero h.none h.sized in
     record {
       kernel = h.kernel;
-      rest = ap (λ (x : Memory). record start { memory = x }) (sym (zero_memory n m.guest h.zero h.none h.sized))
-          ∙ ap (λ (x : Cpu). record start { memory = m.guest; cpu = x }) (sym h.cpu)
-          ∙ ap (λ (x : BlockMap). record start { memory = m.guest; cpu = m.cpu; blocks = x }) (sym h.map)
-          ∙ ap (λ x. record (iop_of m start.kernel) { libraries = x; begun = None; over = None }) (sym h.registry)
-          ∙ ap (λ (x : Option BegunModule). record (iop_of m start.kernel) { begun = x; over = None }) (sym h.begun)
-          ∙ ap (λ x. record (iop_of m start.kernel) { over = x }) (sym h.over);
+      rest = rw (memory, h.cpu, h.map, h.registry, h.begun, h.over) refl;
     }
 
 -- a module begins
@@ -129,29 +125,24 @@ module _ (m : Program) (t : ℕ) (first : Module) where
         → Takes Stands (places s (drop 1 s.modules) (loading_of s first)) placed a b
 
   -- as the clauses of the calls say it
-  pub places_as : {a b : Output} (answer : Result Loaded Code) (memory : Memory) (blocks : BlockMap)
-      (modules : List Module) → IsMoment m t → Some first ≡ slice_get m.modules 0
+  pub places_as : {a b : Output} {answer : Result Loaded Code} {memory : Memory} {blocks : BlockMap}
+      {modules : List Module} → IsMoment m t → Some first ≡ slice_get m.modules 0
       → answer ≡ loading.answer → memory ≡ loading.memory → blocks ≡ loading.blocks
       → Gives a b loading.pieces → modules ≡ drop 1 m.modules
       → Places answer (record m { guest = memory; blocks = blocks; modules = modules }) a b
-  places_as {a} {b} answer memory blocks modules moment is_first answer_is e f lines rest =
+  places_as {a} {b} {answer} {memory} {blocks} {modules} moment is_first answer_is e f lines rest =
       let placed = record m { guest = memory; blocks = blocks; modules = modules } in
       record {
         moment = moment;
         is_first = is_first;
         answer_is = answer_is;
-        takes = carried m (λ s. Takes Stands (places s (drop 1 s.modules) (loading_of s first)) placed a b)
-            (λ k h. subst (λ u. Takes Stands
-            (places (iop_of m k) (drop 1 m.modules) (loads u m.guest m.blocks m.registry first.file))
-            placed a b) (moment k h) (record {
+        takes = carried m
+            (λ s. Takes Stands (places s (drop 1 s.modules) (loading_of s first)) placed a b)
+            (λ k h. subst (λ u. Takes Stands (places (iop_of m k) (drop 1 m.modules)
+            (loads u m.guest m.blocks m.registry first.file)) placed a b) (moment k h) (record {
               state = record {
                 kernel = h;
-                rest = ap (λ (x : Memory). record (iop_of m k)
-                    { memory = x; blocks = loading.blocks; modules = drop 1 m.modules }) (sym e)
-                    ∙ ap (λ (x : BlockMap). record (iop_of m k)
-                    { memory = memory; blocks = x; modules = drop 1 m.modules }) (sym f)
-                    ∙ ap (λ (x : List Module). record (iop_of m k)
-                    { memory = memory; blocks = blocks; modules = x }) (sym rest);
+                rest = rw (e, f, rest) refl;
               };
               gives = lines;
             }));
@@ -172,7 +163,8 @@ module _ (m : Program) (t : ℕ) (first : Module) where
         → Stands m s → Takes Stands (follows s r) new b d
         → Takes Stands (loads_first s.modules s) new a d
     then_by r is new d =
-        carried m (λ s. Takes Stands (follows s r) new b d → Takes Stands (loads_first s.modules s) new a d)
+        carried m
+        (λ s. Takes Stands (follows s r) new b d → Takes Stands (loads_first s.modules s) new a d)
         (λ k stands rest.
         let s = iop_of m k in
         let same : r ≡ (loading_of s first).answer = sym is ∙ h.answer_is
@@ -196,7 +188,8 @@ module _ (m : Program) (t : ℕ) (first : Module) where
 
     -- it was told to be refused, and the next ones remain
     pub refused_remains : {c : Output} (code : Code) → answer ≡ Err code
-        → ((v : Iop) → Stands placed v → Takes Stands (tells v (Refused first.number code)) placed b c)
+        → ((v : Iop) → Stands placed v
+        → Takes Stands (tells v (Refused first.number code)) placed b c)
         → (s : Iop) → Stands m s
         → (v : Iop) × Stands placed v
         × Remains Stands (loads_first s.modules s) (loads_first v.modules v) a c
@@ -226,22 +219,16 @@ pub stands_started : (m : Program) (new : Kernels (List Entry))
     → is_some m.begun ≡ true → (s : Iop) → Stands m s
     → Stands (record m { kernel = new }) (starts_by s s.begun)
 stands_started m new g some =
-    carried m (λ s. Stands (record m { kernel = new }) (starts_by s s.begun))
-    (λ k h. by m.begun some k h)
-  where
-    by : (o : Option BegunModule) → is_some o ≡ true → (k : Kernel) → kernel.Stands StandsFor m.kernel k
-        → Stands (record m { kernel = new }) (starts_by (iop_of m k) o)
-    by None e k h = absurd (cc e)
-    by (Some begun) e k h = record { kernel = g k h; rest = refl }
+    carried m (λ s. Stands (record m { kernel = new }) (starts_by s s.begun)) (λ k h.
+    subst (λ o. Stands (record m { kernel = new }) (starts_by (iop_of m k) o))
+    (sym (there m.begun some).1) (record { kernel = g k h; rest = refl }))
 
 -- there is no module for which it would be
 pub stands_unstarted : (m : Program) → is_some m.begun ≡ false → (s : Iop) → Stands m s
     → Stands m (starts_by s s.begun)
-stands_unstarted m none s h = by s.begun (ap (λ (x : Iop). is_some x.begun) h.rest ∙ none)
-  where
-    by : (o : Option BegunModule) → is_some o ≡ false → Stands m (starts_by s o)
-    by None e = h
-    by (Some begun) e = absurd (cc e)
+stands_unstarted m none s h =
+    subst (λ o. Stands m (starts_by s o))
+    (sym (ap (λ (x : Iop). x.begun) h.rest ∙ none_of m.begun none)) h
 
 -- the kernel's area was written, and then the first module that loads begins
 pub boots_takes : (m : Program) {a b c : Output} {loaded : Program} (memory : Memory)

@@ -1,5 +1,5 @@
 -- The script's events that are due, once they were taken.
-use Rattle.std.proofs.Common.{◌≡◌, ℕ, ◌≤◌, true, false, Bool, Some, None, List, [], ◌∷◌, ap, sym, ◌∙◌, subst}
+use Rattle.std.proofs.Common.{◌≡◌, ℕ, ◌≤◌, true, false, Bool, Some, None, List, [], ◌∷◌, refl, ap, sym, ◌∙◌, subst}
 use Rattle.std.specs.Prelude.{is_some, option_map}
 use Rattle.iop_intr.specs.InterruptLines.{IrqLine}
 use Rattle.iop_kernel.specs.Deliveries.{raises, delivers}
@@ -22,12 +22,7 @@ use Rattle.iop_machine.proofs.Raising.{raising_all, raises_are, raised, raised_i
 -- where no event is due nothing is taken
 pub takes_none : (s : Iop) → AreLater s.kernel.clock s.events → takes_events s ≡ s
 takes_none s later =
-    ap (λ lines. record s {
-      kernel = raises_all s.kernel lines;
-      events = left_events s.kernel.clock s.events;
-    }) (later_lines s.kernel.clock s.events later)
-    ∙ ap (λ (events : List Raise). record s { events = events })
-    (later_left s.kernel.clock s.events later)
+    rw (later_lines s.kernel.clock s.events later, later_left s.kernel.clock s.events later) refl
 
 module _ (s : Iop) where
   -- the interrupt lines behind it
@@ -71,25 +66,12 @@ module _ (s : Iop) where
       ≡ with_core (takes_events s) (dispatched_with taken_irqs d).core
   takes_dispatched d is =
       let kernel = dispatch_kernel (core_of s) d is in
-      let clock = ap (λ (k : Kernel). k.clock) kernel in
-      let irqs = ap (λ (k : Kernel). k.irqs) kernel in
-      let now = with_core s d.core in
-      ap (λ (k : Kernel). record now {
-        kernel = k;
-        events = left_events d.core.kernel.clock s.events;
-      }) (raises_are d.core.kernel (due_lines d.core.kernel.clock s.events))
-      ∙ ap (λ n. record now {
-        kernel = record d.core.kernel {
-          irqs = raising_all d.core.kernel.irqs (due_lines n s.events);
-        };
-        events = left_events n s.events;
-      }) clock
-      ∙ ap (λ (lines : List IrqLine). record now {
-        kernel = record d.core.kernel {
-          irqs = raising_all lines (due_lines s.kernel.clock s.events);
-        };
-        events = left_events s.kernel.clock s.events;
-      }) irqs
+      let lines = due_lines s.kernel.clock s.events in
+      let left = λ (k : Kernel).
+      record (with_core s d.core) { kernel = k; events = left_events s.kernel.clock s.events } in
+      ap (λ (k : Kernel). takes_events (with_core s (record d.core { kernel = k }))) kernel
+      ∙ ap left (raises_are (record s.kernel { threads = d.core.kernel.threads }) lines)
+      ∙ ap (λ (k : Kernel). left (record k { irqs = taken_irqs })) (sym kernel)
 
 -- an event that is due was taken, and its line is raised: what is to be taken in all is the same
 module _ {m : Program} {now line : ℕ} (events : List Raise) (clock : m.kernel.clock ≡ now) where

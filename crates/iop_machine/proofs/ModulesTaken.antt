@@ -2,20 +2,20 @@
 use Rattle.std.proofs.Common.{◌≡◌, ℕ, zero, suc, ◌+◌, Some, List, [], ◌∷◌, drop, refl, ap, sym, ◌∙◌, arith, subst}
 use Rattle.std.specs.Prelude.{All, option_map}
 use Rattle.std.specs.List.{slice_get}
+use Rattle.std.proofs.lemmas.Option.{get_or_from_slice_get, slice_get_within}
 use Rattle.iop_script.specs.Scripts.{Args, words_for}
 use Rattle.iop_machine.specs.Modules.{NamedFile, Module, HasRoom, modules_from}
 use Rattle.iop_machine.specs.ModulesLeft.{modules_left, module_of}
 use Rattle.iop_machine.specs.declared.modules_left.Next.{Next}
-use Rattle.std.proofs.lemmas.Option.{get_or_from_slice_get, slice_get_within}
 use Rattle.iop_machine.specs.declared.modules_left.ModulesLeft.TheInside.{Inside}
 
 -- the module of a file
-abbrev pub module_at : List Args → ℕ → NamedFile → Module
+abbrev module_at : List Args → ℕ → NamedFile → Module
 module_at args number first = record
     { number = number; words = first.name ∷ words_for args number; file = first.file }
 
 -- the first module is that of the first file
-pub first_module : (args : List Args) (taken number : ℕ) (files : List NamedFile)
+first_module : (args : List Args) (taken number : ℕ) (files : List NamedFile)
     → slice_get (modules_from args number (drop taken files)) 0
     ≡ option_map (module_at args number) (slice_get files taken)
 first_module args zero number [] = refl
@@ -29,7 +29,7 @@ rest_modules args number [] = refl
 rest_modules args number (first ∷ rest) = refl
 
 -- one module less is left
-pub modules_after : (args : List Args) (taken number : ℕ) (files : List NamedFile)
+modules_after : (args : List Args) (taken number : ℕ) (files : List NamedFile)
     → modules_from args (suc number) (drop (suc taken) files)
     ≡ drop 1 (modules_from args number (drop taken files))
 modules_after args zero number files = rest_modules args number files
@@ -53,14 +53,14 @@ pub next_is : (w : Inside) (file : NamedFile) (next : Next)
 next_is w file next at n a b f =
     let args = w.args.items in
     let one : next.number ≡ suc w.taken = omega (arith, n) in
-    ap (λ x. Some (record { number = next.number; words = x ∷ next.words.now; file = next.file.now })) a
-    ∙ ap (λ x. Some (record { number = next.number; words = file.name ∷ x; file = next.file.now })) b
-    ∙ ap (λ x. Some (record { number = next.number; words = file.name ∷ words_for args next.number; file = x })) f
-    ∙ ap (λ x. Some (module_at args x file)) one
+    rw (a, b, f)
+    (ap (λ x. Some (module_at args x file)) one
     ∙ sym (first_module args w.taken (suc w.taken) w.modules.items
-    ∙ ap (option_map (module_at args (suc w.taken))) at)
+    ∙ ap (option_map (module_at args (suc w.taken))) at))
 
+-- it has room
 pub has_room : (w : Inside) (m : Module) → All HasRoom (modules_left w)
     → Some m ≡ slice_get (modules_left w) 0 → HasRoom m
 has_room w m h e =
-    subst HasRoom (get_or_from_slice_get (modules_left w) 0 m m (sym e)) (h 0 m (slice_get_within (modules_left w) 0 m (sym e)))
+    subst HasRoom (get_or_from_slice_get (modules_left w) 0 m m (sym e))
+    (h 0 m (slice_get_within (modules_left w) 0 m (sym e)))

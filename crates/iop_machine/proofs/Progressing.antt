@@ -17,10 +17,9 @@ use Rattle.iop_machine.specs.declared.machine.Machine.{Machine}
 use Rattle.iop_machine.specs.declared.progress.Progress.{Progress}
 use Rattle.iop_machine.specs.declared.progress.Progress.TheVariants.{Stopped, Advanced}
 use Rattle.iop_machine.proofs.Advancing.{progresses_as, then_advances, then_stops}
-use Rattle.iop_machine.proofs.Bounding.{calls_left, few_turns, is_less}
-use Rattle.iop_machine.proofs.KeepingMachine.{steps_keep_machine}
+use Rattle.iop_machine.proofs.CallsLeft.{calls_left, few_turns, is_less}
+use Rattle.iop_machine.proofs.KeepingMachine.{steps_keep_machine, steps_clock}
 use Rattle.iop_machine.proofs.LoadingLands.{boots_leave}
-use Rattle.iop_machine.proofs.Timing.{steps_clock}
 
 -- what the booted machine does of a run, the whole machine does
 pub progresses_booted : (m : Machine) (new : Program) (p : Progress) (budget : ℕ) (a b : Output)
@@ -30,7 +29,8 @@ pub progresses_booted : (m : Machine) (new : Program) (p : Progress) (budget : �
 progresses_booted m new p budget a b old w h progresses =
     let is : w ≡ booted w.iop = ap (λ x. record { is_new = x; iop = w.iop }) (h.is_new ∙ old) in
     progresses_as StandsBooted StandsForWorld new (record { is_new = m.is_new; iop = new })
-    (λ v k. record { is_new = ap (λ (x : World). x.is_new) k.0 ∙ sym old; iop = k.1 }) w budget a b p
+    (λ v k. record { is_new = ap (λ (x : World). x.is_new) k.0 ∙ sym old; iop = k.1 })
+    w budget a b p
     (subst (λ (x : World). Progresses StandsBooted p x budget new a b) (sym is) progresses)
 
 module _ {w : World} {most i budget : ℕ} {now : Machine} {a b : Output}

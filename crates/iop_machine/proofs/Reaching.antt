@@ -94,4 +94,5 @@ module _ {P : Type 0} {stands_for : P → World → Type 0} where
       → Advances stands_for w budget 0 budget new a b
   unfolding steps
   one_step {w} {budget} {t} {new} {a} {b} now stands well next h =
-      advanced (reached_none w budget now a a stands (gives_none a) well) budget (omega arith) next h
+      advanced (reached_none w budget now a a stands (gives_none a) well) budget
+      (omega arith) next h

@@ -1,17 +1,17 @@
 -- How many steps execute no instruction at most, if no more instruction is executed.
 use Rattle.std.proofs.Common.{◌≡◌, ℕ, ◌+◌, ◌*◌, ◌<◌, ◌≤◌, Bool, true, false, not, Option, Some, None, length, refl, ap, sym, ◌∙◌, arith, subst}
 use Rattle.std.specs.Prelude.{is_some}
-use Rattle.iop_base.specs.Numbers.{one_if}
 use Rattle.iop_base.specs.declared.stop.Stop.{Stop}
 use Rattle.iop_kernel.specs.Deliveries.{delivers}
 use Rattle.iop_kernel.specs.Dispatching.{dispatches}
-use Rattle.iop_kernel.specs.System.{Kernel, in_handler, is_active}
+use Rattle.iop_kernel.specs.System.{in_handler, is_active}
 use Rattle.iop_time.specs.declared.clock.TheConstants.{MOST_DELAYS}
 use Rattle.iop_machine.specs.Iop.{Iop, core_of}
 use Rattle.iop_machine.specs.Laws.{IsMachine}
 use Rattle.iop_machine.specs.Looking.{takes_events}
 use Rattle.iop_machine.specs.Stepping.{most_between}
 use Rattle.iop_machine.specs.World.{World, booted}
+use Rattle.iop_machine.proofs.CallsLeft.{left_of, one_at_most}
 use Rattle.iop_machine.proofs.EventLemmas.{AreLater, left_few}
 use Rattle.iop_machine.proofs.LookingLemmas.{takes_none, taken_kernel}
 
@@ -55,16 +55,12 @@ turns v =
     turns_by (is_active v.kernel) (is_some (delivers (core_of v)))
     (is_some (dispatches (core_of v)))
 
--- one for each delay, and one more unless a handler is active
-abbrev pub deliveries : Kernel → ℕ
-deliveries k = length k.timers.delays + one_if (not (in_handler k))
-
 -- how many steps execute no instruction at most from such a state on
 pub behind : Iop → ℕ
-behind v = length v.events + 2 * deliveries v.kernel + turns v + 1
+behind v = length v.events + 2 * left_of v.kernel + turns v + 1
 
 -- by its parts
-pub behind_is : (v : Iop) → behind v ≡ length v.events + 2 * deliveries v.kernel + turns v + 1
+pub behind_is : (v : Iop) → behind v ≡ length v.events + 2 * left_of v.kernel + turns v + 1
 unfolding behind
 behind_is v = refl
 
@@ -72,10 +68,7 @@ behind_is v = refl
 pub turns_are : (v : Iop) (active delivering dispatching : Bool) → is_active v.kernel ≡ active
     → is_some (delivers (core_of v)) ≡ delivering → is_some (dispatches (core_of v)) ≡ dispatching
     → turns v ≡ turns_by active delivering dispatching
-turns_are v active delivering dispatching e f g =
-    ap (λ b. turns_by b (is_some (delivers (core_of v))) (is_some (dispatches (core_of v)))) e
-    ∙ ap (λ b. turns_by active b (is_some (dispatches (core_of v)))) f
-    ∙ ap (turns_by active delivering) g
+turns_are v active delivering dispatching e f g = rw (e, f, g) refl
 
 -- how many steps at most execute no instruction from here on, if no more instruction is executed
 abbrev rest_by : Option Stop → (is_new : Bool) → Iop → ℕ
@@ -90,8 +83,7 @@ rest w = rest_by w.iop.over w.is_new w.iop
 pub rest_is : (w : World) (is_new : Bool) → w.iop.over ≡ None → w.is_new ≡ is_new
     → rest w ≡ rest_by None is_new w.iop
 unfolding rest
-rest_is w is_new over new =
-    ap (λ o. rest_by o w.is_new w.iop) over ∙ ap (λ b. rest_by None b w.iop) new
+rest_is w is_new over new = rw (over, new) refl
 
 -- where it is, none
 pub rest_over : (w : World) (stop : Stop) → w.iop.over ≡ Some stop → rest w ≡ 0
@@ -113,8 +105,8 @@ rest_later s later =
     subst (λ v. rest (booted s) ≤ behind v) (takes_none s later) (rest_booted s)
 
 -- as many deliveries are left once the events that are due were taken
-pub taken_deliveries : (s : Iop) → deliveries (takes_events s).kernel ≡ deliveries s.kernel
-taken_deliveries s = ap deliveries (taken_kernel s)
+pub taken_deliveries : (s : Iop) → left_of (takes_events s).kernel ≡ left_of s.kernel
+taken_deliveries s = ap left_of (taken_kernel s)
 
 -- the delays of a machine are few
 abbrev pub HasFewDelays : Iop → Type 0
@@ -122,11 +114,6 @@ HasFewDelays s = length s.kernel.timers.delays ≤ MOST_DELAYS
 
 pub few_delays : (w : World) → IsMachine w → HasFewDelays w.iop
 few_delays w machine = machine.core.placed.delays.kept.few_delays
-
--- one at most is counted for the handler
-one_at_most : (b : Bool) → one_if b ≤ 1
-one_at_most true = omega arith
-one_at_most false = omega arith
 
 -- so the steps are few
 pub rest_bounded : (s : Iop) → HasFewDelays s → rest (booted s) < length s.events + most_between

@@ -1,5 +1,5 @@
 -- What a service and the return of a module make of the machine.
-use Rattle.std.proofs.Common.{◌≡◌, ℕ, true, false, Option, Some, None, List, length, refl, ap, sym, ◌∙◌, subst}
+use Rattle.std.proofs.Common.{◌≡◌, ℕ, true, false, Option, None, List, length, refl, ap, sym, ◌∙◌, subst}
 use Rattle.std.specs.Prelude.{is_some}
 use Rattle.iop_base.specs.Output.{Output, Gives}
 use Rattle.iop_base.specs.declared.guest_fault.GuestFault.{GuestFault}
@@ -13,6 +13,9 @@ use Rattle.iop_kernel.specs.System.{Kernel, Served, is_active}
 use Rattle.iop_kernel.specs.declared.after.After.{After}
 use Rattle.iop_kernel.specs.declared.after.After.TheVariants.{Fault}
 use Rattle.iop_kernel.specs.declared.kernel.Kernel.{Kernel as Kernels}
+use Rattle.iop_kernel.proofs.Keeping.Outcomes.{services_alone}
+use Rattle.iop_kernel.proofs.Keeping.Services.{services_keep}
+use Rattle.iop_kernel.proofs.Order.Nothing.{none_of}
 use Rattle.iop_modload.specs.Finishing.{finishes}
 use Rattle.iop_ready.specs.ReadyList.{StandsFor}
 use Rattle.iop_ready.specs.declared.entry.Entry.{Entry}
@@ -26,38 +29,30 @@ use Rattle.iop_machine.specs.Services.{faults_with, leaves, goes_on_by, ends_mod
 use Rattle.iop_machine.specs.Standing.{iop_of, Stands}
 use Rattle.iop_machine.specs.declared.begun_module.BegunModule.{BegunModule}
 use Rattle.iop_machine.specs.declared.iop.Iop.{Iop as Program}
-use Rattle.iop_kernel.proofs.Keeping.Faults.{services_alone}
-use Rattle.iop_kernel.proofs.Keeping.Services.{services_keep}
-use Rattle.iop_machine.proofs.Inside.{length-after_stores}
+use Rattle.iop_machine.proofs.Elements.{there}
+use Rattle.iop_machine.proofs.Storing.{length-after_stores}
 use Rattle.iop_machine.proofs.LoadingLands.{returns_leave}
-use Rattle.iop_machine.proofs.StandingLemmas.{IsMoment, carried}
-use Rattle.iop_machine.proofs.Taking.{takes_as, takes_then, takes_with}
+use Rattle.iop_machine.proofs.StandingLemmas.{IsMoment, carried, takes_as, takes_then, takes_with}
 
 -- what a module leaves that was ended at a moment
 module _ (m : Program) (t : ℕ) (moment : IsMoment m t) (begun : BegunModule) (value : ℕ) where
-  pub ended_takes : {a b : Output} (memory : Memory) (blocks : BlockMap) (libraries : List Library)
+  pub ended_takes : {a b : Output} {memory : Memory} {blocks : BlockMap} {libraries : List Library}
       → let l = finishes t m.guest m.blocks m.registry begun.number begun.loaded value in
       memory ≡ l.memory → blocks ≡ l.blocks → libraries ≡ l.libraries → Gives a b l.pieces
       → (s : Iop) → Stands m s
       → Takes Stands (leaves s
       (finishes s.kernel.clock s.memory s.blocks s.libraries begun.number begun.loaded value))
       (record m { guest = memory; blocks = blocks; registry = libraries }) a b
-  ended_takes {a} {b} memory blocks libraries d e f lines =
+  ended_takes {a} {b} {memory} {blocks} {libraries} d e f lines =
       let l = finishes t m.guest m.blocks m.registry begun.number begun.loaded value in
       let now = record m { guest = memory; blocks = blocks; registry = libraries } in
-      carried m (λ s. Takes Stands (leaves s
-      (finishes s.kernel.clock s.memory s.blocks s.libraries begun.number begun.loaded value)) now a b)
-      (λ k h. subst (λ u. Takes Stands (leaves (iop_of m k)
-      (finishes u m.guest m.blocks m.registry begun.number begun.loaded value)) now a b) (moment k h)
-      (record {
+      carried m (λ s. Takes Stands (leaves s (finishes s.kernel.clock s.memory s.blocks s.libraries
+      begun.number begun.loaded value)) now a b)
+      (λ k h. subst (λ u. Takes Stands (leaves (iop_of m k) (finishes u m.guest m.blocks m.registry
+      begun.number begun.loaded value)) now a b) (moment k h) (record {
         state = record {
           kernel = h;
-          rest = ap (λ (x : Memory). record (iop_of m k)
-              { memory = x; blocks = l.blocks; libraries = l.libraries }) (sym d)
-              ∙ ap (λ (x : BlockMap). record (iop_of m k)
-              { memory = memory; blocks = x; libraries = l.libraries }) (sym e)
-              ∙ ap (λ (x : List Library). record (iop_of m k)
-              { memory = memory; blocks = blocks; libraries = x }) (sym f);
+          rest = rw (d, e, f) refl;
         };
         gives = lines;
       }))
@@ -65,11 +60,9 @@ module _ (m : Program) (t : ℕ) (moment : IsMoment m t) (begun : BegunModule) (
 -- another module begins: the loader's thread goes on
 pub stands_going_on : (m : Program) → is_some m.begun ≡ true → (s : Iop) → Stands m s
     → Stands m (goes_on_by s s.begun)
-stands_going_on m some s h = by s.begun (ap (λ (x : Iop). is_some x.begun) h.rest ∙ some)
-  where
-    by : (o : Option BegunModule) → is_some o ≡ true → Stands m (goes_on_by s o)
-    by None e = absurd (cc e)
-    by (Some begun) e = h
+stands_going_on m some s h =
+    subst (λ o. Stands m (goes_on_by s o))
+    (sym (ap (λ (x : Iop). x.begun) h.rest ∙ (there m.begun some).1)) h
 
 -- none does: it has ended
 module _ (m : Program) (new : Kernels (List Entry))
@@ -83,17 +76,14 @@ module _ (m : Program) (new : Kernels (List Entry))
   -- where no module begins
   pub stands_not_going_on : is_some m.begun ≡ false → (s : Iop) → Stands m s
       → Stands (record m { kernel = new }) (goes_on_by s s.begun)
-  stands_not_going_on none s h = by s.begun (ap (λ (x : Iop). is_some x.begun) h.rest ∙ none)
-    where
-      by : (o : Option BegunModule) → is_some o ≡ false
-          → Stands (record m { kernel = new }) (goes_on_by s o)
-      by None e = stands_ended s h
-      by (Some begun) e = absurd (cc e)
+  stands_not_going_on none s h =
+      subst (λ o. Stands (record m { kernel = new }) (goes_on_by s o))
+      (sym (ap (λ (x : Iop). x.begun) h.rest ∙ none_of m.begun none)) (stands_ended s h)
 
 -- a module was ended, and then the next one was loaded
 pub ends_module_takes : {m left loaded : Program} {a b c : Output} (begun : BegunModule) (value : ℕ)
-    → ((s : Iop) → Stands m s → Takes Stands (leaves s
-    (finishes s.kernel.clock s.memory s.blocks s.libraries begun.number begun.loaded value)) left a b)
+    → ((s : Iop) → Stands m s → Takes Stands (leaves s (finishes s.kernel.clock s.memory s.blocks
+    s.libraries begun.number begun.loaded value)) left a b)
     → ((s : Iop) → Stands left s → Takes Stands (loads_first s.modules s) loaded b c)
     → (now : Program) → ((s : Iop) → Stands loaded s → Stands now (goes_on_by s s.begun))
     → (s : Iop) → Stands m s → Takes Stands (ends_module s begun value) now a c
@@ -112,7 +102,7 @@ returns_takes {m} {now} {a} {b} o value is g s h =
     (sym (ap (λ (x : Iop). x.begun) h.rest ∙ is)) (g s h)
 
 -- the processor stands again where it stood before
-pub stands_restored : (m : Program) (before : Position) (cpu : Cpu) → cpu ≡ standing_at before m.cpu
+stands_restored : (m : Program) (before : Position) (cpu : Cpu) → cpu ≡ standing_at before m.cpu
     → (s : Iop) → Stands m s
     → Stands (record m { cpu = cpu }) (record s { cpu = standing_at before s.cpu })
 stands_restored m before cpu e =
@@ -123,26 +113,37 @@ stands_restored m before cpu e =
 abbrev pub did : ℕ → Iop → Served
 did code s = services (system_of s) code
 
--- this call left the kernel with its processor, the memory, the blocks and the libraries so, and gave
--- its pieces
+-- this call left the kernel with its processor, the memory, the blocks and the libraries so, and
+-- gave its pieces
 pub record IsServed (m left : Program) (code : ℕ) (after : After) (a b : Output) : Type 0 where
   pub serves : (k : Kernel) → kernel.Stands StandsFor m.kernel k
       → kernel.ServesPlaced StandsFor (did code (iop_of m k)) after left.kernel left.cpu left.guest
       left.blocks left.registry a b
 
 -- as the clause of the kernel's call says it
-pub served : (m : Program) (new : Kernels (List Entry)) (cpu : Cpu) (memory : Memory)
-    (blocks : BlockMap) (libraries : List Library) (code : ℕ) (after : After) {a b : Output}
+pub served : (m : Program) (code : ℕ) {new : Kernels (List Entry)} {cpu : Cpu} {memory : Memory}
+    {blocks : BlockMap} {libraries : List Library} {after : After} {a b : Output}
     → ((k : Kernel) → kernel.Stands StandsFor m.kernel k
-    → kernel.ServesPlaced StandsFor (did code (iop_of m k)) after new cpu memory blocks libraries a b)
-    → IsServed m (record m
-    { kernel = new; cpu = cpu; guest = memory; blocks = blocks; registry = libraries }) code after a b
-served m new cpu memory blocks libraries code after serves =
-    record { serves = serves }
+    → kernel.ServesPlaced StandsFor (did code (iop_of m k)) after new cpu memory blocks
+    libraries a b)
+    → IsServed m (record m {
+      kernel = new;
+      cpu = cpu;
+      guest = memory;
+      blocks = blocks;
+      registry = libraries;
+    }) code after a b
+served m code serves = record { serves = serves }
 
 -- the program with what was left
 abbrev pub with_left : Program → Program → Program
-with_left m left = record m { kernel = left.kernel; cpu = left.cpu; guest = left.guest; blocks = left.blocks; registry = left.registry }
+with_left m left = record m {
+  kernel = left.kernel;
+  cpu = left.cpu;
+  guest = left.guest;
+  blocks = left.blocks;
+  registry = left.registry;
+}
 
 module _ {m left : Program} {code : ℕ} {after : After} {a b : Output}
     (h : IsServed m left code after a b) (before : Position) where
@@ -154,7 +155,8 @@ module _ {m left : Program} {code : ℕ} {after : After} {a b : Output}
   pub serves_takes : (s : Iop) → Stands m s
       → Takes Stands (serves (stood s) (did code s)) (with_left m left) a b
   serves_takes =
-      carried m (λ s. Takes Stands (serves (stood s) (did code s)) (with_left m left) a b) (λ k stands.
+      carried m (λ s. Takes Stands (serves (stood s) (did code s)) (with_left m left) a b)
+      (λ k stands.
       let done = h.serves k stands in
       let taken = done.served in
       let x = (did code (iop_of m k)).left.state in
@@ -169,7 +171,9 @@ module _ {m left : Program} {code : ℕ} {after : After} {a b : Output}
 
   -- what it answered becomes of its caller
   answer_is : (s : Iop) → Stands m s → after ≡ (did code s).left.after
-  answer_is = carried m (λ s. after ≡ (did code s).left.after) (λ k stands. (h.serves k stands).served.core.answer)
+  answer_is =
+      carried m (λ s. after ≡ (did code s).left.after)
+      (λ k stands. (h.serves k stands).served.core.answer)
 
   -- then by what becomes of its caller
   pub calls_takes : (r : After) → after ≡ r → {now : Program} {c : Output} (s : Iop) → Stands m s
@@ -182,7 +186,8 @@ module _ {m left : Program} {code : ℕ} {after : After} {a b : Output}
   -- one that faulted has changed nothing, and given nothing
   pub faults_takes : (kind : GuestFault) → after ≡ Fault kind → (cpu : Cpu)
       → cpu ≡ standing_at before left.cpu → (now : Program)
-      → ((s : Iop) → Stands (record (with_left m left) { cpu = cpu }) s → Stands now (faults_with s kind))
+      → ((s : Iop) → Stands (record (with_left m left) { cpu = cpu }) s
+      → Stands now (faults_with s kind))
       → (s : Iop) → Stands m s → Takes Stands (calls (stood s) s.cpu code) now a b
   faults_takes kind is cpu restored now faults s stands =
       let taken = serves_takes s stands in
@@ -212,9 +217,11 @@ module _ {m left : Program} {code : ℕ} {after : After} {a b : Output}
       let left_is = (serves_takes s stands).state.rest in
       let kept = keeps s runs in
       let memory = kept.memory in
-      sym (ap (λ (v : Iop). v.blocks.size) left_is) ∙ kept.blocks.size ∙ ap (λ (v : Iop). v.blocks.size) stands.rest
-      ∙ same ∙ ap (λ (v : Iop). length v.memory.ram) (sym stands.rest)
-      ∙ sym (ap (λ (x : Memory). length x.ram) memory.left ∙ length-after_stores s.memory memory.stores memory.inside)
+      sym (ap (λ (v : Iop). v.blocks.size) left_is) ∙ kept.blocks.size
+      ∙ ap (λ (v : Iop). v.blocks.size) stands.rest ∙ same
+      ∙ ap (λ (v : Iop). length v.memory.ram) (sym stands.rest)
+      ∙ sym (ap (λ (x : Memory). length x.ram) memory.left
+      ∙ length-after_stores s.memory memory.stores memory.inside)
       ∙ ap (λ (v : Iop). length v.memory.ram) left_is
 
 -- the module that returned takes no time

@@ -1,5 +1,6 @@
--- What is done before anything executes: a delivery, or a dispatch and perhaps a delivery behind it.
-use Rattle.std.proofs.Common.{◌≡◌, ℕ, ◌+◌, ◌*◌, ◌≤◌, ◌-◌, ◌^◌, Bool, true, false, Option, Some, None, [], refl, ap, sym, ◌∙◌, arith, subst, append-nil}
+-- What is done before anything executes: a delivery, or a dispatch and perhaps a delivery behind
+-- it.
+use Rattle.std.proofs.Common.{◌≡◌, ℕ, ◌+◌, ◌*◌, ◌≤◌, ◌-◌, ◌^◌, Bool, true, false, Some, None, [], refl, ap, sym, ◌∙◌, arith, subst, append-nil}
 use Rattle.std.specs.Prelude.{is_some}
 use Rattle.std.specs.Bool.{OnTrue}
 use Rattle.iop_base.specs.Output.{Output, Gives}
@@ -17,8 +18,8 @@ use Rattle.iop_machine.specs.World.{World, booted}
 use Rattle.iop_machine.specs.declared.iop.Iop.{Iop as Program}
 use Rattle.iop_machine.specs.declared.progress.Progress.TheVariants.{Advanced}
 use Rattle.iop_machine.proofs.Advancing.{then_advances}
-use Rattle.iop_machine.proofs.Bounding.{calls_left, calls_are, few_turns, is_less}
-use Rattle.iop_machine.proofs.CallsLeft.{delivery_leaves_fewer}
+use Rattle.iop_machine.proofs.CallsLeft.{calls_left, calls_are, few_turns, is_less, delivery_leaves_fewer}
+use Rattle.iop_machine.proofs.Elements.{there}
 use Rattle.iop_machine.proofs.EventLemmas.{AreLater}
 use Rattle.iop_machine.proofs.LookingLemmas.{taken_kernel, taken_later, takes_none}
 use Rattle.iop_machine.proofs.Raising.{dispatch_kernel}
@@ -32,11 +33,6 @@ still_well {a} {b} gives well = by b.failed refl
     by : (failed : Bool) → b.failed ≡ failed → failed ≡ false
     by true is = absurd (nothing_fails gives well is)
     by false is = refl
-
--- what is there
-there : {X : Type 0} (o : Option X) → is_some o ≡ true → (x : X) × (o ≡ Some x)
-there None some = absurd (cc some)
-there (Some x) some = (x, refl)
 
 -- the state after one step
 after_one : (w : World) (t : Transition World) → step w ≡ t → (steps 1 w).state ≡ t.state
@@ -130,7 +126,8 @@ delivers_less {s = s} budget h over did =
     is_less h did.0.state.1 budget budget None false (omega (arith, fewer, turns))
 
 module _ {s : Iop} (over : s.over ≡ None) (budget : ℕ) {middle : Program} {a b : Output}
-    (well : a.failed ≡ false) (none : Delivers StandsBooted false (booted s) budget middle a b) where
+    (well : a.failed ≡ false)
+    (none : Delivers StandsBooted false (booted s) budget middle a b) where
   -- nothing is delivered or dispatched
   pub settles_at_once : {new : Program} {c : Output}
       → Dispatches StandsBooted false (booted s) budget new b c
@@ -152,7 +149,7 @@ module _ {s : Iop} (over : s.over ≡ None) (budget : ℕ) {middle : Program} {a
   module _ {switched : Program} {c : Output}
       (did : Dispatches StandsBooted true (booted s) budget switched b c) where
     -- a thread is dispatched, behind what gave nothing
-    pub dispatch_advances : Advances StandsBooted (booted s) budget 0 budget switched a c
+    dispatch_advances : Advances StandsBooted (booted s) budget 0 budget switched a c
     dispatch_advances = record {
       before = did.0.before;
       state = did.0.state;
@@ -164,20 +161,16 @@ module _ {s : Iop} (over : s.over ≡ None) (budget : ℕ) {middle : Program} {a
     }
 
     -- the state that it leaves
-    abbrev pub behind : Iop
+    abbrev behind : Iop
     behind = (steps 1 (booted s)).state.iop
 
     -- the program stands for it
-    pub stands_behind : Stands switched behind
+    stands_behind : Stands switched behind
     stands_behind = did.0.state.1
 
     -- nothing is to be dispatched in it
     left_so : HasDispatched s
     left_so = has_dispatched s over none.2 did.1
-
-    -- and it is not stopped
-    pub over_behind : behind.over ≡ None
-    over_behind = left_so.over
 
     -- the run has gone on, where a write failed in it
     pub settles_failed : (went : Bool) → went ≡ true
@@ -192,15 +185,17 @@ module _ {s : Iop} (over : s.over ≡ None) (budget : ℕ) {middle : Program} {a
 
       -- by whether something is delivered then
       pub settles_behind : (new : Program) (e : Output) (went : Bool)
-          → Delivers StandsBooted went (booted behind) budget new c e
+          → ((v : Iop) → Stands switched v → v.over ≡ None
+          → Delivers StandsBooted went (booted v) budget new c e)
           → Settles StandsBooted went (booted s) budget new a e
-      settles_behind new e true h = (
+      settles_behind new e true delivers = (
         1,
         then_advances reached
             (subst (λ (v : World). Advances StandsBooted v budget 0 budget new c e)
-            (sym did.0.state.0) h.0),
+            (sym did.0.state.0) (delivers behind stands_behind left_so.over).0),
       )
-      settles_behind new e false h =
+      settles_behind new e false delivers =
+          let h = delivers behind stands_behind left_so.over in
           let gives = gives_then reached.gives h.1 in (
             1,
             record {
@@ -220,14 +215,16 @@ module _ {s : Iop} (over : s.over ≡ None) (budget : ℕ) {middle : Program} {a
 
       -- a delivery leaves fewer calls then
       pub less_behind : {m : Program} (new : Program) (e : Output) → Stands m s → (went : Bool)
-          → Delivers StandsBooted went (booted behind) budget new c e → (failed : Bool)
+          → ((v : Iop) → Stands switched v → v.over ≡ None
+          → Delivers StandsBooted went (booted v) budget new c e) → (failed : Bool)
           → OnTrue went (IsLess (Advanced budget) failed new.over false new.kernel
           (most_between * budget + calls_by None false m.kernel))
-      less_behind new e stands false h failed = tt
-      less_behind {m} new e stands true h failed =
+      less_behind new e stands false delivers failed = tt
+      less_behind {m} new e stands true delivers failed =
           let before = calls_are stands None false in
           let after = calls_are stands_behind None false in
           let same = same_calls behind.kernel s.kernel left_so.kernel in
           subst (λ n. IsLess (Advanced budget) failed new.over false new.kernel
           (most_between * budget + n)) (omega (arith, before, after, same))
-          (delivers_less budget stands_behind over_behind h failed)
+          (delivers_less budget stands_behind left_so.over
+          (delivers behind stands_behind left_so.over) failed)

@@ -1,22 +1,24 @@
--- How what is said of each state that the program's machine stands for is proved of one.
-use Rattle.std.proofs.Common.{◌≡◌, ℕ, Option, List, [], ◌∷◌, refl, ap, sym, ◌∙◌, subst}
+-- How what is said of each state that the program's machine stands for is proved of one, and how
+-- transitions that calls took follow one another.
+use Rattle.std.proofs.Common.{◌≡◌, ℕ, Option, None, List, [], ◌∷◌, refl, ap, sym, ◌∙◌, subst}
 use Rattle.iop_base.specs.Output.{Output, Gives}
 use Rattle.iop_base.specs.Piece.{Traced}
 use Rattle.iop_base.specs.Text.{line_bytes}
 use Rattle.iop_base.specs.declared.line.Line.{Line}
 use Rattle.iop_base.specs.declared.stop.Stop.{Stop}
+use Rattle.iop_base.proofs.Giving.{gives_none, gives_then}
 use Rattle.iop_exec.specs.declared.cpu.Cpu.{Cpu}
-use Rattle.iop_ready.specs.ReadyList.{StandsFor}
-use Rattle.iop_ready.specs.declared.entry.Entry.{Entry}
 use Rattle.iop_kernel.specs.Standing as kernel
 use Rattle.iop_kernel.specs.System.{Kernel, Core}
 use Rattle.iop_kernel.specs.declared.kernel.Kernel.{Kernel as Kernels}
-use Rattle.iop_machine.specs.Iop.{Iop, Takes, tells, with_core}
+use Rattle.iop_ready.specs.ReadyList.{StandsFor}
+use Rattle.iop_ready.specs.declared.entry.Entry.{Entry}
+use Rattle.iop_machine.specs.Iop.{Iop, Takes, tells, with_core, Transition, silent, and_then, with_state}
 use Rattle.iop_machine.specs.Standing.{iop_of, Stands, IsSound}
 use Rattle.iop_machine.specs.declared.iop.Iop.{Iop as Program}
 
--- what holds of the state that it is, for each kernel that its kernel stands for, holds of each that it
--- stands for
+-- what holds of the state that it is, for each kernel that its kernel stands for, holds of each
+-- that it stands for
 pub carried : (m : Program) (P : Iop → Type 0)
     → ((k : Kernel) → kernel.Stands StandsFor m.kernel k → P (iop_of m k))
     → (s : Iop) → Stands m s → P s
@@ -26,6 +28,10 @@ carried m P g s h = subst P (sym h.rest) (g s.kernel h.kernel)
 pub stands_for : (m : Program) (k : Kernel) → kernel.Stands StandsFor m.kernel k
     → Stands m (iop_of m k)
 stands_for m k h = record { kernel = h; rest = refl }
+
+-- where the program is not stopped it is not
+pub goes_on : {m : Program} {s : Iop} → Stands m s → m.over ≡ None → s.over ≡ None
+goes_on h over = ap (λ (x : Iop). x.over) h.rest ∙ over
 
 -- this is the moment of its kernel, as `now` answers
 abbrev pub IsMoment : Program → ℕ → Type 0
@@ -49,7 +55,8 @@ pub stands_with_core : (m : Program) (cpu : Cpu) (new : Kernels (List Entry)) (f
     → (s : Iop) → Stands m s
     → Stands (record m { cpu = cpu; kernel = new }) (record s { cpu = cpu; kernel = f s.kernel })
 stands_with_core m cpu new f g = carried m
-    (λ s. Stands (record m { cpu = cpu; kernel = new }) (record s { cpu = cpu; kernel = f s.kernel }))
+    (λ s. Stands (record m { cpu = cpu; kernel = new })
+    (record s { cpu = cpu; kernel = f s.kernel }))
     (λ k h. record { kernel = g k h; rest = refl })
 
 -- its kernel changes
@@ -79,3 +86,31 @@ tells_takes m t moment {a} {b} line g s h = record {
   state = h;
   gives = subst (λ u. Gives a b (Traced (line_bytes u line) ∷ [])) (moment s.kernel h.kernel) g;
 }
+
+-- how transitions that calls took follow one another
+module _ {P S : Type 0} {stands_for : P → S → Type 0} {t : Transition S} {now : P} {a b : Output}
+    (h : Takes stands_for t now a b) where
+  -- the second transition begins in the state that the first one left
+  pub takes_then : {c : Output} {later : P} (f : S → Transition S)
+      → Takes stands_for (f t.state) later b c → Takes stands_for (and_then t f) later a c
+  takes_then f g = record { state = g.state; gives = gives_then h.gives g.gives }
+
+  -- a state is made of the one that was left
+  pub takes_with : {Q T : Type 0} (stands : Q → T → Type 0) (f : S → T) (later : Q)
+      → (stands_for now t.state → stands later (f t.state))
+      → Takes stands (with_state f t) later a b
+  takes_with stands f later g = record { state = g h.state; gives = h.gives }
+
+  -- the same transition, by another name
+  pub takes_as : {u : Transition S} → t ≡ u → Takes stands_for u now a b
+  takes_as e = subst (λ x. Takes stands_for x now a b) e h
+
+-- what gives nothing takes no piece of what follows
+pub silent_then : {P S : Type 0} {stands_for : P → S → Type 0} {t : Transition S} {now : P}
+    {a b c : Output} → Gives a b [] → Takes stands_for t now b c → Takes stands_for t now a c
+silent_then g h = record { state = h.state; gives = gives_then g h.gives }
+
+-- nothing is given
+pub silent_takes : {P S : Type 0} {stands_for : P → S → Type 0} {now : P} {s : S} (a : Output)
+    → stands_for now s → Takes stands_for (silent s) now a a
+silent_takes a h = record { state = h; gives = gives_none a }

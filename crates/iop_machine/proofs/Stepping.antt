@@ -1,5 +1,5 @@
 -- What the next step is, by the machine's state.
-use Rattle.std.proofs.Common.{◌≡◌, ℕ, zero, suc, ◌<◌, Bool, true, false, Option, Some, None, refl, ap, ◌∙◌, arith, subst}
+use Rattle.std.proofs.Common.{◌≡◌, ℕ, zero, suc, ◌<◌, Bool, true, false, Option, Some, None, refl, ap, sym, ◌∙◌, subst, arith}
 use Rattle.iop_base.specs.declared.stop.Stop.{Stop}
 use Rattle.iop_base.specs.declared.stop.Stop.TheVariants.{Budget}
 use Rattle.iop_exec.specs.Row.{row}
@@ -59,44 +59,35 @@ turn_is w =
     turn_case w _ _ _ _ _ refl refl
     (record { delivery_is = refl; dispatch_is = refl; active_is = refl })
 
+-- a step is that turn
 pub step_is : (w : World) → step w ≡ takes_turn w (turn_of w)
 unfolding step
 step_is w = refl
 
+-- it executes an instruction if the turn does
 pub executes_are : (w : World) → executes w ≡ is_execution (turn_of w)
 unfolding executes
 executes_are w = refl
 
--- that turn
+-- and where it is known which turn that is
 pub step_as : (w : World) (t : Turn) → turn_of w ≡ t → step w ≡ takes_turn w t
 step_as w t e = step_is w ∙ ap (takes_turn w) e
 
 -- which one, where it is stopped, is still to be booted, or goes on
-pub turn_over : (w : World) (stop : Stop) → w.iop.over ≡ Some stop → turn_of w ≡ Stays
-turn_over w stop e =
-    let v = takes_events w.iop in
-    ap (λ o. turn_by v o w.is_new (delivers (core_of v)) (dispatches (core_of v))
-    (is_active v.kernel)) e
+turn_over : (w : World) (stop : Stop) → w.iop.over ≡ Some stop → turn_of w ≡ Stays
+turn_over w stop e = rw e refl
 
 pub turn_boots : (w : World) → w.iop.over ≡ None → w.is_new ≡ true → turn_of w ≡ Boots
-turn_boots w e f =
-    let v = takes_events w.iop in
-    ap (λ o. turn_by v o w.is_new (delivers (core_of v)) (dispatches (core_of v))
-    (is_active v.kernel)) e
-    ∙ ap (λ b. turn_by v None b (delivers (core_of v)) (dispatches (core_of v))
-    (is_active v.kernel)) f
+turn_boots w e f = rw (e, f) refl
 
-pub turn_as : (s : Iop) (delivering : Option Delivered) (dispatching : Option Dispatched)
+turn_as : (s : Iop) (delivering : Option Delivered) (dispatching : Option Dispatched)
     (active : Bool) → s.over ≡ None → Looks s delivering dispatching active
     → turn_of (booted s) ≡ turn_by (takes_events s) None false delivering dispatching active
 turn_as s delivering dispatching active over h =
     let v = takes_events s in
     ap (λ o. turn_by v o false (delivers (core_of v)) (dispatches (core_of v))
     (is_active v.kernel)) over
-    ∙ ap (λ x. turn_by v None false x (dispatches (core_of v)) (is_active v.kernel))
-    h.delivery_is
-    ∙ ap (λ x. turn_by v None false delivering x (is_active v.kernel)) h.dispatch_is
-    ∙ ap (turn_by v None false delivering dispatching) h.active_is
+    ∙ rw (h.delivery_is, h.dispatch_is, h.active_is) refl
 
 -- what is stopped stays as it is
 pub step_over : (w : World) (stop : Stop) → w.iop.over ≡ Some stop → step w ≡ silent w
@@ -190,7 +181,7 @@ module _ (s : Iop) (left : ℕ) (over : s.over ≡ None) where
         stop_is (booted s) left None true over is_executing ∙ ap (stops_by None true) none
 
 -- what runs has nothing to look at first
-pub runs_looks : (s : Iop) → Runs s → Looks s None None true
+runs_looks : (s : Iop) → Runs s → Looks s None None true
 runs_looks s h =
     let same = takes_none s h.events in
     record {
@@ -206,3 +197,17 @@ next_executes s left runs some =
     subst (λ (v : Iop). IsNext true left (booted s)
     (with_state booted (performs v (row v.memory.ram v.cpu)))) (takes_none s runs.events)
     (next_performs s left runs.over (runs_looks s runs) some)
+
+-- it is not stopped, and nothing is delivered or dispatched before
+pub record IsToExecute (s : Iop) : Type 0 where
+  pub over : s.over ≡ None
+  pub looks : Looks s None None true
+
+-- so it is where an instruction is executed
+executes_only : {w : World} {t : Turn} → IsTurn w t → is_execution t ≡ true → IsToExecute w.iop
+executes_only (execution goes looks) e = record { over = goes.over; looks = looks }
+executes_only _ e = absurd (cc e)
+
+-- and so where a step executes one
+pub executes_so : (w : World) → executes w ≡ true → IsToExecute w.iop
+executes_so w e = executes_only (turn_is w) (sym (executes_are w) ∙ e)

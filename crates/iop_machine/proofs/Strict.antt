@@ -1,28 +1,26 @@
 -- What each step of a run shows of its threads, and that alarms, delays and threads are on time.
-use Rattle.std.proofs.Common.{◌≡◌, ℕ, zero, suc, Bool, true, false, ◌&&◌, not, Option, Some, None, [], ◌∷◌, refl, ap, sym, ◌∙◌, subst}
+use Rattle.std.proofs.Common.{◌≡◌, ℕ, zero, suc, Bool, true, false, ◌&&◌, not, Some, None, [], ◌∷◌, refl, ap, sym, ◌∙◌, subst, arith}
 use Rattle.std.specs.Prelude.{IfSome, is_some}
+use Rattle.std.proofs.lemmas.Bool.Decides.{nat_tests}
 use Rattle.iop_base.specs.Piece.{Piece}
 use Rattle.iop_base.specs.declared.stop.Stop.{Stop}
 use Rattle.iop_kernel.specs.Deliveries.{delivers}
 use Rattle.iop_kernel.specs.Dispatching.{dispatches}
 use Rattle.iop_kernel.specs.Laws.{IsCore}
 use Rattle.iop_kernel.specs.System.{Core, in_handler, is_active, may_dispatch}
-use Rattle.iop_kernel.specs.declared.active_handler.ActiveHandler.{ActiveHandler}
 use Rattle.iop_kernel.proofs.Order.First.{deliveries_are_in_order}
 use Rattle.iop_kernel.proofs.Order.Strict.{dispatches_are_strict}
-use Rattle.iop_time.specs.declared.ticks.TheConstants.{NEVER}
 use Rattle.iop_machine.specs.Iop.{Iop, Transition, core_of, with_core, with_state}
 use Rattle.iop_machine.specs.Laws.{IsMachine, StepsTo, IsStrict, RunsAreStrict, RunsAreOnTime, IsAwake, RunsAreAwake}
-use Rattle.iop_machine.specs.Looking.{takes_events, next_coming}
+use Rattle.iop_machine.specs.Looking.{takes_events}
 use Rattle.iop_machine.specs.Stepping.{Turn, takes_turn, step, steps, waits_by}
 use Rattle.iop_machine.specs.World.{World, booted, beginning}
-use Rattle.iop_machine.proofs.Coming.{IsBetween, coming_later, idle_by}
-use Rattle.iop_machine.proofs.Executing.{executes_so}
+use Rattle.iop_machine.proofs.Coming.{IsComing, coming_later, idle_by}
+use Rattle.iop_machine.proofs.Stepping.{executes_so, Looks, IsTurn, stopped, turn_is, next_delivers, next_dispatches, next_waits}
 use Rattle.iop_machine.proofs.KeepingMachine.{begins_as_machine, steps_keep_machine}
 use Rattle.iop_machine.proofs.Landing.{runs_stay_sound}
 use Rattle.iop_machine.proofs.LookingLemmas.{taken_active}
-use Rattle.iop_machine.proofs.Moving.{takes_move}
-use Rattle.iop_machine.proofs.Stepping.{Looks, IsTurn, stopped, turn_is, next_delivers, next_dispatches, next_waits}
+use Rattle.iop_machine.proofs.Moving.{takes_core}
 
 -- where a step does no more
 steps_to : (w : World) (core : Core) (line : Piece)
@@ -82,16 +80,12 @@ runs_are_strict = λ size modules events k sized over.
     let w = (steps (suc k) first).state in
     subst IsStrict (run_is_booted first k refl)
     (is_strict w.iop
-    ((takes_move w.iop).core (runs_stay_sound size modules events (suc k) sized).core) over)
+    (takes_core w.iop (runs_stay_sound size modules events (suc k) sized).core) over)
 
 -- where interrupts are on and no handler is active, outside a delay slot one may be delivered
 may_deliver_by : (interrupts handler running slot : Bool) → interrupts ≡ true → handler ≡ false
     → slot ≡ false → (interrupts && not handler && not (running && slot)) ≡ true
-may_deliver_by true false true false e f g = refl
-may_deliver_by true false false false e f g = refl
-may_deliver_by true false running true e f g = absurd (cc g)
-may_deliver_by true true running slot e f g = absurd (cc f)
-may_deliver_by false handler running slot e f g = absurd (cc e)
+may_deliver_by interrupts handler running slot e f g = grind (arith, nat_tests)
 
 -- what was to come has come, in each state
 pub runs_are_on_time : RunsAreOnTime
@@ -106,22 +100,7 @@ idle_switches : (c : Core) → IsCore c → is_active c.kernel ≡ false → may
 idle_switches c core idle =
     let none = idle_by c.kernel.handler c.kernel.threads.running idle in
     let awake = core.awake none.1 in
-    may_by c.kernel.interrupts c.kernel.dispatching c.kernel.handler none.0
-    (awake.interrupts none.0) awake.dispatching
-  where
-    may_by : (interrupts dispatching : Bool) (handler : Option ActiveHandler) → handler ≡ None
-        → interrupts ≡ true → dispatching ≡ true
-        → ((interrupts && dispatching) && not (is_some handler)) ≡ true
-    may_by true true None e f g = refl
-    may_by true true (Some handler) e f g = absurd (cc e)
-    may_by true false handler e f g = absurd (cc g)
-    may_by false dispatching handler e f g = absurd (cc f)
-
--- what comes next is between
-comes_between : (low high moment : ℕ) (o : Option ℕ) → IfSome o (IsBetween low high)
-    → o ≡ Some moment → IsBetween low high moment
-comes_between low high moment o between is =
-    subst (λ x. IfSome x (IsBetween low high)) is between
+    rw (awake.interrupts none.0, awake.dispatching, none.0) refl
 
 -- a machine that was booted is awake
 is_awake : (s : Iop) → IsMachine (booted s) → s.over ≡ None → IsAwake (booted s) (takes_events s)
@@ -129,13 +108,15 @@ is_awake s machine over =
     let v = takes_events s in
     let waits = λ (idle : is_active v.kernel ≡ false) (none : delivers (core_of v) ≡ None)
     (still : dispatches (core_of v) ≡ None).
-    let looks : Looks s None None false = record { delivery_is = none; dispatch_is = still; active_is = idle } in
+    let looks : Looks s None None false =
+    record { delivery_is = none; dispatch_is = still; active_is = idle } in
     (next_waits s 0 over looks).step_is in
     record {
-      switches = idle_switches (core_of v) ((takes_move s).core machine.core);
+      switches = idle_switches (core_of v) (takes_core s machine.core);
       later = λ idle none moment is.
-          comes_between v.kernel.clock NEVER moment (next_coming v)
-          (coming_later (booted s) machine none (sym (taken_active s) ∙ idle)) is;
+          let next = subst (λ o. IfSome o (IsComing s)) is
+          (coming_later s machine.core none (sym (taken_active s) ∙ idle)) in
+          (next.0, next.1 machine.events);
       goes_on = λ idle none still moment is.
           waits idle none still ∙ ap (λ x. with_state booted (waits_by v x)) is;
       ends = λ idle none still is.

@@ -20,8 +20,8 @@ pub(crate) const ARGUMENTS_LEN: usize = 0x1000;
 /// How many words a module may be handed, its own among them.
 pub const MOST_WORDS: usize = 16;
 
-/// How many bytes they may take, each with the zero byte that ends it: all of the argument block but
-/// `MOST_WORDS` addresses and a word 0.
+/// How many bytes they may take, each with the zero byte that ends it: all of the argument block
+/// but `MOST_WORDS` addresses and a word 0.
 pub const MOST_WORD_BYTES: usize = ARGUMENTS_LEN - 4 * (MOST_WORDS + 1);
 
 /// The instruction to which a module returns.

@@ -1,10 +1,10 @@
 //! The kernel's area of memory.
 
-ghost use Rattle.std.specs.Prelude.{◌≡◌, ◌+◌, ◌*◌, ◌^◌, ◌<◌, ◌≤◌, ◌++◌, [], length};
+ghost use Rattle.std.specs.Prelude.{◌≡◌, ◌+◌, ◌*◌, ◌<◌, ◌≤◌, ◌++◌, [], length};
 ghost use Rattle.arrayvec.specs.ArrayVec.{array_vec_len};
 ghost use Rattle.iop_base.specs.Numbers.{bytes_of, with_bytes};
 ghost use Rattle.iop_base.specs.Output.{Gives};
-ghost use Rattle.iop_machine.specs.KernelArea.{syscall_word, service_at, each, function_of, table_of, service_of, services_of, return_of, tables, returns, services, kernel_area};
+ghost use Rattle.iop_machine.specs.KernelArea.{syscall_word, table_of, service_of, services_of, return_of, tables, returns, services, kernel_area};
 ghost use Rattle.iop_machine.specs.World.{zeros};
 ghost use Rattle.iop_services.specs.Codes.{service_code};
 
@@ -17,6 +17,7 @@ use iop_services::{SERVICES, service_code};
 use iop_stubs::Guest;
 use iop_text::append;
 use iop_thread::THREAD_RETURN;
+use irx_tables::HEADER_BYTES;
 
 /// How many bytes the kernel's area has.
 pub(crate) const AREA_LEN: u32 = 0x10000;
@@ -27,8 +28,8 @@ pub(crate) const VERSION: u32 = 0x0101;
 /// How many bytes the export tables may have: they end where the argument block begins.
 const TABLES_LEN: usize = (ARGUMENTS - KERNEL_TABLES_AT) as usize;
 
-/// How many zeros stand between an export table and the next one.
-pub(crate) const TABLE_REST: usize = 0xE8;
+/// How many zeros stand between an export table, which ends with a word 0, and the next one.
+pub(crate) const TABLE_REST: usize = (KERNEL_TABLE_LEN - HEADER_BYTES - 4 * SERVICES - 4) as usize;
 
 /// The place of the first service.
 pub(crate) const SERVICES_AT: u32 = 0x4000;
@@ -40,7 +41,7 @@ pub(crate) const SERVICE_LEN: u32 = 0x10;
 pub(crate) const SERVICES_LEN: u32 = SERVICES * SERVICE_LEN;
 
 /// How many bytes the services of all libraries may have.
-const ALL_SERVICES_LEN: usize = 0x2000;
+const ALL_SERVICES_LEN: usize = KERNEL_LIBRARIES.len() * SERVICES_LEN as usize;
 
 /// How many bytes a return has, with the zeros up to the next one.
 const RETURN_LEN: usize = 0x10;

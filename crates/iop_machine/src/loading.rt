@@ -46,8 +46,8 @@ impl Iop {
         self.begun = Some(begun);
     }
 
-    /// Loads the next module, if there is one, and takes it out. A module that loads begins; one that
-    /// is refused is told. Answers whether another one is to be tried.
+    /// Loads the next module, if there is one, and takes it out. A module that loads begins; one
+    /// that is refused is told. Answers whether another one is to be tried.
     fn load_next<L: Lines>(&mut self, lines: &mut L) -> bool
         requires same_size { self.old.blocks.size ≡ length self.old.guest.ram }
         ensures loads { (s : State) → Stands self.old s → MatchBool result
@@ -97,8 +97,8 @@ impl Iop {
         while self.load_next(lines) {}
     }
 
-    /// Writes the kernel's area and loads the first module that loads, for which the loader's thread is
-    /// then ready.
+    /// Writes the kernel's area and loads the first module that loads, for which the loader's
+    /// thread is then ready.
     #[inline(never)]
     pub(crate) fn boot<L: Lines>(&mut self, lines: &mut L)
         requires sound { IsSound self.old }

@@ -39,10 +39,10 @@ pub struct Machine {
 impl Machine {
     /// Makes a machine with `size` bytes of RAM, 2 MiB or 8 MiB, that will load these modules, one
     /// after the other, each handed its word of the command line and the words that the script has
-    /// for it. They are at most `MOST_MODULES` of iop_script, no file has more than `LONGEST_FILE` bytes, and the
-    /// words of each have room in the argument block: at most `MOST_WORDS`, which take
-    /// `MOST_WORD_BYTES` bytes. The script raises interrupt lines below 64, in the order of their
-    /// ticks, which are below 2^63.
+    /// for it. They are at most `MOST_MODULES` of iop_script, no file has more than `LONGEST_FILE`
+    /// bytes, and the words of each have room in the argument block: at most `MOST_WORDS`, which
+    /// take `MOST_WORD_BYTES` bytes. The script raises interrupt lines below 64, in the order of
+    /// their ticks, which are below 2^63.
     pub fn new(
         alloc: Global,
         size: u32,

@@ -43,7 +43,8 @@ impl Model for ModulesLeft {
 
     ghost view = { modules_left };
 
-    ghost invariant = { λ w. All HasRoom (modules_left w) × (length w.modules.items ≤ MOST_MODULES) };
+    ghost invariant = { λ w. All HasRoom (modules_left w)
+        × (length w.modules.items ≤ MOST_MODULES) };
 }
 
 /// Finds the words that the script has for a module.

@@ -106,8 +106,8 @@ impl Iop {
         }
     }
 
-    /// Concludes an instruction that ended a burst by its event: it stops with a fault, or does what
-    /// a code asks for. The instruction stood at `before`.
+    /// Concludes an instruction that ended a burst by its event: it stops with a fault, or does
+    /// what a code asks for. The instruction stood at `before`.
     #[inline(never)]
     #[tactic(auto, using(iop_base::proofs::Giving::gives_none))]
     pub(crate) fn conclude<L: Lines>(&mut self, event: Event, before: Position, lines: &mut L)

@@ -1,20 +1,21 @@
 -- An event flag while the threads whose conditions hold are taken out, one after the other.
-use Rattle.std.proofs.Common.{◌≡◌, ℕ, Option, Some, None, [], AllPairs, option_map, refl, ap, subst, ◌∙◌}
+use Rattle.std.proofs.Common.{◌≡◌, ℕ, Option, Some, None, [], option_map, refl, ap, subst, ◌∙◌}
 use Rattle.std.specs.Prelude.{bit_or}
-use Rattle.iop_event.proofs.Asking.{AskBits-waiters_of, others_ask}
-use Rattle.iop_event.proofs.Settling.{Waiting, settles-taken, settles-none}
 use Rattle.iop_event.specs.EventFlags.{EventFlags, AskForBits, meets_by, meets_it, meets_next, sets, sets_it, with_pattern}
 use Rattle.iop_event.specs.Laws.{AskBits}
 use Rattle.iop_event.specs.WakeConditions.{settles, meets, met_by, is_met, pattern_after}
 use Rattle.iop_event.specs.declared.event_flag.EventFlag.{EventFlag}
 use Rattle.iop_event.specs.declared.met.Met.{Met}
 use Rattle.iop_event.specs.declared.wanted.Wanted.{Wanted}
-use Rattle.iop_objects.proofs.Changes.{object_of-changed}
-use Rattle.iop_objects.specs.Objects.{object_of, state_of, waiters_in, waiters_of, changes, takes, with_state, with_waiters}
+use Rattle.iop_event.proofs.Asking.{AskBits-waiters_of, others_ask}
+use Rattle.iop_event.proofs.Settling.{Waiting, settles-taken, settles-none}
+use Rattle.iop_objects.specs.Objects.{object_of, state_of, waiters_in, waiters_of, changes, takes, with_state}
 use Rattle.iop_objects.specs.Queue.{Choice, chooses_where}
 use Rattle.iop_objects.specs.declared.waiter.Waiter.{Waiter}
+use Rattle.iop_objects.proofs.Changes.{object_of-changed}
 use Rattle.iop_kernel.specs.EventFlags.{LiveFlag}
-use Rattle.iop_kernel.proofs.Histories.ObjectChanges.{HaveTwoIds, changes_twice, changes_alike}
+use Rattle.iop_kernel.proofs.Bodies.ObjectChanges.{changes_twice, changes_alike}
+use Rattle.iop_kernel.proofs.Placing.Objects.{HaveOwnIds}
 
 module _ (s : EventFlags) (id : ℕ) (o : LiveFlag) where
   -- the event flag has a pattern, and these threads wait for it
@@ -24,21 +25,6 @@ module _ (s : EventFlags) (id : ℕ) (o : LiveFlag) where
 
   abbrev pub left_with : ℕ → Waiting → EventFlags
   left_with pattern waiters = changes s id (changed_to pattern waiters)
-
-  -- other threads wait for it then
-  with_others : (pattern : ℕ) (waiters others : Waiting)
-      → with_waiters (left_with pattern waiters) id others ≡ left_with pattern others
-  with_others pattern waiters others =
-      changes_twice id (changed_to pattern waiters) (λ u. record u { waiters = others })
-      (λ u. refl) s
-
-  -- it has another pattern then
-  with_other : (pattern other : ℕ) (waiters : Waiting)
-      → with_state (left_with pattern waiters) id (with_pattern o.state other)
-      ≡ left_with other waiters
-  with_other pattern other waiters =
-      changes_twice id (changed_to pattern waiters)
-      (λ u. record u { state = with_pattern o.state other }) (λ u. refl) s
 
   module _ (live : object_of s.live id ≡ Some o) where
     -- it is found so
@@ -60,7 +46,7 @@ module _ (s : EventFlags) (id : ℕ) (o : LiveFlag) where
     waiters_left pattern waiters = ap waiters_in (found_left pattern waiters)
 
     -- it is so once bits are set
-    pub flag_set : AllPairs HaveTwoIds s.live → (bits : ℕ)
+    pub flag_set : HaveOwnIds s.live → (bits : ℕ)
         → (sets s id bits).1 ≡ left_with (bit_or o.state.pattern bits) o.waiters
     flag_set ids bits =
         let pattern = bit_or o.state.pattern bits in
@@ -78,7 +64,8 @@ module _ (s : EventFlags) (id : ℕ) (o : LiveFlag) where
       pub asks : AskBits waiters_then
       pub settled : settles pattern waiters ≡ meets one (settles pattern_then waiters_then)
 
-    module _ (pattern : ℕ) (waiters : Waiting) where
+    module _ (u : EventFlags) (pattern : ℕ) (waiters : Waiting)
+        (same : u ≡ left_with pattern waiters) where
       abbrev here : EventFlags
       here = left_with pattern waiters
 
@@ -87,9 +74,9 @@ module _ (s : EventFlags) (id : ℕ) (o : LiveFlag) where
 
       -- by what is chosen
       next_is : (c : Option (Choice (Waiter Wanted))) → chooses_where (is_met pattern) waiters ≡ c
-          → meets_next here id ≡ meets_by here id flag (takes here id c)
+          → meets_next u id ≡ meets_by here id flag (takes here id c)
       next_is c chosen =
-          ap (meets_it here id) (state_left pattern waiters)
+          ap (λ r. meets_next r id) same ∙ ap (meets_it here id) (state_left pattern waiters)
           ∙ ap (λ q. meets_by here id flag (takes here id (chooses_where (is_met pattern) q)))
           (waiters_left pattern waiters)
           ∙ ap (λ c. meets_by here id flag (takes here id c)) chosen
@@ -99,15 +86,17 @@ module _ (s : EventFlags) (id : ℕ) (o : LiveFlag) where
           → (meets_by here id flag (takes here id (Some c))).1
           ≡ left_with (pattern_after c.one.item.wants.mode pattern) c.others
       chosen_left c =
-          let then_pattern = pattern_after c.one.item.wants.mode pattern in
-          ap (λ s. with_state s id (with_pattern o.state then_pattern))
-          (with_others pattern waiters c.others)
-          ∙ with_other pattern then_pattern c.others
+          let now = with_pattern o.state (pattern_after c.one.item.wants.mode pattern) in
+          let others : LiveFlag → LiveFlag = λ u. record u { waiters = c.others } in
+          ap (λ t. with_state t id now)
+          (changes_twice id (changed_to pattern waiters) others (λ u. refl) s)
+          ∙ changes_twice id (λ u. others (changed_to pattern waiters u))
+          (λ u. record u { state = now }) (λ u. refl) s
 
       -- by what is chosen: one is met
       met_by_choice : AskBits waiters → (c : Option (Choice (Waiter Wanted)))
           → chooses_where (is_met pattern) waiters ≡ c → (t : EventFlags) (one : Met)
-          → Some one ≡ (meets_next here id).0 → t ≡ (meets_next here id).1
+          → Some one ≡ (meets_next u id).0 → t ≡ (meets_next u id).1
           → IsMetNext t pattern waiters one
       met_by_choice asks None chosen t one answer is =
           let told = ap (λ r. r.0) (next_is None chosen) in cc
@@ -128,30 +117,24 @@ module _ (s : EventFlags) (id : ℕ) (o : LiveFlag) where
       -- or none is
       none_by_choice : (c : Option (Choice (Waiter Wanted)))
           → chooses_where (is_met pattern) waiters ≡ c → (t : EventFlags)
-          → None ≡ (meets_next here id).0 → t ≡ (meets_next here id).1
-          → (t ≡ here)
+          → None ≡ (meets_next u id).0 → t ≡ (meets_next u id).1 → (t ≡ here)
           × (settles pattern waiters ≡ record { met = []; waiters = waiters; pattern = pattern })
       none_by_choice None chosen t answer is =
           (is ∙ ap (λ r. r.1) (next_is None chosen), settles-none pattern waiters chosen)
       none_by_choice (Some c) chosen t answer is =
           let told = answer ∙ ap (λ r. r.0) (next_is (Some c) chosen) in absurd (cc told)
 
-    -- one is met
-    pub flag_met : (u t : EventFlags) (pattern : ℕ) (waiters : Waiting) (one : Met)
-        → u ≡ left_with pattern waiters → AskBits waiters → Some one ≡ (meets_next u id).0
-        → t ≡ (meets_next u id).1 → IsMetNext t pattern waiters one
-    flag_met u t pattern waiters one same asks answer is =
-        met_by_choice pattern waiters asks (chooses_where (is_met pattern) waiters) refl t one
-        (answer ∙ ap (λ r. (meets_next r id).0) same) (is ∙ ap (λ r. (meets_next r id).1) same)
+      -- one is met
+      pub flag_met : AskBits waiters → (t : EventFlags) (one : Met)
+          → Some one ≡ (meets_next u id).0 → t ≡ (meets_next u id).1
+          → IsMetNext t pattern waiters one
+      flag_met asks = met_by_choice asks (chooses_where (is_met pattern) waiters) refl
 
-    -- none is: all have settled
-    pub flag_settled : (u t : EventFlags) (pattern : ℕ) (waiters : Waiting)
-        → u ≡ left_with pattern waiters → None ≡ (meets_next u id).0 → t ≡ (meets_next u id).1
-        → (t ≡ left_with pattern waiters)
-        × (settles pattern waiters ≡ record { met = []; waiters = waiters; pattern = pattern })
-    flag_settled u t pattern waiters same answer is =
-        none_by_choice pattern waiters (chooses_where (is_met pattern) waiters) refl t
-        (answer ∙ ap (λ r. (meets_next r id).0) same) (is ∙ ap (λ r. (meets_next r id).1) same)
+      -- none is: all have settled
+      pub flag_settled : (t : EventFlags) → None ≡ (meets_next u id).0 → t ≡ (meets_next u id).1
+          → (t ≡ here)
+          × (settles pattern waiters ≡ record { met = []; waiters = waiters; pattern = pattern })
+      flag_settled = none_by_choice (chooses_where (is_met pattern) waiters) refl
 
     -- those that wait for it ask for bits
     pub waiters_ask : AskForBits s → AskBits o.waiters

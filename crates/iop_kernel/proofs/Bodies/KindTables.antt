@@ -1,10 +1,7 @@
 -- The objects of each kind, where those of one are others.
 use Rattle.std.proofs.Common.{◌≡◌, ℕ, true, false, Some, refl, ap, ◌==◌, ◌&&◌, None, ◌∙◌, arith, Option, Bool}
-use Rattle.std.proofs.lemmas.Bool.Decides.{nat_tests}
 use Rattle.std.specs.Prelude.{option_map, unwrap_or}
-use Rattle.iop_kernel.specs.Kinds.{is_kind, State, Table, table, with_table, waits_by_priority, is_by_priority}
-use Rattle.iop_kernel.specs.Placing.{is_for}
-use Rattle.iop_kernel.specs.System.{Kernel}
+use Rattle.std.proofs.lemmas.Bool.Decides.{nat_tests}
 use Rattle.iop_mbx.specs.Mailboxes.{waiters_by_priority}
 use Rattle.iop_objects.specs.Objects.{state_of}
 use Rattle.iop_sema.specs.Semaphores.{by_priority}
@@ -12,16 +9,19 @@ use Rattle.iop_thread.specs.declared.kind.Kind.{Kind}
 use Rattle.iop_thread.specs.declared.kind.Kind.TheVariants.{Semaphore, EventFlag, Mailbox}
 use Rattle.iop_thread.specs.declared.wait.Wait.{Wait}
 use Rattle.iop_thread.specs.declared.wait.Wait.TheVariants.{Sleep, Delay, Object}
+use Rattle.iop_kernel.specs.Kinds.{is_kind, State, Table, table, with_table, waits_by_priority, is_by_priority}
+use Rattle.iop_kernel.specs.Placing.{is_for}
+use Rattle.iop_kernel.specs.System.{Kernel}
 
 -- two kinds that are one are the same
-pub same_kind : (a b : Kind) → is_kind a b ≡ true → a ≡ b
+same_kind : (a b : Kind) → is_kind a b ≡ true → a ≡ b
 same_kind Semaphore Semaphore is = refl
 same_kind EventFlag EventFlag is = refl
 same_kind Mailbox Mailbox is = refl
 same_kind a b is = cc
 
 -- so is each with itself
-pub its_kind : (kind : Kind) → is_kind kind kind ≡ true
+its_kind : (kind : Kind) → is_kind kind kind ≡ true
 its_kind Semaphore = refl
 its_kind EventFlag = refl
 its_kind Mailbox = refl

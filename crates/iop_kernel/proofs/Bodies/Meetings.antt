@@ -1,50 +1,48 @@
 -- Bits of an event flag are set, and the threads whose conditions then hold are woken, one after
 -- the other.
-use Rattle.std.proofs.Common.{◌≡◌, ◌<◌, ℕ, true, false, Option, Some, None, List, [], ◌++◌, AllPairs, length, refl, ap, sym, subst, ◌∙◌, append_assoc, append-nil, arith}
+use Rattle.std.proofs.Common.{◌≡◌, ◌<◌, ℕ, true, Option, Some, None, List, [], ◌++◌, length, refl, ap, sym, subst, ◌∙◌, append_assoc, arith}
 use Rattle.std.specs.Prelude.{bit_or, is_some, option_map}
-use Rattle.iop_base.proofs.Giving.{gives_none, gives_then}
 use Rattle.iop_base.specs.Output.{Output, Gives}
 use Rattle.iop_base.specs.Piece.{Piece}
-use Rattle.iop_base.specs.declared.code.TheConstants.Code.{OK, UNKNOWN_EVENT_FLAG}
-use Rattle.iop_event.proofs.Settling.{Waiting}
+use Rattle.iop_base.specs.declared.code.TheConstants.Code.{OK}
+use Rattle.iop_base.proofs.Giving.{gives_none, gives_then}
 use Rattle.iop_event.specs.EventFlags.{EventFlags, meets_next, sets, sets_it, with_pattern}
 use Rattle.iop_event.specs.Laws.{AskBits}
 use Rattle.iop_event.specs.WakeConditions.{Settled, settles}
 use Rattle.iop_event.specs.declared.event_flag.EventFlag.{EventFlag}
 use Rattle.iop_event.specs.declared.met.Met.{Met}
+use Rattle.iop_event.proofs.Settling.{Waiting}
 use Rattle.iop_exec.specs.Row.{with_reg}
 use Rattle.iop_exec.specs.declared.cpu.Cpu.{Cpu}
 use Rattle.iop_objects.specs.Objects.{object_of, state_of, waiters_of, changes}
 use Rattle.iop_ready.specs.declared.entry.Entry.{Entry}
 use Rattle.iop_stubs.specs.Stubs.{Memory}
-use Rattle.iop_kernel.specs.Boards.{Board, quiet}
-use Rattle.iop_kernel.specs.EventFlags.{LiveFlag, meets_one, meeting_lines, meets_all, meeting_all, sets_flag, set_event_flag}
+use Rattle.iop_kernel.specs.Boards.{Board}
+use Rattle.iop_kernel.specs.EventFlags.{LiveFlag, meets_one, meeting_lines, wakes_met, sets_flag, set_event_flag}
 use Rattle.iop_kernel.specs.Standing.{Holds, TakesBoard, board}
-use Rattle.iop_kernel.specs.System.{Kernel, Done, with_event_flags, answers, code_word}
+use Rattle.iop_kernel.specs.System.{Kernel, Done, with_event_flags, code_word}
 use Rattle.iop_kernel.specs.declared.after.After.{After}
 use Rattle.iop_kernel.specs.declared.after.After.TheVariants.{Resume}
 use Rattle.iop_kernel.specs.declared.kernel.Kernel.{Kernel as Program}
-use Rattle.iop_kernel.proofs.Bodies.FlagSteps.{changed_to, left_with, state_left, waiters_left, flag_set, flag_met, flag_settled}
-use Rattle.iop_kernel.proofs.Histories.ObjectChanges.{HaveTwoIds, changes_alike}
-use Rattle.iop_kernel.proofs.Placing.Objects.{object_of_id}
+use Rattle.iop_kernel.proofs.Bodies.FlagSteps.{IsMetNext, changed_to, left_with, state_left, waiters_left, flag_set, flag_met, flag_settled}
+use Rattle.iop_kernel.proofs.Bodies.ObjectChanges.{changes_alike}
+use Rattle.iop_kernel.proofs.Bodies.Standing.{holds_flags}
+use Rattle.iop_kernel.proofs.Placing.Objects.{HaveOwnIds, object_of_id}
 
--- the threads that wait for an event flag settle once bits are set
-abbrev settled_first : ℕ → LiveFlag → Settled
-settled_first bits o = settles (bit_or o.state.pattern bits) o.waiters
-
--- what is known of it then
+-- what is known of an event flag once the threads that wait for it have settled
 abbrev settled_to : Settled → LiveFlag → LiveFlag
 settled_to done u =
     record u { state = with_pattern u.state done.pattern; waiters = done.waiters }
 
--- the event flags once all have settled
-abbrev flags_last : EventFlags → ℕ → LiveFlag → EventFlags
-flags_last s bits o = changes s o.id (settled_to (settled_first bits o))
+-- they have settled: those that were met are woken, and the caller goes on with 0
+abbrev all_settle : EventFlags → (id : ℕ) → LiveFlag → Board → Settled → Done Board
+all_settle flags id o b done =
+    let left = left_with flags id o done.pattern done.waiters in
+    wakes_met (record b { core = with_event_flags b.core left }) done.met
 
--- the board before the first one is woken
-abbrev started : Board → ℕ → LiveFlag → Board
-started b bits o =
-    record b { core = with_event_flags b.core (flags_last b.core.kernel.event_flags bits o) }
+-- some pieces were given before
+abbrev given_before : List Piece → Done Board → Done Board
+given_before pieces done = record done { pieces = pieces ++ done.pieces }
 
 -- how many threads are still to be woken
 abbrev count_by : Waiting → Option EventFlag → ℕ
@@ -64,16 +62,6 @@ count_left s id o live u pattern waiters is =
     (state_left s id o live pattern waiters)
     ∙ ap (λ q. length (settles pattern q).met) (waiters_left s id o live pattern waiters)
 
--- those that were met are woken, and the caller goes on with 0
-abbrev goes_on : Board → List Piece → Done Board
-goes_on left pieces = record {
-  left = record {
-    state = record left { core = (answers left.core OK).state };
-    after = (answers left.core OK).after;
-  };
-  pieces = pieces;
-}
-
 module _ {R : Type 0} (stands_for : R → List Entry → Type 0) (b : Board) (id bits : ℕ) where
   abbrev flags : EventFlags
   flags = b.core.kernel.event_flags
@@ -87,187 +75,126 @@ module _ {R : Type 0} (stands_for : R → List Entry → Type 0) (b : Board) (id
     pub waiters : Waiting
     pub left : p.event_flags ≡ left_with flags id object pattern waiters
     pub asks : AskBits waiters
-    pub pattern_last : (settles pattern waiters).pattern ≡ (settled_first bits object).pattern
-    pub waiters_last : (settles pattern waiters).waiters ≡ (settled_first bits object).waiters
-    -- the kernel, but that the event flags have all settled
     pub kernel : Kernel
-    pub settled : kernel.event_flags ≡ flags_last flags bits object
-    pub holds : Holds stands_for p (record kernel { event_flags = p.event_flags })
-    pub boards : meets_all (board kernel b.core.cpu memory) (settles pattern waiters).met
-        ≡ meets_all (started b bits object) (settled_first bits object).met
+    pub holds : Holds stands_for p kernel
     -- what was given
     pub pieces : List Piece
     pub gives : Gives old new pieces
-    pub lines :
-        pieces ++ meeting_all (board kernel b.core.cpu memory) (settles pattern waiters).met
-        ≡ meeting_all (started b bits object) (settled_first bits object).met
+    -- with what is still to be done it is the whole
+    pub whole : given_before pieces (all_settle flags id object (board kernel b.core.cpu memory)
+        (settles pattern waiters)) ≡ set_event_flag b id bits
 
   -- at first none is
   pub meeting_begins : (o : LiveFlag) → object_of flags.live id ≡ Some o
-      → AllPairs HaveTwoIds flags.live → (p : Program R)
+      → HaveOwnIds flags.live → (p : Program R)
       → Holds stands_for p (record b.core.kernel { event_flags = p.event_flags })
       → p.event_flags ≡ (sets flags id bits).1 → AskBits o.waiters → (a : Output)
       → IsMeeting p b.memory a a
-  meeting_begins o live ids p h is asks a = record {
-    object = o;
-    live = live;
-    pattern = bit_or o.state.pattern bits;
-    waiters = o.waiters;
-    left = is ∙ flag_set flags id o live ids bits;
-    asks = asks;
-    pattern_last = refl;
-    waiters_last = refl;
-    kernel = record b.core.kernel { event_flags = flags_last flags bits o };
-    settled = refl;
-    holds = h;
-    boards = refl;
-    pieces = [];
-    gives = gives_none a;
-    lines = refl;
-  }
+  meeting_begins o live ids p h is asks a =
+      let done = settles (bit_or o.state.pattern bits) o.waiters in
+      let last : left_with flags id o done.pattern done.waiters
+      ≡ changes flags o.id (settled_to done) =
+      changes_alike id (changed_to flags id o done.pattern done.waiters) (settled_to done) o refl
+      flags ids live
+      ∙ ap (λ n. changes flags n (settled_to done)) (sym (object_of_id flags.live id o live)) in
+      record {
+        object = o;
+        live = live;
+        pattern = bit_or o.state.pattern bits;
+        waiters = o.waiters;
+        left = is ∙ flag_set flags id o live ids bits;
+        asks = asks;
+        kernel = record b.core.kernel { event_flags = p.event_flags };
+        holds = h;
+        pieces = [];
+        gives = gives_none a;
+        whole = ap (λ s. wakes_met (record b { core = with_event_flags b.core s }) done.met) last
+            ∙ sym (ap (sets_flag b bits) live);
+      }
 
-  module _ (p : Program R) (memory : Memory) (old new : Output)
-      (h : IsMeeting p memory old new) (t : EventFlags) where
-    -- the board as it stands
-    abbrev here : Board
-    here = board h.kernel b.core.cpu memory
+module _ {R : Type 0} {stands_for : R → List Entry → Type 0} {b : Board} {id bits : ℕ}
+    {p : Program R} {memory : Memory} {old new : Output}
+    (h : IsMeeting stands_for b id bits p memory old new) (t : EventFlags)
+    (is : t ≡ (meets_next p.event_flags id).1) where
+  -- the board as it stands
+  abbrev here : Board
+  here = board h.kernel b.core.cpu memory
 
-    -- the same, with the event flags as they stand
-    abbrev pub with_flags : Board
-    with_flags = board (record h.kernel { event_flags = t }) b.core.cpu memory
+  -- the same, with the event flags as they are left
+  abbrev pub with_flags : Board
+  with_flags = board (record h.kernel { event_flags = t }) b.core.cpu memory
 
-    module _ (one : Met) (answer : Some one ≡ (meets_next p.event_flags id).0)
-        (is : t ≡ (meets_next p.event_flags id).1) (now : Program R) where
-      -- one more is
-      pub meeting_goes_on : (later : Memory) (more : Output)
-          → Holds stands_for now (meets_one with_flags one).core.kernel
-          → later ≡ (meets_one with_flags one).memory
-          → Gives new more (meeting_lines with_flags one) → IsMeeting now later old more
-      meeting_goes_on later more woken stored told =
-          let next =
-          flag_met flags id h.object h.live p.event_flags t h.pattern h.waiters one h.left
-          h.asks answer is in
-          let rest = (settles next.pattern_then next.waiters_then).met in
-          let kernel = (meets_one here one).core.kernel in
-          let told_of : meeting_all here (settles h.pattern h.waiters).met
-          ≡ meeting_lines here one ++ meeting_all (meets_one here one) rest =
-          ap (λ (s : Settled). meeting_all here s.met) next.settled in
-          let told_then : meeting_all (board kernel b.core.cpu later) rest
-          ≡ meeting_all (meets_one here one) rest =
-          ap (λ m. meeting_all (board kernel b.core.cpu m) rest) stored in
-          record {
-            object = h.object;
-            live = h.live;
-            pattern = next.pattern_then;
-            waiters = next.waiters_then;
-            left = sym woken.event_flags ∙ next.left;
-            asks = next.asks;
-            pattern_last = sym (ap (λ (s : Settled). s.pattern) next.settled) ∙ h.pattern_last;
-            waiters_last = sym (ap (λ (s : Settled). s.waiters) next.settled) ∙ h.waiters_last;
-            kernel = kernel;
-            settled = h.settled;
-            holds = record {
-              clock = woken.clock;
-              interrupts = woken.interrupts;
-              dispatching = woken.dispatching;
-              handler = woken.handler;
-              cause = woken.cause;
-              threads = woken.threads;
-              semaphores = woken.semaphores;
-              event_flags = refl;
-              mailboxes = woken.mailboxes;
-              timers = woken.timers;
-              irqs = woken.irqs;
-            };
-            boards = ap (λ m. meets_all (board kernel b.core.cpu m) rest) stored
-                ∙ sym (ap (λ (s : Settled). meets_all here s.met) next.settled) ∙ h.boards;
-            pieces = h.pieces ++ meeting_lines here one;
-            gives = gives_then h.gives told;
-            lines = append_assoc h.pieces (meeting_lines here one)
-                (meeting_all (board kernel b.core.cpu later) rest)
-                ∙ ap (λ ps. h.pieces ++ (meeting_lines here one ++ ps)) told_then
-                ∙ sym (ap (λ ps. h.pieces ++ ps) told_of)
-                ∙ h.lines;
-          }
+  -- what is done where the others settle so
+  abbrev whole_of : Settled → Done Board
+  whole_of done =
+      given_before h.pieces (all_settle b.core.kernel.event_flags id h.object here done)
 
-      -- and fewer are left
-      pub meeting_fewer : t ≡ now.event_flags
-          → count_met now.event_flags id < count_met p.event_flags id
-      meeting_fewer same =
-          let next =
-          flag_met flags id h.object h.live p.event_flags t h.pattern h.waiters one h.left
-          h.asks answer is in
-          let before =
-          count_left flags id h.object h.live p.event_flags h.pattern h.waiters h.left in
-          let after =
-          count_left flags id h.object h.live now.event_flags next.pattern_then
-          next.waiters_then (sym same ∙ next.left) in
-          let one_less = ap (λ (s : Settled). length s.met) next.settled in
-          omega (arith, before, after, one_less)
+  module _ (one : Met) (answer : Some one ≡ (meets_next p.event_flags id).0) where
+    -- what is left to settle then
+    next_met : IsMetNext b.core.kernel.event_flags id h.object h.live t h.pattern h.waiters one
+    next_met =
+        flag_met b.core.kernel.event_flags id h.object h.live p.event_flags h.pattern h.waiters
+        h.left h.asks t one answer is
 
-    -- all are
-    pub meeting_ends : AllPairs HaveTwoIds flags.live → None ≡ (meets_next p.event_flags id).0
-        → t ≡ (meets_next p.event_flags id).1 → (after : After) (cpu : Cpu) → after ≡ Resume
-        → cpu ≡ with_reg b.core.cpu 2 (code_word OK)
-        → TakesBoard stands_for (set_event_flag b id bits) after (record p { event_flags = t }) cpu
-        memory old new
-    meeting_ends ids answer is after cpu resumed answered =
-        let o = h.object in
-        let done = settled_first bits o in
-        let last =
-        flag_settled flags id o h.live p.event_flags t h.pattern h.waiters h.left answer is in
-        let pattern = sym (ap (λ (s : Settled). s.pattern) last.1) ∙ h.pattern_last in
-        let waiters = sym (ap (λ (s : Settled). s.waiters) last.1) ∙ h.waiters_last in
-        let own = object_of_id flags.live id o h.live in
-        let all : t ≡ flags_last flags bits o =
-        last.0 ∙ ap (λ n. left_with flags id o n h.waiters) pattern
-        ∙ ap (left_with flags id o done.pattern) waiters
-        ∙ changes_alike id (changed_to flags id o done.pattern done.waiters)
-        (settled_to done) o refl flags ids h.live
-        ∙ ap (λ n. changes flags n (settled_to done)) (sym own) in
-        let reached = sym (ap (λ (s : Settled). meets_all here s.met) last.1) ∙ h.boards in
-        let given = sym (append-nil h.pieces)
-        ∙ sym (ap (λ (s : Settled). h.pieces ++ meeting_all here s.met) last.1) ∙ h.lines in
-        let first = started b bits o in
-        let comes_to = ap (sets_flag b bits) h.live
-        ∙ ap (λ left. goes_on left (meeting_all first done.met)) (sym reached)
-        ∙ ap (goes_on here) (sym given) in
-        subst (λ (d : Done Board). TakesBoard stands_for d after (record p { event_flags = t }) cpu
-        memory old new) (sym comes_to) (record {
-          core = record {
-            answer = resumed;
-            kernel = record {
-              clock = h.holds.clock;
-              interrupts = h.holds.interrupts;
-              dispatching = h.holds.dispatching;
-              handler = h.holds.handler;
-              cause = h.holds.cause;
-              threads = h.holds.threads;
-              semaphores = h.holds.semaphores;
-              event_flags = h.settled ∙ sym all;
-              mailboxes = h.holds.mailboxes;
-              timers = h.holds.timers;
-              irqs = h.holds.irqs;
-            };
-            processor = answered;
-          };
-          ram = refl;
-          gives = h.gives;
-        })
+    -- one more is
+    pub meeting_goes_on : (now : Program R) (later : Memory) (more : Output)
+        → Holds stands_for now (meets_one with_flags one).core.kernel
+        → later ≡ (meets_one with_flags one).memory
+        → Gives new more (meeting_lines with_flags one)
+        → IsMeeting stands_for b id bits now later old more
+    meeting_goes_on now later more woken stored told =
+        let rest = settles next_met.pattern_then next_met.waiters_then in
+        let kernel = (meets_one with_flags one).core.kernel in
+        let lines = meeting_lines with_flags one in
+        let ends : Memory → Done Board =
+        λ m. all_settle b.core.kernel.event_flags id h.object (board kernel b.core.cpu m) rest in
+        record {
+          object = h.object;
+          live = h.live;
+          pattern = next_met.pattern_then;
+          waiters = next_met.waiters_then;
+          left = sym woken.event_flags ∙ next_met.left;
+          asks = next_met.asks;
+          kernel = kernel;
+          holds = woken;
+          pieces = h.pieces ++ lines;
+          gives = gives_then h.gives told;
+          whole = ap (λ m. given_before (h.pieces ++ lines) (ends m)) stored
+              ∙ ap (λ pieces. record (ends (meets_one with_flags one).memory) { pieces = pieces })
+              (append_assoc h.pieces lines (ends (meets_one with_flags one).memory).pieces)
+              ∙ sym (ap whole_of next_met.settled) ∙ h.whole;
+        }
 
--- by the event flag of the id
-unknown_by : (b : Board) (bits : ℕ) (o : Option LiveFlag)
-    → is_some (option_map (λ p. p.state) o) ≡ false
-    → sets_flag b bits o ≡ quiet b.memory (answers b.core UNKNOWN_EVENT_FLAG)
-unknown_by b bits None e = refl
-unknown_by b bits (Some o) e = absurd (cc e)
+    -- and fewer are left
+    pub meeting_fewer : (now : Program R) → t ≡ now.event_flags
+        → count_met now.event_flags id < count_met p.event_flags id
+    meeting_fewer now same =
+        let count = count_left b.core.kernel.event_flags id h.object h.live in
+        let before = count p.event_flags h.pattern h.waiters h.left in
+        let after = count now.event_flags next_met.pattern_then next_met.waiters_then
+        (sym same ∙ next_met.left) in
+        let one_less = ap (λ (s : Settled). length s.met) next_met.settled in
+        omega (arith, before, after, one_less)
 
--- there is none
-pub set_unknown : (b : Board) (id bits : ℕ) (x : Option EventFlag)
-    → state_of b.core.kernel.event_flags id ≡ x → is_some x ≡ false
-    → set_event_flag b id bits ≡ quiet b.memory (answers b.core UNKNOWN_EVENT_FLAG)
-set_unknown b id bits x known none =
-    unknown_by b bits (object_of b.core.kernel.event_flags.live id) (ap is_some known ∙ none)
+  -- all are
+  pub meeting_ends : None ≡ (meets_next p.event_flags id).0 → (after : After) (cpu : Cpu)
+      → after ≡ Resume → cpu ≡ with_reg b.core.cpu 2 (code_word OK)
+      → TakesBoard stands_for (set_event_flag b id bits) after (record p { event_flags = t }) cpu
+      memory old new
+  meeting_ends answer after cpu resumed answered =
+      let last =
+      flag_settled b.core.kernel.event_flags id h.object h.live p.event_flags h.pattern h.waiters
+      h.left t answer is in
+      subst (λ (d : Done Board). TakesBoard stands_for d after (record p { event_flags = t }) cpu
+      memory old new) (sym (ap whole_of last.1) ∙ h.whole) (record {
+        core = record {
+          answer = resumed;
+          kernel = holds_flags stands_for h.holds (sym last.0);
+          processor = answered;
+        };
+        ram = refl;
+        gives = gives_then h.gives (gives_none new);
+      })
 
 -- by the event flag of the id
 live_by : (o : Option LiveFlag) → is_some (option_map (λ p. p.state) o) ≡ true
@@ -275,13 +202,13 @@ live_by : (o : Option LiveFlag) → is_some (option_map (λ p. p.state) o) ≡ t
 live_by None e = absurd (cc e)
 live_by (Some o) e = (o, refl)
 
--- there is one
-pub found_live : (s : EventFlags) (id : ℕ) (x : Option EventFlag) → state_of s id ≡ x
-    → is_some x ≡ true → (o : LiveFlag) × (object_of s.live id ≡ Some o)
-found_live s id x known some = live_by (object_of s.live id) (ap is_some known ∙ some)
+module _ (s : EventFlags) (id : ℕ) (x : Option EventFlag) (known : x ≡ state_of s id) where
+  -- there is one
+  pub found_live : is_some x ≡ true → (o : LiveFlag) × (object_of s.live id ≡ Some o)
+  found_live some = live_by (object_of s.live id) (ap is_some (sym known) ∙ some)
 
--- its bits are set
-pub set_answers : (s : EventFlags) (id bits : ℕ) (x : Option EventFlag) → state_of s id ≡ x
-    → is_some x ≡ true → (sets s id bits).0 ≡ OK
-set_answers s id bits None known some = absurd (cc some)
-set_answers s id bits (Some x) known some = ap (λ x. (sets_it s id bits x).0) known
+  -- its bits are set
+  pub set_answers : (bits : ℕ) → is_some x ≡ true → (sets s id bits).0 ≡ OK
+  set_answers bits some =
+      ap (λ (o : Option LiveFlag). (sets_it s id bits (option_map (λ p. p.state) o)).0)
+      (found_live some).1

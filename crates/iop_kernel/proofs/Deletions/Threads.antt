@@ -1,6 +1,7 @@
 -- The threads that waited for an object which is deleted, and the states in which they then are.
 use Rattle.std.proofs.Common.{◌≡◌, ◌≢◌, ℕ, ◌+◌, ◌==◌, nat_lt, Bool, true, false, if◌then◌else◌, Option, Some, None, option_map, List, [], ◌∷◌, refl, ap, sym, ◌∙◌, subst, arith}
 use Rattle.std.specs.Prelude.{option_and_then}
+use Rattle.std.proofs.lemmas.Bool.{eq-eqb}
 use Rattle.std.proofs.lemmas.Bool.Decides.{nat_tests}
 use Rattle.iop_base.specs.Numbers.{one_if}
 use Rattle.iop_base.specs.declared.code.TheConstants.Code.{OBJECT_DELETED}
@@ -12,8 +13,9 @@ use Rattle.iop_thread.specs.States.{wait_in, with_answer}
 use Rattle.iop_thread.specs.ThreadTable.{ThreadTable, thread_of, in_state}
 use Rattle.iop_thread.specs.Waits.{wait_of}
 use Rattle.iop_thread.specs.declared.kind.Kind.{Kind}
+use Rattle.iop_thread.specs.declared.kind.Kind.TheVariants.{Semaphore, EventFlag, Mailbox}
 use Rattle.iop_thread.specs.declared.state.State.{State}
-use Rattle.iop_thread.specs.declared.state.State.TheVariants.{Dormant, Running, Ready, Waiting, Suspended, WaitingSuspended}
+use Rattle.iop_thread.specs.declared.state.State.TheVariants.{Ready, Waiting, Suspended, WaitingSuspended}
 use Rattle.iop_thread.specs.declared.thread.Thread.{Thread}
 use Rattle.iop_thread.specs.declared.wait.Wait.{Wait}
 use Rattle.iop_thread.specs.declared.wait.Wait.TheVariants.{Object}
@@ -21,18 +23,14 @@ use Rattle.iop_thread.proofs.LiveThreads.{thread_of_changed, thread_of_id}
 use Rattle.iop_thread.proofs.ReadyIds.{times_first}
 use Rattle.iop_kernel.specs.Kinds.{Live, Table, table, waits_by_priority}
 use Rattle.iop_kernel.specs.ObjectServices.{threads_in_order, deletes_object, delete_object}
-use Rattle.iop_kernel.specs.Placing.{AreWaited, is_for}
+use Rattle.iop_kernel.specs.Placing.{AreWaited, IsPlaced, is_for}
 use Rattle.iop_kernel.specs.System.{Core, Left, with_threads, code_word}
 use Rattle.iop_kernel.specs.Waits.{wakes_all}
 use Rattle.iop_kernel.specs.WakingLaws.{state_in, WakesAll, DeletionsWakeAll}
 use Rattle.iop_kernel.proofs.Bodies.KindTables.{own_table, for_object, own_object}
-use Rattle.iop_kernel.proofs.Placing.Endings.{all_in_order}
+use Rattle.iop_kernel.proofs.Placing.Kinds.{all_in_order}
 use Rattle.iop_kernel.proofs.Placing.Objects.{object_of_id, object_of_without}
 use Rattle.iop_kernel.proofs.Placing.Threads.{all_woken}
-
--- an id is itself
-itself : (id : ℕ) → (id == id) ≡ true
-itself id = grind (arith, nat_tests)
 
 -- the state of a thread whose wait, if it has one, has ended with a word
 abbrev woken : ℕ → State → State
@@ -42,12 +40,8 @@ woken word other = other
 
 -- a wait ends once
 woken_twice : (word : ℕ) (state : State) → woken word (woken word state) ≡ woken word state
-woken_twice word Dormant = refl
-woken_twice word Running = refl
-woken_twice word (Ready own) = refl
 woken_twice word (Waiting wait own) = refl
-woken_twice word (Suspended own) = refl
-woken_twice word (WaitingSuspended wait own) = refl
+woken_twice word other = refl
 
 abbrev woken_if : ℕ → Bool → Option State → Option State
 woken_if word b old = if b then option_map (woken word) old else old
@@ -57,12 +51,16 @@ module _ (s : ThreadTable) (id word t : ℕ) where
   abbrev Now : ThreadTable → Type 0
   Now left = state_in left t ≡ woken_if word (id == t) (state_in s t)
 
-  module _ (u : Thread) (found : thread_of s.live id ≡ Some u) where
-    -- it is this one
-    there : (id == t) ≡ true → thread_of s.live t ≡ Some u
-    there is = let same : t ≡ id = grind (arith, nat_tests, is) in rw same found
+  -- nothing changes where it waits for nothing
+  stays : option_map (woken word) (state_in s id) ≡ state_in s id → Now s
+  stays is = by (id == t) refl
+    where
+      by : (b : Bool) → (id == t) ≡ b → state_in s t ≡ woken_if word b (state_in s t)
+      by true e = let same : t ≡ id = grind (arith, nat_tests, e) in rw same (sym is)
+      by false e = refl
 
-    -- the state that is then found, by whether it is that of this thread
+  module _ (u : Thread) (found : thread_of s.live id ≡ Some u) where
+    -- the state that is found once it has a new one, by whether it is looked for
     abbrev after : (new : State) → Bool → Option State
     after new b = option_map (λ v. v.state)
         (if b then option_map (λ v. record u { state = new }) (thread_of s.live t)
@@ -71,51 +69,31 @@ module _ (s : ThreadTable) (id word t : ℕ) where
     -- its state changes
     changes_to : (new : State) → woken word u.state ≡ new → Now (in_state s u new)
     changes_to new is =
+        let own = thread_of_id s.live id u found in
+        let turned : (t == u.id) ≡ (id == t) = grind (arith, nat_tests, own) in
         ap (option_map (λ v. v.state)) (thread_of_changed s.live (record u { state = new }) t)
-        ∙ turned ∙ by (id == t) refl
+        ∙ ap (after new) turned ∙ by (id == t) refl
       where
-        turned : after new (t == u.id) ≡ after new (id == t)
-        turned =
-            let own = thread_of_id s.live id u found in
-            let same : (t == u.id) ≡ (id == t) = grind (arith, nat_tests, own) in
-            ap (after new) same
-
         by : (b : Bool) → (id == t) ≡ b → after new b ≡ woken_if word b (state_in s t)
-        by true e = rw (there e) (ap (λ state. Some state) (sym is))
-        by false e = refl
-
-    -- it waits for nothing
-    stays : woken word u.state ≡ u.state → Now s
-    stays is = by (id == t) refl
-      where
-        by : (b : Bool) → (id == t) ≡ b → state_in s t ≡ woken_if word b (state_in s t)
-        by true e = rw (there e) (ap (λ state. Some state) (sym is))
+        by true e =
+            let same : t ≡ id = grind (arith, nat_tests, e) in
+            let there : thread_of s.live t ≡ Some u = rw same found in
+            rw there (ap (λ state. Some state) (sym is))
         by false e = refl
 
     -- by its state
     from : (state : State) → u.state ≡ state → Now (wakes_in s word u state)
-    from Dormant e = stays (ap (woken word) e ∙ sym e)
-    from Running e = stays (ap (woken word) e ∙ sym e)
-    from (Ready own) e = stays (ap (woken word) e ∙ sym e)
     from (Waiting wait own) e = changes_to (Ready (with_answer own word)) (ap (woken word) e)
-    from (Suspended own) e = stays (ap (woken word) e ∙ sym e)
     from (WaitingSuspended wait own) e =
         changes_to (Suspended (with_answer own word)) (ap (woken word) e)
+    from other e = stays (rw found (ap (λ state. Some state) (ap (woken word) e ∙ sym e)))
 
   -- by the thread of the id
   wakes_state : Now (wakes s id word)
   wakes_state = by (thread_of s.live id) refl
     where
-      none : thread_of s.live id ≡ None → (b : Bool) → (id == t) ≡ b
-          → state_in s t ≡ woken_if word b (state_in s t)
-      none found true e =
-          let same : t ≡ id = grind (arith, nat_tests, e) in
-          let gone : thread_of s.live t ≡ None = rw same found in
-          rw gone refl
-      none found false e = refl
-
       by : (o : Option Thread) → thread_of s.live id ≡ o → Now (wakes_it s word o)
-      by None found = none found (id == t) refl
+      by None found = stays (rw found refl)
       by (Some u) found = from u found u.state refl
 
 -- woken once or twice
@@ -153,6 +131,11 @@ wait_there s t = by (thread_of s.live t)
     by None = refl
     by (Some u) = refl
 
+-- there are some where there is one
+some_are : (b : Bool) (n : ℕ) → n ≡ one_if b → nat_lt 0 n ≡ b
+some_are true n is = rw is refl
+some_are false n is = rw is refl
+
 -- all that wait for an object are woken, and it is deleted
 module _ (kind : Kind) (s : Table kind) (threads : ThreadTable)
     (h : AreWaited kind s threads) (placed : threads_placing.IsPlaced threads) (o : Live kind)
@@ -174,21 +157,18 @@ module _ (kind : Kind) (s : Table kind) (threads : ThreadTable)
 
   -- its own wait does
   its : is_for kind o.id (Some wait) ≡ true
-  its = own_object kind o.id o.id ∙ itself o.id
+  its = own_object kind o.id o.id ∙ eq-eqb o.id o.id refl
 
-  -- a thread is once among them where it waited for it
-  often : (t : ℕ) → times t ids ≡ one_if (asks t)
-  often t = all_in_order s o live (waits_by_priority kind o.state) t ∙ h.waiters o.id t
+  -- a thread is among them where it waited for it
+  among : (t : ℕ) → nat_lt 0 (times t ids) ≡ asks t
+  among t =
+      some_are (asks t) (times t ids)
+      (all_in_order s o live (waits_by_priority kind o.state) t ∙ h.waiters o.id t)
 
-  -- a thread is woken where it waited for it
+  -- so it is woken then
   state_now : (t : ℕ) → state_in left t ≡ woken_if word (asks t) (state_in threads t)
   state_now t =
-      all_state threads ids word t ∙ by (asks t) (times t ids) (often t)
-    where
-      by : (b : Bool) (n : ℕ) → n ≡ one_if b → woken_if word (nat_lt 0 n) (state_in threads t)
-          ≡ woken_if word b (state_in threads t)
-      by true n is = rw is refl
-      by false n is = rw is refl
+      all_state threads ids word t ∙ ap (λ b. woken_if word b (state_in threads t)) (among t)
 
   -- it did where its state says so
   asked : (t : ℕ) (state : State) → state_in threads t ≡ Some state → wait_in state ≡ Some wait
@@ -210,26 +190,16 @@ module _ (kind : Kind) (s : Table kind) (threads : ThreadTable)
 
   -- none waits for it any more
   none_waits : (t : ℕ) → wait_of left t ≢ Some wait
-  none_waits t = by (asks t) refl ended
+  none_waits t still = by (asks t) refl (sym ended ∙ still)
     where
       ended : wait_of left t ≡ (if asks t then None else wait_of threads t)
       ended =
           (all_woken threads placed ids word).waits t
-          ∙ ended_by (asks t) (times t ids) (often t)
-        where
-          ended_by : (b : Bool) (n : ℕ) → n ≡ one_if b
-              → (if nat_lt 0 n then None else wait_of threads t)
-              ≡ (if b then None else wait_of threads t)
-          ended_by true n is = rw is refl
-          ended_by false n is = rw is refl
+          ∙ ap (λ b. if b then None else wait_of threads t) (among t)
 
-      by : (b : Bool) → asks t ≡ b
-          → wait_of left t ≡ (if b then None else wait_of threads t) → wait_of left t ≢ Some wait
-      by true is now still = let none = sym now ∙ still in absurd (cc none)
-      by false is now still =
-          let yes : asks t ≡ true = ap (is_for kind o.id) (sym now ∙ still) ∙ its in
-          let no = sym yes ∙ is in
-          absurd (cc no)
+      by : (b : Bool) → asks t ≡ b → (if b then None else wait_of threads t) ≡ Some wait → ⊥
+      by true is none = cc none
+      by false is there = let asked = ap (is_for kind o.id) there ∙ its in absurd (cc (asked, is))
 
   -- so all are woken
   all_wake : WakesAll o.id wait threads left (deletes s o.id)
@@ -238,12 +208,15 @@ module _ (kind : Kind) (s : Table kind) (threads : ThreadTable)
     suspended = λ t own was. asked t (WaitingSuspended wait own) was refl;
     others = spared;
     none = none_waits;
-    gone = object_of_without s.live o.id o.id ∙ rw (itself o.id) refl;
+    gone = object_of_without s.live o.id o.id ∙ rw (eq-eqb o.id o.id refl) refl;
   }
 
--- of each kind
-pub deletions_wake_all : DeletionsWakeAll
-deletions_wake_all kind c id o h lives =
+-- where an object of a kind is deleted
+object_wakes : (kind : Kind) (c : Core) (id : ℕ) (o : Live kind) → IsPlaced c.kernel
+    → object_of (table kind c.kernel).live id ≡ Some o
+    → let left = (delete_object kind c id).state.kernel in
+    WakesAll id (Object kind id) c.kernel.threads left.threads (table kind left)
+object_wakes kind c id o h lives =
     let k = c.kernel in
     let t = table kind k in
     let same = object_of_id t.live id o lives in
@@ -258,3 +231,9 @@ deletions_wake_all kind c id o h lives =
     (table kind d.state.kernel)) (ap (deletes_object kind c) (sym lives))
     (subst (λ u. WakesAll o.id (Object kind o.id) k.threads woken u)
     (sym (own_table kind (with_threads c woken).kernel gone)) all))
+
+-- by the service of each kind
+pub deletions_wake_all : DeletionsWakeAll
+deletions_wake_all Semaphore = object_wakes Semaphore
+deletions_wake_all EventFlag = object_wakes EventFlag
+deletions_wake_all Mailbox = object_wakes Mailbox

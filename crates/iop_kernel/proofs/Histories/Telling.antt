@@ -1,15 +1,23 @@
 -- What becomes of the objects of a kind where a call tells of them: each change, once for all kinds
 -- and for all that calls can tell.
-use Rattle.std.proofs.Common.{◌≡◌, ℕ, ◌≤◌, ◌==◌, not, Bool, true, false, if◌then◌else◌, cond, Option, Some, None, Result, List, [], ◌∷◌, ◌++◌, map, filter, refl, ap, sym, ◌∙◌, subst, arith}
+use Rattle.std.proofs.Common.{◌≡◌, ℕ, ◌<◌, ◌≤◌, ◌==◌, Bool, true, false, if◌then◌else◌, Option, Some, None, Result, Err, option_to_list, List, [], ◌∷◌, ◌++◌, map, refl, ap, sym, subst, arith}
+use Rattle.std.specs.Option.{option_or}
+use Rattle.std.specs.Prelude.{⊤}
 use Rattle.std.proofs.lemmas.Bool.{cond_both}
 use Rattle.std.proofs.lemmas.Bool.Decides.{nat_tests}
+use Rattle.std.proofs.lemmas.List.Elements.{All-weaker}
+use Rattle.std.proofs.lemmas.List.Folds.{find-append}
 use Rattle.iop_base.specs.declared.code.Code.{Code}
-use Rattle.iop_objects.specs.Objects.{Object, Objects, object_of, state_of, has_room, creates, deletes, with_state, with_waiters}
-use Rattle.iop_objects.specs.declared.queued.Queued.{Queued}
-use Rattle.iop_objects.specs.declared.waiter.Waiter.{Waiter}
+use Rattle.iop_base.proofs.Lists.{find-none}
+use Rattle.iop_objects.specs.Objects.{Object, Objects, object_of, state_of, has_room, creates, deletes, with_state}
 use Rattle.iop_objects.proofs.Changes.{state_of-with_state}
+use Rattle.iop_services.specs.declared.service.Service.{Service}
 use Rattle.iop_kernel.specs.Histories.{Called, succeeds}
-use Rattle.iop_kernel.proofs.Placing.Objects.{known, waiters_leave_states}
+use Rattle.iop_kernel.proofs.Placing.Objects.{HaveIdsBelow, known, object_of_without}
+
+-- a history with a call more, if there is one
+abbrev pub longer : List Called → Option Called → List Called
+longer history call = history ++ option_to_list call
 
 -- what a call tells, if there is one, of the object of an id
 pub record Tells (A : Type 0) : Type 1 where
@@ -19,186 +27,139 @@ pub record Tells (A : Type 0) : Type 1 where
   pub Nothing : (id : ℕ) → Option Called → Type 0
   -- what is known of it at first
   pub First : A → Type 0
+  -- the services that never tell anything
+  pub Silent : Service → Type 0
   -- where nothing is told it may stay as it was
   pub alone : (id : ℕ) (call : Option Called) → Nothing id call → (x : A) → Keeps id call x x
-  -- nothing is told by no call, and by one that does not succeed
+  -- nothing is told by no call, by one of a silent service, and by one that does not succeed
   pub none : (id : ℕ) → Nothing id None
+  pub silent : (id : ℕ) (c : Called) → Silent c.service → Nothing id (Some c)
   pub fails : (id : ℕ) (c : Called) → succeeds c ≡ false → Nothing id (Some c)
+
+-- what a call tells by what was known of the object of an id, and by what is known now; one that
+-- is made has an id that none had before
+abbrev pub Becomes : {A : Type 0} → Tells A → (next id : ℕ) → Option Called → (was is : Option A)
+    → Type 0
+Becomes t next id call None None = t.Nothing id call
+Becomes t next id call None (Some y) = t.Nothing id call × (next ≤ id) × t.First y
+Becomes t next id call (Some x) None = ⊤
+Becomes t next id call (Some x) (Some y) = t.Keeps id call x y
 
 module _ {A W : Type 0} (t : Tells A) where
   -- the objects became what the call tells
   pub record TellsBy (old new : Objects A W) (call : Option Called) : Type 0 where
-    -- each that stays live
-    pub kept : (id : ℕ) (x y : A) → state_of old id ≡ Some x → state_of new id ≡ Some y
-        → t.Keeps id call x y
-    -- one that is made has an id that none had before
-    pub made : (id : ℕ) (y : A) → state_of old id ≡ None → state_of new id ≡ Some y
-        → (old.next ≤ id) × t.First y
-    -- of what is not live nothing is told
-    pub unknown : (id : ℕ) → state_of old id ≡ None → t.Nothing id call
+    pub each : (id : ℕ) → Becomes t old.next id call (state_of old id) (state_of new id)
     -- ids rise
     pub rises : old.next ≤ new.next
 
-  module _ (old new : Objects A W) (call : Option Called)
-      (nothing : (id : ℕ) → t.Nothing id call) (rises : old.next ≤ new.next) where
-    -- nothing is told, and no object changes or comes
-    pub none_comes : ((id : ℕ) (y : A) → state_of new id ≡ Some y → state_of old id ≡ Some y)
-        → TellsBy old new call
-    none_comes was_so = record {
-      kept = λ id x y was is.
-          let had = was_so id y is in
-          let it : x ≡ y = cc in
-          subst (t.Keeps id call x) it (t.alone id call (nothing id) x);
-      made = λ id y none is. let had = was_so id y is in absurd (cc);
-      unknown = λ id none. nothing id;
-      rises = rises;
-    }
+module _ {A W : Type 0} (t : Tells A) (s : Objects A W) (call : Option Called) where
+  -- what the call tells of an object, by what is known of it now
+  abbrev Told : (id : ℕ) → Option A → Type 0
+  Told id now = Becomes t s.next id call (state_of s id) now
 
-    -- nor goes
-    pub none_changes : ((id : ℕ) → state_of new id ≡ state_of old id) → TellsBy old new call
-    none_changes same = none_comes (λ id y is. sym (same id) ∙ is)
+  -- nothing, where it stays as it was
+  stays : (id : ℕ) → t.Nothing id call → (o : Option A) → Becomes t s.next id call o o
+  stays id nothing None = nothing
+  stays id nothing (Some x) = t.alone id call nothing x
 
-module _ {A W : Type 0} (at : ℕ) where
-  -- each other is as it was where one changes
-  abbrev to_state : A → Object A W → Object A W
-  to_state z o = if o.id == at then record o { state = z } else o
-
-  others_stay : (z : A) (id : ℕ) → (id == at) ≡ false → (live : List (Object A W))
-      → known (object_of (map (to_state z) live) id) ≡ known (object_of live id)
-  others_stay z id apart [] = refl
-  others_stay z id apart (o ∷ live) = grind (arith, nat_tests, others_stay z id apart live, apart)
-
-  -- or where it goes
-  found_without : (live : List (Object A W)) (id : ℕ)
-      → known (object_of (filter (λ o. not (o.id == at)) live) id)
-      ≡ (if id == at then None else known (object_of live id))
-  found_without [] id = grind (arith, nat_tests)
-  found_without (o ∷ live) id = grind (arith, nat_tests, found_without live id)
-
--- what is found was found before
-had_by : {A : Type 0} (was : Option A) (y : A) (b : Bool) → (if b then None else was) ≡ Some y
-    → was ≡ Some y
-had_by was y true is = cc
-had_by was y false is = is
-
-module _ {A W : Type 0} (o : Object A W) where
-  -- an object that comes is found by its id, where no other is
-  abbrev or_it : (id : ℕ) → Option A → Option A
-  or_it id None = if o.id == id then Some o.state else None
-  or_it id (Some x) = Some x
-
-  -- behind all others
-  found_with : (live : List (Object A W)) (id : ℕ)
-      → known (object_of (live ++ o ∷ []) id) ≡ or_it id (known (object_of live id))
-  found_with [] id = either (o.id == id)
-    where
-      either : (b : Bool) → known (cond b (Some o) None) ≡ (if b then Some o.state else None)
-      either true = refl
-      either false = refl
-  found_with (p ∷ live) id = either (p.id == id) (found_with live id)
-    where
-      either : (b : Bool)
-          → known (object_of (live ++ o ∷ []) id) ≡ or_it id (known (object_of live id))
-          → known (cond b (Some p) (object_of (live ++ o ∷ []) id))
-          ≡ or_it id (known (cond b (Some p) (object_of live id)))
-      either true later = refl
-      either false later = later
-
-  -- so it is the only one that was not
-  came : (id : ℕ) (y : A) (b : Bool) → (o.id == id) ≡ b
-      → (if b then Some o.state else None) ≡ Some y → (o.id ≡ id) × (o.state ≡ y)
-  came id y true is some = (grind (arith, nat_tests, is), cc)
-  came id y false is some = absurd (cc some)
-
--- an object becomes another as the call tells, and it alone
-module _ {A W : Type 0} (t : Tells A) (s left : Objects A W) (at : ℕ) (x z : A)
-    (call : Option Called) (was : state_of s at ≡ Some x) (own : state_of left at ≡ Some z)
-    (keeps : t.Keeps at call x z)
-    (others : (id : ℕ) → (id == at) ≡ false → state_of left id ≡ state_of s id)
-    (elsewhere : (id : ℕ) → (id == at) ≡ false → t.Nothing id call)
-    (rises : s.next ≤ left.next) where
-  -- each that stays live, by whether it is that one
-  kept_by : (id : ℕ) (a b : A) → state_of s id ≡ Some a → state_of left id ≡ Some b
-      → (c : Bool) → (id == at) ≡ c → t.Keeps id call a b
-  kept_by id a b old new true is =
-      let here : id ≡ at = grind (arith, nat_tests, is) in
-      let before : state_of s at ≡ Some a = ap (state_of s) (sym here) ∙ old in
-      let after : state_of left at ≡ Some b = ap (state_of left) (sym here) ∙ new in
-      let first : x ≡ a = cc in
-      let second : z ≡ b = cc in
-      rw (here, ← first, ← second) keeps
-  kept_by id a b old new false is =
-      let same = others id is in
-      let it : a ≡ b = cc in
-      subst (t.Keeps id call a) it (t.alone id call (elsewhere id is) a)
-
-  -- none comes
-  made_by : (id : ℕ) (y : A) → state_of s id ≡ None → state_of left id ≡ Some y
-      → (c : Bool) → (id == at) ≡ c → ⊥
-  made_by id y none some true is =
-      let here : id ≡ at = grind (arith, nat_tests, is) in
-      let dead : state_of s at ≡ None = ap (state_of s) (sym here) ∙ none in cc
-  made_by id y none some false is = let same = others id is in cc
-
-  -- nothing is told of one that is not live
-  unknown_by : (id : ℕ) → state_of s id ≡ None → (c : Bool) → (id == at) ≡ c
-      → t.Nothing id call
-  unknown_by id none true is =
-      let here : id ≡ at = grind (arith, nat_tests, is) in
-      let dead : state_of s at ≡ None = ap (state_of s) (sym here) ∙ none in
-      absurd (cc)
-  unknown_by id none false is = elsewhere id is
-
-  one_becomes : TellsBy t s left call
-  one_becomes = record {
-    kept = λ id a b old new. kept_by id a b old new (id == at) refl;
-    made = λ id y none some. absurd (made_by id y none some (id == at) refl);
-    unknown = λ id none. unknown_by id none (id == at) refl;
+  -- no object changes
+  pub none_changes : (left : Objects A W) → ((id : ℕ) → t.Nothing id call)
+      → ((id : ℕ) → state_of left id ≡ state_of s id) → s.next ≤ left.next → TellsBy t s left call
+  none_changes left nothing same rises = record {
+    each = λ id. subst (Told id) (sym (same id)) (stays id (nothing id) (state_of s id));
     rises = rises;
   }
 
-module _ {A W : Type 0} (t : Tells A) (s : Objects A W) (at : ℕ) (x : A) (call : Option Called)
-    (was : state_of s at ≡ Some x)
-    (elsewhere : (id : ℕ) → (id == at) ≡ false → t.Nothing id call) where
-  -- so where what is known of it changes
-  pub one_changes : (z : A) → t.Keeps at call x z → TellsBy t s (with_state s at z) call
-  one_changes z keeps =
-      one_becomes t s (with_state s at z) at x z call was (state_of-with_state s at x was z) keeps
-      (λ id apart. others_stay at z id apart s.live) elsewhere (omega arith)
+  -- one becomes another as the call tells, and it alone
+  module _ (at : ℕ) (x z : A) (was : state_of s at ≡ Some x) (keeps : t.Keeps at call x z)
+      (elsewhere : (id : ℕ) → (at == id) ≡ false → t.Nothing id call) where
+    pub one_becomes : (left : Objects A W) → state_of left at ≡ Some z
+        → ((id : ℕ) → (at == id) ≡ false → state_of left id ≡ state_of s id)
+        → s.next ≤ left.next → TellsBy t s left call
+    one_becomes left is others rises =
+        record { each = λ id. by id (at == id) refl; rises = rises }
+      where
+        by : (id : ℕ) (here : Bool) → (at == id) ≡ here → Told id (state_of left id)
+        by id true here =
+            let same : at ≡ id = grind (arith, nat_tests, here) in
+            subst (λ n. Told n (state_of left n)) same (rw (was, is) keeps)
+        by id false apart =
+            subst (Told id) (sym (others id apart)) (stays id (elsewhere id apart) (state_of s id))
 
-  -- or where others wait for it alone
-  pub one_stays : (waiters : List (Queued (Waiter W))) → t.Keeps at call x x
-      → TellsBy t s (with_waiters s at waiters) call
-  one_stays waiters keeps =
-      one_becomes t s (with_waiters s at waiters) at x x call was
-      (waiters_leave_states at waiters s at ∙ was) keeps
-      (λ id apart. waiters_leave_states at waiters s id) elsewhere (omega arith)
+    abbrev to_z : Object A W → Object A W
+    to_z o = if o.id == at then record o { state = z } else o
 
-module _ {A W : Type 0} (t : Tells A) (s : Objects A W) (call : Option Called)
-    (nothing : (id : ℕ) → t.Nothing id call) where
-  -- an object goes, of which nothing is to be told
-  pub deletes_tell : (at : ℕ) → TellsBy t s (deletes s at) call
-  deletes_tell at =
-      none_comes t s (deletes s at) call nothing (omega arith)
-      (λ id y some. had_by (state_of s id) y (id == at) (sym (found_without at s.live id) ∙ some))
+    others_stay : (id : ℕ) → (at == id) ≡ false → (live : List (Object A W))
+        → known (object_of (map to_z live) id) ≡ known (object_of live id)
+    others_stay id apart [] = refl
+    others_stay id apart (o ∷ live) = grind (arith, nat_tests, others_stay id apart live, apart)
 
-  abbrev one : A → Object A W
-  one x = record { id = s.next; state = x; waiters = [] }
+    -- so where what is known of it changes
+    pub one_changes : TellsBy t s (with_state s at z) call
+    one_changes =
+        one_becomes (with_state s at z) (state_of-with_state s at x was z)
+        (λ id apart. others_stay id apart s.live) (omega arith)
 
-  -- one comes, if there is room
-  pub creates_tell : (made : A) → t.First made → TellsBy t s (creates s made).1 call
-  creates_tell made first =
-      cond_both (has_room s) _ _ (λ (r : Result ℕ Code × Objects A W). TellsBy t s r.1 call)
-      (λ room. record {
-        kept = λ id x y was is.
-            let it : x ≡ y = cc (found_with (one made) s.live id) in
-            subst (t.Keeps id call x) it (t.alone id call (nothing id) x);
-        made = λ id y none is.
-            let some : (if s.next == id then Some made else None) ≡ Some y =
-            sym (found_with (one made) s.live id ∙ ap (or_it (one made) id) none) ∙ is in
-            let it = came (one made) id y (s.next == id) refl some in
-            (omega (arith, it.0), subst t.First it.1 first);
-        unknown = λ id none. nothing id;
-        rises = omega arith;
-      })
-      (λ full. none_changes t s s call nothing (omega arith) (λ id. refl))
+  -- an object goes or comes, of which nothing else is told
+  module _ (nothing : (id : ℕ) → t.Nothing id call) where
+    pub deletes_told : (at : ℕ) → TellsBy t s (deletes s at) call
+    deletes_told at = record {
+      each = λ id. subst (Told id) (ap known (sym (object_of_without s.live at id)))
+          (by id (id == at) (object_of s.live id));
+      rises = omega arith;
+    }
+      where
+        by : (id : ℕ) (gone : Bool) (o : Option (Object A W))
+            → Becomes t s.next id call (known o) (known (if gone then None else o))
+        by id true None = nothing id
+        by id true (Some o) = tt
+        by id false o = stays id (nothing id) (known o)
+
+    abbrev Made : Result ℕ Code × Objects A W → Type 0
+    Made r = TellsBy t s r.1 call
+
+    unmade : TellsBy t s s call
+    unmade = none_changes s nothing (λ id. refl) (omega arith)
+
+    -- if there is room
+    pub creates_told : (x : A) → t.First x → Made (creates s x)
+    creates_told x first =
+        cond_both (has_room s) _ _ Made (λ room. record {
+          each = λ id. subst (Told id)
+              (ap known (sym (find-append (λ (o : Object A W). o.id == id) s.live (made ∷ []))))
+              (by id (object_of s.live id) (s.next == id) refl);
+          rises = omega arith;
+        }) (λ full. unmade)
+      where
+        made : Object A W
+        made = record { id = s.next; state = x; waiters = [] }
+
+        by : (id : ℕ) (o : Option (Object A W)) (here : Bool) → (s.next == id) ≡ here
+            → Becomes t s.next id call (known o)
+            (known (option_or o (if here then Some made else None)))
+        by id None true here = (nothing id, grind (arith, nat_tests, here), first)
+        by id None false apart = nothing id
+        by id (Some o) here is = t.alone id call (nothing id) o.state
+
+    -- and it is not refused
+    pub unless : (refuses : Bool) (code : Code) (r : Result ℕ Code × Objects A W)
+        → (refuses ≡ false → Made r) → Made (if refuses then (Err code, s) else r)
+    unless refuses code r made = cond_both refuses _ _ Made (λ is. unmade) made
+
+  -- of an object that is still to be made nothing is told
+  pub nothing_yet : (left : Objects A W) → HaveIdsBelow s.next s.live → TellsBy t s left call
+      → (id : ℕ) → s.next ≤ id → t.Nothing id call
+  nothing_yet left given told id above =
+      by (state_of left id)
+      (subst (λ (was : Option A). Becomes t s.next id call was (state_of left id)) none
+      (told.each id))
+    where
+      none : state_of s id ≡ None
+      none =
+          ap known (find-none (λ (o : Object A W). o.id == id) s.live
+          (All-weaker (λ (o : Object A W). o.id < s.next) (λ o. (o.id == id) ≡ false)
+          (λ o below. grind (arith, nat_tests, below, above)) s.live given))
+
+      by : (now : Option A) → Becomes t s.next id call None now → t.Nothing id call
+      by None nothing = nothing
+      by (Some y) made = made.0

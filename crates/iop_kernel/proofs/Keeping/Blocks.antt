@@ -1,13 +1,14 @@
 -- What the services keep of the blocks of memory.
 use Rattle.std.proofs.Common.{◌≡◌, ℕ, ◌==◌, Bool, true, false, if◌then◌else◌, Option, Some, None, refl}
 use Rattle.iop_base.specs.BlockSizes.{block_len}
-use Rattle.iop_kernel.specs.Laws.{AreKept}
-use Rattle.iop_sysmem.proofs.Keeping.{allocating-blocks, freeing-blocks}
 use Rattle.iop_sysmem.specs.Allocating.{allocating, allocating_at, place_for}
 use Rattle.iop_sysmem.specs.BlockMap.{BlockMap, freeing_of, freeing, index_to_free}
+use Rattle.iop_sysmem.proofs.Keeping.{allocating-blocks, freeing-blocks}
+use Rattle.iop_kernel.specs.Laws.{AreKept}
 
 -- a block that is placed leaves memory as large as it was
-size_placed : (map : BlockMap) (len : ℕ) (o : Option ℕ) → (allocating_at map len o).1.size ≡ map.size
+size_placed : (map : BlockMap) (len : ℕ) (o : Option ℕ)
+    → (allocating_at map len o).1.size ≡ map.size
 size_placed map len None = refl
 size_placed map len (Some place) = refl
 

@@ -3,15 +3,15 @@ use Rattle.std.proofs.Common.{◌≡◌, Bool, true, ◌&&◌, IfSome, Option, S
 use Rattle.std.proofs.lemmas.Bool.Decides.{nat_tests}
 use Rattle.iop_exec.specs.Laws.{IsSteady}
 use Rattle.iop_exec.specs.declared.cpu.Cpu.{Cpu}
+use Rattle.iop_thread.specs.Laws.{AreSteady}
+use Rattle.iop_thread.specs.ThreadTable.{ThreadTable}
+use Rattle.iop_thread.proofs.KeptRegisters.{keeps_steady}
 use Rattle.iop_kernel.specs.Laws.{IsCore}
 use Rattle.iop_kernel.specs.Overdue.{NoneOverdue}
 use Rattle.iop_kernel.specs.Placing.{IsPlaced}
 use Rattle.iop_kernel.specs.System.{Core, registers_beside, running_registers}
 use Rattle.iop_kernel.specs.ThreadStarts.{ended}
 use Rattle.iop_kernel.specs.declared.active_handler.ActiveHandler.{ActiveHandler}
-use Rattle.iop_thread.proofs.KeptRegisters.{keeps_steady}
-use Rattle.iop_thread.specs.Laws.{AreSteady}
-use Rattle.iop_thread.specs.ThreadTable.{ThreadTable}
 
 -- dispatch is enabled, and interrupts are on once no handler runs
 abbrev pub WouldSwitch : (on enabled : Bool) → Option ActiveHandler → Type 0

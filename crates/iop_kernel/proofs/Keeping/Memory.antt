@@ -1,16 +1,19 @@
--- What the services store in memory.
-use Rattle.std.proofs.Common.{◌≡◌, ℕ, ◌+◌, ◌*◌, ◌%◌, ◌==◌, ◌≤◌, nat_le, Bool, true, false, if◌then◌else◌, Option, Some, None, List, [], ◌∷◌, length, All, refl, sym, ◌∙◌, arith}
+-- What the services store in memory, and that the places where they store lie in it.
+use Rattle.std.proofs.Common.{◌≡◌, ℕ, ◌+◌, ◌*◌, ◌%◌, ◌==◌, ◌≤◌, Option, Some, None, List, [], ◌∷◌, length, All, refl, sym, ◌∙◌, arith, option_map}
+use Rattle.std.proofs.lemmas.Bool.{cond_both}
 use Rattle.std.proofs.lemmas.Bool.Decides.{nat_tests}
 use Rattle.std.proofs.lemmas.List.{length-append, append-nil}
+use Rattle.std.proofs.lemmas.Option.{cond_some, option_and_then_some}
 use Rattle.iop_base.specs.Piece.{Piece}
-use Rattle.iop_base.specs.Places.{phys, range_at}
+use Rattle.iop_base.specs.Places.{phys}
 use Rattle.iop_base.proofs.Memory.{length-with_bytes}
 use Rattle.iop_stubs.specs.Stubs.{Memory, after_store, store_lines, range_place}
 use Rattle.iop_thread.specs.States.{wait_in}
 use Rattle.iop_thread.specs.declared.thread.Thread.{Thread}
 use Rattle.iop_thread.specs.declared.wait.Wait.{Wait}
+use Rattle.iop_kernel.specs.Boards.{optional_place}
 use Rattle.iop_kernel.specs.Laws.{Store, after_stores, stores_lines}
-use Rattle.iop_kernel.specs.System.{words_place}
+use Rattle.iop_kernel.specs.System.{System, words_place}
 use Rattle.iop_kernel.specs.ThreadStatus.{status_bytes, status_words, wait_words}
 use Rattle.iop_kernel.proofs.Readings.WordBytes.{length-bytes_of_words}
 
@@ -47,40 +50,20 @@ one_stored clock memory (Some p) bytes inside = record {
   size = length-with_bytes memory.ram p bytes (inside p refl);
 }
 
--- a place that passes the test
-in_range : (b : Bool) (p size len q : ℕ) → nat_le (p + len) size ≡ b
-    → (if b then Some p else None) ≡ Some q → q + len ≤ size
-in_range true p size len q fits e =
-    let is : p ≡ q = cc e in grind (arith, nat_tests, fits, is)
-in_range false p size len q fits e = absurd (cc e)
-
--- by the place of its first byte
-range_by : (o : Option ℕ) (size at len q : ℕ) → phys size at ≡ o → range_at size at len ≡ Some q
-    → q + len ≤ size
-range_by None size at len q is e =
-    let none : range_at size at len ≡ None = rw is refl in absurd (cc (none, e))
-range_by (Some p) size at len q is e =
-    let there : range_at size at len ≡ (if nat_le (p + len) size then Some p else None) =
-    rw is refl in
-    in_range (nat_le (p + len) size) p size len q refl (sym there ∙ e)
-
 -- a range that has a place lies in memory
 pub range_inside : (memory : Memory) (at len q : ℕ) → range_place memory at len ≡ Some q
     → q + len ≤ length memory.ram
-range_inside memory at len q e =
-    let size = length memory.ram in range_by (phys size at) size at len q refl e
-
--- by whether the address is a multiple of 4
-words_by : (b : Bool) (memory : Memory) (at count q : ℕ)
-    → (if b then range_place memory at (4 * count) else None) ≡ Some q
-    → q + 4 * count ≤ length memory.ram
-words_by true memory at count q e = range_inside memory at (4 * count) q e
-words_by false memory at count q e = absurd (cc e)
+range_inside memory at len q there =
+    option_and_then_some _ (phys (length memory.ram) at) q there (λ p found within.
+    let fits = cond_some _ p q within in grind (arith, nat_tests, fits.0, fits.1))
 
 -- words that have a place lie in memory
 pub words_inside : (memory : Memory) (at count q : ℕ) → words_place memory at count ≡ Some q
     → q + 4 * count ≤ length memory.ram
-words_inside memory at count q e = words_by (at % 4 == 0) memory at count q e
+words_inside memory at count q =
+    cond_both (at % 4 == 0) (range_place memory at (4 * count)) None
+    (λ o. o ≡ Some q → q + 4 * count ≤ length memory.ram)
+    (λ aligned. range_inside memory at (4 * count) q) (λ other there. absurd (cc there))
 
 -- a wait is told in two words
 length-wait_words : (o : Option Wait) → length (wait_words o) ≡ 2
@@ -93,3 +76,22 @@ length-status_bytes t =
     let words = length-append (wait_words (wait_in t.state)) (t.wakeups ∷ []) in
     length-bytes_of_words (status_words t)
     ∙ omega (arith, words, length-wait_words (wait_in t.state))
+
+-- a range of so many words at a place, if there is one, lies in memory
+abbrev pub WordsFit : Memory → (place : Option ℕ) → (count : ℕ) → Type 0
+WordsFit memory place count = (p : ℕ) → place ≡ Some p → p + 4 * count ≤ length memory.ram
+
+module _ (s : System) where
+  -- a place that is a word's, or none
+  abbrev pub PlaceFits : Option (Option ℕ) → Type 0
+  PlaceFits o = (place : Option ℕ) → o ≡ Some place → WordsFit s.memory place 1
+
+  -- so is the place of a word where 0 stands for none
+  word_fits : (o : Option ℕ) → WordsFit s.memory o 1 → PlaceFits (option_map (λ p. Some p) o)
+  word_fits None fits place e p is = absurd (cc e)
+  word_fits (Some at) fits place e p is = fits p (cc (e, is))
+
+  pub optional_fits : (at : ℕ) → PlaceFits (optional_place s.memory at)
+  optional_fits at =
+      cond_both (at == 0) _ _ PlaceFits (λ none place e p is. absurd (cc (e, is)))
+      (λ some. word_fits (words_place s.memory at 1) (words_inside s.memory at 1))

@@ -1,21 +1,21 @@
 -- What each small change of a service keeps of what executes, and what has then become of the
 -- thread or the handler that called.
 use Rattle.std.proofs.Common.{◌≡◌, ℕ, ◌+◌, ◌≤◌, nat_lt, Bool, true, false, Some, Result, List, length, refl, ap, sym, ◌∙◌, subst, arith}
+use Rattle.std.specs.List.{list_any}
 use Rattle.std.proofs.lemmas.Bool.{cond_both}
 use Rattle.std.proofs.lemmas.Bool.Decides.{nat_tests}
-use Rattle.std.specs.List.{list_any}
 use Rattle.iop_base.specs.Piece.{Piece}
 use Rattle.iop_base.specs.declared.code.Code.{Code}
 use Rattle.iop_base.specs.declared.code.TheConstants.Code.{OK, OBJECT_DELETED, WAIT_RELEASED}
 use Rattle.iop_exec.specs.Row.{reg}
-use Rattle.iop_thread.proofs.KeptRegisters.{keeps_steady}
-use Rattle.iop_thread.proofs.Placed.{keeps_places}
-use Rattle.iop_thread.proofs.Waits.{moves_waits}
 use Rattle.iop_thread.specs.Laws.{AreSteady}
 use Rattle.iop_thread.specs.Operations as threads
 use Rattle.iop_thread.specs.ThreadTable.{ThreadTable, is_it}
 use Rattle.iop_thread.specs.declared.wait.Wait.TheVariants.{Sleep, Delay, Object}
-use Rattle.iop_time.specs.Timers.{Timers, is_alarm_of, sets_alarm, cancels, delays}
+use Rattle.iop_thread.proofs.KeptRegisters.{keeps_steady}
+use Rattle.iop_thread.proofs.Placed.{keeps_places}
+use Rattle.iop_thread.proofs.Waits.{moves_waits}
+use Rattle.iop_time.specs.Timers.{Timers, is_alarm_of, sets_alarm, cancels}
 use Rattle.iop_time.specs.declared.clock.TheConstants.{MOST_ALARMS}
 use Rattle.iop_kernel.specs.Handlers.{handler_returned}
 use Rattle.iop_kernel.specs.Laws.{HasReturned}

@@ -38,14 +38,14 @@ module _ (s : ThreadTable) (placed : IsPlaced s) where
       ((moves_waits s placed).suspends id registers).running ∙ rw other refl
 
 -- by the handler that runs, if one does
-outside_beside : (o : Option ActiveHandler) (running : Option ℕ) (id : ℕ)
-    → caller_beside o running ≡ Some id → (o ≡ None) × (running ≡ Some id)
-outside_beside None running id e = (refl, e)
-outside_beside (Some handler) running id e = absurd (cc e)
+runs_beside : (o : Option ActiveHandler) (running : Option ℕ) (id : ℕ)
+    → caller_beside o running ≡ Some id → running ≡ Some id
+runs_beside None running id calls = calls
+runs_beside (Some handler) running id calls = cc calls
 
--- and it is the one that runs
+-- the thread that calls is the one that runs
 pub caller_runs : (c : Core) (id : ℕ) → caller c ≡ Some id → c.kernel.threads.running ≡ Some id
-caller_runs c id e = (outside_beside c.kernel.handler c.kernel.threads.running id e).1
+caller_runs c id calls = runs_beside c.kernel.handler c.kernel.threads.running id calls
 
 -- where a handler calls, no thread does
 pub no_caller : (c : Core) (handler : ActiveHandler) → c.kernel.handler ≡ Some handler

@@ -1,6 +1,6 @@
 -- After a dispatch there is none to be made; and where there is none, the processor and the moment
 -- do not matter.
-use Rattle.std.proofs.Common.{◌≡◌, ℕ, Some, None, refl}
+use Rattle.std.proofs.Common.{◌≡◌, ℕ, Some, None}
 use Rattle.iop_exec.specs.declared.cpu.Cpu.{Cpu}
 use Rattle.iop_thread.proofs.DispatchSettling.{settles, settled_still}
 use Rattle.iop_kernel.specs.Dispatching.{Dispatched, dispatched, dispatches}
@@ -14,12 +14,6 @@ dispatch_settles c =
     dispatches_goes (λ left line. dispatches left ≡ None) c (λ may did made.
     none_dispatched (dispatched c.kernel did).core
     (λ still. settles c.kernel.threads c.cpu did.registers did made))
-
--- and takes no time
-pub dispatch_clock : (c : Core) (d : Dispatched) → dispatches c ≡ Some d
-    → d.core.kernel.clock ≡ c.kernel.clock
-dispatch_clock c =
-    dispatches_goes (λ left line. left.kernel.clock ≡ c.kernel.clock) c (λ may did made. refl)
 
 -- where none is to be made, none is at another moment, whatever the registers are
 pub settled_later : (c : Core) (clock : ℕ) (cpu : Cpu) → dispatches c ≡ None

@@ -1,8 +1,8 @@
 -- What holds of the kernel at all times holds at first, and after all that the machine does beside
 -- its services.
 use Rattle.std.proofs.Common.{◌≡◌, ℕ, Option, None, refl}
-use Rattle.std.proofs.lemmas.List.Elements.{All-nil}
 use Rattle.std.specs.Prelude.{⊤}
+use Rattle.std.proofs.lemmas.List.Elements.{All-nil}
 use Rattle.iop_base.specs.declared.code.TheConstants.Code.{OK}
 use Rattle.iop_event.specs.Laws.{AskBits}
 use Rattle.iop_event.specs.declared.event_flag.EventFlag.{EventFlag}
@@ -11,13 +11,13 @@ use Rattle.iop_exec.specs.Laws.{IsSteady}
 use Rattle.iop_exec.specs.declared.cpu.Cpu.{Cpu}
 use Rattle.iop_intr.specs.declared.handler.Handler.{Handler}
 use Rattle.iop_objects.specs.Objects.{Object}
+use Rattle.iop_thread.specs.Laws.{KeepsSteady}
+use Rattle.iop_thread.specs.Waits.{MovesWaits}
+use Rattle.iop_thread.specs.declared.kind.Kind.TheVariants as kinds
 use Rattle.iop_thread.proofs.KeptRegisters.{keeps_steady, operations_keep_steady, begun_steady}
 use Rattle.iop_thread.proofs.Sleepers.{operations_keep_sleepers}
 use Rattle.iop_thread.proofs.Strict.{dispatched_is}
 use Rattle.iop_thread.proofs.Waits.{moves_waits}
-use Rattle.iop_thread.specs.Laws.{KeepsSteady}
-use Rattle.iop_thread.specs.Waits.{MovesWaits}
-use Rattle.iop_thread.specs.declared.kind.Kind.TheVariants as kinds
 use Rattle.iop_kernel.specs.Handlers.{begins_handler}
 use Rattle.iop_kernel.specs.Laws.{IsCore}
 use Rattle.iop_kernel.specs.Overdue.{NoneOverdue}

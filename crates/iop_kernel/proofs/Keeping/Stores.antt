@@ -1,7 +1,7 @@
 -- What each service stores in memory, and what it keeps of the blocks of memory.
 use Rattle.std.proofs.Common.{◌≡◌, ℕ, ◌+◌, ◌≤◌, List, [], ◌++◌, length, inl, inr, refl, ap, sym, subst, arith}
-use Rattle.std.proofs.lemmas.List.Elements.{Contains-append_left, Contains-append_right, Contains-append_cases}
 use Rattle.std.specs.Prelude.{⊤, Some, Contains}
+use Rattle.std.proofs.lemmas.List.Elements.{Contains-append_left, Contains-append_right, Contains-append_cases}
 use Rattle.iop_base.specs.Piece.{Piece}
 use Rattle.iop_stubs.specs.Stubs.{after_store, store_lines}
 use Rattle.iop_kernel.specs.Laws.{AreKept, Writes}

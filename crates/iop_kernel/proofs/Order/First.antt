@@ -1,6 +1,6 @@
 -- What is delivered: the lowest line, else the alarm or the delay that comes next; and what a
 -- delivery keeps.
-use Rattle.std.proofs.Common.{◌≡◌, ℕ, ◌&&◌, not, Bool, true, false, Option, Some, None, is_some, MatchOption, refl, subst, arith}
+use Rattle.std.proofs.Common.{◌≡◌, true, Some, None, is_some, refl, ap, arith}
 use Rattle.std.proofs.lemmas.Bool.Decides.{nat_tests}
 use mathlib.Core.Logic.{inl, inr}
 use Rattle.iop_base.specs.Piece.{Piece}
@@ -9,39 +9,28 @@ use Rattle.iop_intr.specs.InterruptLines.{deliverable}
 use Rattle.iop_intr.specs.Laws.{IsLowest}
 use Rattle.iop_intr.proofs.Keeping.{delivering-lines}
 use Rattle.iop_thread.proofs.Waits.{moves_waits}
-use Rattle.iop_time.specs.Laws.{NoneHasCome, IsNext, IsTaken, moment_of, number_of}
-use Rattle.iop_time.proofs.Leaving.{each_call_leaves}
-use Rattle.iop_time.proofs.Results.{taken_is_next}
+use Rattle.iop_time.specs.Laws.{IsNext, IsTaken, moment_of, number_of}
 use Rattle.iop_time.specs.Taking.{without_due, takes_due}
 use Rattle.iop_time.specs.declared.due.Due.{Due}
 use Rattle.iop_time.specs.declared.due.Due.TheVariants as due
-use Rattle.iop_kernel.specs.Deliveries.{is_in_slot, may_deliver}
+use Rattle.iop_time.proofs.Leaving.{each_call_leaves}
+use Rattle.iop_time.proofs.Results.{taken_is_next}
+use Rattle.iop_kernel.specs.Deliveries.{may_deliver}
 use Rattle.iop_kernel.specs.DeliveryLaws.{IsOpenToDelivery, DeliveryKeeps, DeliveriesAreInOrder}
 use Rattle.iop_kernel.specs.Laws.{IsCore}
 use Rattle.iop_kernel.specs.System.{Kernel, Core, code_word}
-use Rattle.iop_kernel.specs.declared.active_handler.ActiveHandler.{ActiveHandler}
 use Rattle.iop_kernel.proofs.Keeping.Steps.{core_steps}
-use Rattle.iop_kernel.proofs.Order.Nothing.{lowest_is, no_line_comes, no_line, no_moment, none_before_look}
+use Rattle.iop_kernel.proofs.Order.Nothing.{none_of, lowest_is, no_line_comes, no_line, no_moment, none_before_look}
 use Rattle.iop_kernel.proofs.Walk.Steps.{DueComes, Deliveries, delivers_goes}
-
--- by the handler that runs, if one does, and the thread
-outside_of : (o : Option ActiveHandler) (interrupts slot : Bool)
-    → (interrupts && not (is_some o) && not slot) ≡ true → o ≡ None
-outside_of None interrupts slot may = refl
-outside_of (Some handler) interrupts slot may = absurd (grind (arith, nat_tests, may))
-
--- the thread that runs stands in no slot
-slot_of : (running : Option ℕ) (r : ℕ) (in_slot off : Bool) → running ≡ Some r
-    → (off && not (is_some running && in_slot)) ≡ true → in_slot ≡ false
-slot_of None r in_slot off runs may = absurd (cc runs)
-slot_of (Some one) r in_slot off runs may = grind (arith, nat_tests, may)
 
 -- when something may be delivered
 open_by : (c : Core) → may_deliver c ≡ true → IsOpenToDelivery c
 open_by c may = record {
   interrupts = grind (arith, nat_tests, may);
-  handler = outside_of c.kernel.handler c.kernel.interrupts (is_in_slot c) may;
-  slot = λ r runs. slot_of c.kernel.threads.running r c.cpu.in_slot _ runs may;
+  handler = none_of c.kernel.handler (grind (arith, nat_tests, may));
+  slot = λ r runs.
+      let some : is_some c.kernel.threads.running ≡ true = ap is_some runs in
+      grind (arith, nat_tests, may, some);
 }
 
 module _ (c : Core) (core : IsCore c) where
@@ -56,15 +45,10 @@ module _ (c : Core) (core : IsCore c) where
   taken_first : (x : Due) → (takes_due k.timers k.clock).0 ≡ Some x
       → IsNext k.timers k.clock (moment_of x) (number_of x)
       × IsTaken k.timers (without_due k.timers (Some x)) x
-  taken_first x taken =
-      let timers = k.timers in
-      let left = (each_call_leaves timers core.placed.delays.kept).takes_due k.clock in (
-        subst (λ (o : Option Due). MatchOption o (NoneHasCome timers k.clock)
-            (λ x. IsNext timers k.clock (moment_of x) (number_of x))) taken
-            (taken_is_next timers core.placed.delays.kept k.clock),
-        subst (λ (o : Option Due). MatchOption o (without_due timers o ≡ timers)
-            (IsTaken timers (without_due timers o))) taken left,
-      )
+  taken_first x taken = (
+    rw taken at (taken_is_next k.timers core.placed.delays.kept k.clock),
+    rw taken at ((each_call_leaves k.timers core.placed.delays.kept).takes_due k.clock),
+  )
 
   module _ (may : may_deliver c ≡ true) where
     -- an alarm or a delay is delivered, where no line can be

@@ -1,19 +1,19 @@
 -- Whether something is delivered. Where nothing is, no line can be, and no alarm and no delay has
 -- come, nor does one before the next look.
-use Rattle.std.proofs.Common.{◌≡◌, ℕ, suc, zero, ◌+◌, ◌<◌, ◌≤◌, ◌==◌, ◌||◌, not, nat_le, Bool, true, false, cond, if◌then◌else◌, Option, Some, None, is_some, ◌&&◌, option_map, IfSome, MatchOption, List, [], ◌∷◌, length, get_or, refl, sym, ap, subst, ◌∙◌, arith}
-use Rattle.std.specs.List.{find}
+use Rattle.std.proofs.Common.{◌≡◌, ℕ, ◌+◌, ◌<◌, ◌≤◌, ◌==◌, ◌||◌, not, nat_le, Bool, true, false, if◌then◌else◌, Option, Some, None, is_some, ◌&&◌, option_map, IfSome, MatchOption, List, [], ◌∷◌, length, refl, sym, ap, subst, ◌∙◌, arith}
+use Rattle.std.specs.List.{Any, find, list_any}
 use Rattle.std.specs.Option.{option_or, option_and_then}
 use Rattle.std.proofs.Math.Bool.{and-false}
 use Rattle.std.proofs.Math.ListN.{get_or-eq_default}
-use Rattle.std.proofs.lemmas.Bool.{cases_lt}
+use Rattle.std.proofs.lemmas.Bool.{cases_lt, eq-eqb, or_left, or_parts, or_right}
 use Rattle.std.proofs.lemmas.Bool.Decides.{nat_tests}
+use Rattle.std.proofs.lemmas.List.Folds.{list_any-from_Any}
 use mathlib.Core.Logic.{inl, inr}
 use Rattle.iop_exec.specs.declared.cpu.Cpu.{Cpu}
 use Rattle.iop_intr.specs.InterruptLines.{IrqLine, idle, line_of, deliverable}
 use Rattle.iop_intr.specs.Laws.{CanBeDelivered, IsLowest}
 use Rattle.iop_intr.specs.declared.handler.Handler.{Handler}
 use Rattle.iop_intr.proofs.Keeping.{deliverable-lowest}
-use Rattle.iop_time.proofs.Nexts.{due_is_next}
 use Rattle.iop_time.specs.Laws.{Stands, NoneHasCome, IsNext}
 use Rattle.iop_time.specs.Taking.{timer_of, takes_due}
 use Rattle.iop_time.specs.Timers.{Timers}
@@ -23,17 +23,11 @@ use Rattle.iop_time.specs.declared.delay.Delay.{Delay}
 use Rattle.iop_time.specs.declared.due.Due.{Due}
 use Rattle.iop_time.specs.declared.due.Due.TheVariants as due_variants
 use Rattle.iop_time.specs.declared.turn.Turn.{Turn}
+use Rattle.iop_time.proofs.Nexts.{due_is_next}
 use Rattle.iop_kernel.specs.Deliveries.{is_in_slot, may_deliver, delivers_line, delivers_due, delivers_by, delivers, next_look}
 use Rattle.iop_kernel.specs.DeliveryLaws.{NoLineComes, at_moment}
 use Rattle.iop_kernel.specs.Overdue.{NoMomentHasCome}
 use Rattle.iop_kernel.specs.System.{Kernel, Core, in_handler}
-
--- there is no line past the last
-no_line_past : (k : Kernel) (n : ℕ) → length k.irqs ≤ n → CanBeDelivered (line_of k.irqs n) → ⊥
-no_line_past k n past can =
-    let is = get_or-eq_default k.irqs idle past in
-    let raised = ap (λ (l : IrqLine). l.raised) is in
-    cc (raised, can.raised)
 
 -- of the lines that there are, none can be delivered
 abbrev pub NoneCanBe : List IrqLine → Type 0
@@ -47,64 +41,55 @@ FindsLowest irqs o = MatchOption o (NoneCanBe irqs) (IsLowest irqs)
 pub lowest_is : (irqs : List IrqLine) (o : Option ℕ) → deliverable irqs ≡ o → FindsLowest irqs o
 lowest_is irqs o found = subst (FindsLowest irqs) found (deliverable-lowest irqs)
 
--- where none is found, none can be delivered
+-- where none is found, none can be delivered, nor is there a line past the last
 pub no_line_comes : (k : Kernel) → NoneCanBe k.irqs → NoLineComes k
 no_line_comes k none n can =
     elim (cases_lt n (length k.irqs)) [
       | inl below ↦ none n below can
-      | inr past ↦ no_line_past k n past can
+      | inr past ↦
+          let raised = ap (λ (l : IrqLine). l.raised) (get_or-eq_default k.irqs idle past) in
+          absurd (cc (raised, can.raised))
     ]
 
 module _ {X : Type 0} (p : X → Bool) where
-  -- what passes is found
-  found_here : (y : X) (rest : Option X) (b : Bool) → b ≡ true → cond b (Some y) rest ≡ None → ⊥
-  found_here y rest true passes none = cc none
-  found_here y rest false passes none = cc passes
+  -- one is found where one passes
+  is_some-find : (xs : List X) → is_some (find p xs) ≡ list_any p xs
+  is_some-find [] = refl
+  is_some-find (x ∷ xs) = grind (arith, nat_tests, is_some-find xs)
 
-  -- by what is behind it
-  none_behind : (y : X) (rest : Option X) (b : Bool) → cond b (Some y) rest ≡ None → rest ≡ None
-  none_behind y rest true none = absurd (cc none)
-  none_behind y rest false none = none
+-- what stands with a number is found by it
+numbered : {X : Type 0} (xs : List X) (moment_in number_in : X → ℕ) (moment number : ℕ)
+    → Any (λ x. (moment_in x ≡ moment) × (number_in x ≡ number)) xs
+    → is_some (find (λ x. number_in x == number) xs) ≡ true
+numbered {X} xs moment_in number_in moment number (k, x, below, at, has) =
+    let is_it : X → Bool = λ x. number_in x == number in
+    is_some-find is_it xs
+    ∙ list_any-from_Any is_it xs (k, x, below, at, eq-eqb (number_in x) number has.1)
 
-  -- one that stands anywhere
-  find-passes : (xs : List X) (k : ℕ) (x : X) → k < length xs → get_or xs k x ≡ x → p x ≡ true
-      → find p xs ≡ None → ⊥
-  find-passes [] k x below at passes none = omega arith
-  find-passes (y ∷ ys) zero x below at passes none =
-      found_here y (find p ys) (p y) (ap p at ∙ passes) none
-  find-passes (y ∷ ys) (suc k) x below at passes none =
-      find-passes ys k x (omega arith) at passes (none_behind y (find p ys) (p y) none)
+-- an alarm or a delay is there where one of the two is
+is_some_or : (alarm : Option Alarm) (delay : Option Delay)
+    → is_some (option_or (option_map due_variants.Alarm alarm)
+    (option_map due_variants.Delay delay)) ≡ (is_some alarm || is_some delay)
+is_some_or None None = refl
+is_some_or None (Some delay) = refl
+is_some_or (Some alarm) delay = refl
 
--- of two neither is there
-neither : (alarm : Option Alarm) (delay : Option Delay)
-    → option_or (option_map due_variants.Alarm alarm) (option_map due_variants.Delay delay) ≡ None
-    → (alarm ≡ None) × (delay ≡ None)
-neither None None none = (refl, refl)
-neither None (Some delay) none = absurd (cc none)
-neither (Some alarm) delay none = absurd (cc none)
-
--- an alarm or a delay that stands is found by its number
+-- one that stands is found by its number
 timer_found : (timers : Timers) (moment number : ℕ) → Stands timers moment number
-    → timer_of timers number ≡ None → ⊥
-timer_found timers moment number (inl (k, alarm, below, at, has)) none =
-    let same = has.1 in
-    find-passes (λ (a : Alarm). a.number == number) timers.alarms k alarm below at
-    (grind (arith, nat_tests, same)) (neither _ _ none).0
-timer_found timers moment number (inr (k, delay, below, at, has)) none =
-    let same = has.1 in
-    find-passes (λ (d : Delay). d.number == number) timers.delays k delay below at
-    (grind (arith, nat_tests, same)) (neither _ _ none).1
+    → is_some (timer_of timers number) ≡ true
+timer_found timers moment number (inl alarm) =
+    is_some_or _ _
+    ∙ or_left _ _ (numbered timers.alarms (λ a. a.moment) (λ a. a.number) moment number alarm)
+timer_found timers moment number (inr delay) =
+    is_some_or _ _
+    ∙ or_right _ _ (numbered timers.delays (λ d. d.moment) (λ d. d.number) moment number delay)
 
 -- what is due is taken
 taken_by : (timers : Timers) (t : ℕ) (o : Option ℕ)
     → MatchOption o (NoneHasCome timers t) (λ number. (moment : ℕ) × IsNext timers t moment number)
     → is_some (option_and_then (timer_of timers) o) ≡ is_some o
 taken_by timers t None none = refl
-taken_by timers t (Some number) (moment, next) = by (timer_of timers number) refl
-  where
-    by : (o : Option Due) → timer_of timers number ≡ o → is_some o ≡ true
-    by None none = absurd (timer_found timers moment number next.come.0 none)
-    by (Some x) found = refl
+taken_by timers t (Some number) (moment, next) = timer_found timers moment number next.come.0
 
 -- whether something is due at this moment
 abbrev pub comes : Core → Bool
@@ -147,15 +132,9 @@ module _ (c : Core) where
   delivers_some = some_if (may_deliver c)
 
 -- what is not there is none
-none_of : {A : Type 0} (o : Option A) → is_some o ≡ false → o ≡ None
+pub none_of : {A : Type 0} (o : Option A) → is_some o ≡ false → o ≡ None
 none_of None none = refl
 none_of (Some x) none = absurd (cc none)
-
--- of two that are not there each is none
-neither_of : {A B : Type 0} (o : Option A) (p : Option B) → (is_some o || is_some p) ≡ false
-    → (o ≡ None) × (p ≡ None)
-neither_of None p none = (refl, none_of p none)
-neither_of (Some x) p none = absurd (cc none)
 
 module _ (c : Core) (none : delivers c ≡ None) (may : may_deliver c ≡ true) where
   abbrev k : Kernel
@@ -164,8 +143,9 @@ module _ (c : Core) (none : delivers c ≡ None) (may : may_deliver c ≡ true) 
   -- no line is found, and nothing is due
   none_found : (deliverable k.irqs ≡ None) × (due k.timers k.clock ≡ None)
   none_found =
-      neither_of (deliverable k.irqs) (due k.timers k.clock)
-      (sym (delivers_some c ∙ rw may refl) ∙ ap is_some none)
+      let neither = or_parts (is_some (deliverable k.irqs)) (comes c)
+      (sym (delivers_some c ∙ rw may refl) ∙ ap is_some none) in
+      (none_of _ neither.0, none_of _ neither.1)
 
   -- no line can be delivered
   pub no_line : NoLineComes k
@@ -173,10 +153,7 @@ module _ (c : Core) (none : delivers c ≡ None) (may : may_deliver c ≡ true) 
 
   -- no alarm and no delay has come
   pub no_moment : NoMomentHasCome k
-  no_moment =
-      subst (λ (o : Option ℕ). MatchOption o (NoneHasCome k.timers k.clock)
-      (λ number. (moment : ℕ) × IsNext k.timers k.clock moment number)) none_found.1
-      (due_is_next k.timers k.clock)
+  no_moment = rw none_found.1 at (due_is_next k.timers k.clock)
 
 -- before the first turn none is due
 none_before : (first : Option Turn) (moment : ℕ)
@@ -192,44 +169,31 @@ module _ (c : Core) (moment : ℕ) (cpu : Cpu) where
   abbrev later : Core
   later = at_moment c moment cpu
 
-  -- where nothing may be delivered, nothing is
-  closed_then : may_deliver later ≡ false → delivers later ≡ None
-  closed_then closed = none_of (delivers later) (delivers_some later ∙ rw closed refl)
-
-  -- nor where no line can be, and nothing is due
-  none_then : deliverable c.kernel.irqs ≡ None → due c.kernel.timers moment ≡ None
-      → delivers later ≡ None
-  none_then no_line not_due =
-      none_of (delivers later)
-      (delivers_some later ∙ rw (no_line, not_due) (and-false (may_deliver later)))
-
-  -- at the same moment, with the same processor, nothing has changed
-  same_then : moment ≡ c.kernel.clock → cpu ≡ c.cpu → later ≡ c
-  same_then same_moment same_cpu =
-      ap (λ (m : ℕ). at_moment c m cpu) same_moment ∙ ap (at_moment c c.kernel.clock) same_cpu
-
-  -- by whether interrupts are off or a handler runs, and whether the thread stands in a slot
-  look_by : delivers c ≡ None → c.kernel.clock ≤ moment → (moment ≡ c.kernel.clock → cpu ≡ c.cpu)
-      → (closed slot : Bool) → (in_handler c.kernel || not c.kernel.interrupts) ≡ closed
-      → is_in_slot c ≡ slot
-      → IfSome (if closed then None else if slot then Some (c.kernel.clock + 1)
-      else next_moment c.kernel.timers) (λ look. moment < look)
-      → delivers later ≡ None
-  look_by none after same true slot closed in_slot before =
-      closed_then (grind (arith, nat_tests, closed))
-  look_by none after same false true is_open in_slot before =
-      let now : moment ≡ c.kernel.clock = omega (arith, before, after) in
-      subst (λ (d : Core). delivers d ≡ None) (sym (same_then now (same now))) none
-  look_by none after same false false is_open in_slot before =
-      let may : may_deliver c ≡ true = grind (arith, nat_tests, is_open, in_slot) in
-      let timers = c.kernel.timers in
-      none_then (none_found c none may).0
-      (none_before (first_turn timers.alarms timers.delays) moment before)
-
   -- where nothing is delivered now, nothing is before the next look
   pub none_before_look : delivers c ≡ None → c.kernel.clock ≤ moment
       → (moment ≡ c.kernel.clock → cpu ≡ c.cpu)
       → IfSome (next_look c) (λ look. moment < look) → delivers later ≡ None
-  none_before_look none after same before =
-      look_by none after same (in_handler c.kernel || not c.kernel.interrupts) (is_in_slot c) refl
-      refl before
+  none_before_look none after same =
+      by (in_handler c.kernel || not c.kernel.interrupts) (is_in_slot c) refl refl
+    where
+      -- by whether interrupts are off or a handler runs, and whether the thread stands in a slot
+      by : (closed slot : Bool) → (in_handler c.kernel || not c.kernel.interrupts) ≡ closed
+          → is_in_slot c ≡ slot
+          → IfSome (if closed then None else if slot then Some (c.kernel.clock + 1)
+          else next_moment c.kernel.timers) (λ look. moment < look)
+          → delivers later ≡ None
+      by true slot closed in_slot before =
+          let may_not : may_deliver later ≡ false = grind (arith, nat_tests, closed) in
+          none_of (delivers later) (delivers_some later ∙ rw may_not refl)
+      by false true is_open in_slot before =
+          let now : moment ≡ c.kernel.clock = omega (arith, before, after) in
+          let is : later ≡ c =
+          ap (λ (m : ℕ). at_moment c m cpu) now ∙ ap (at_moment c c.kernel.clock) (same now) in
+          subst (λ (d : Core). delivers d ≡ None) (sym is) none
+      by false false is_open in_slot before =
+          let may : may_deliver c ≡ true = grind (arith, nat_tests, is_open, in_slot) in
+          let timers = c.kernel.timers in
+          let no_line = (none_found c none may).0 in
+          let not_due = none_before (first_turn timers.alarms timers.delays) moment before in
+          none_of (delivers later)
+          (delivers_some later ∙ rw (no_line, not_due) (and-false (may_deliver later)))

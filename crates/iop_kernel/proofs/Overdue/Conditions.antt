@@ -1,12 +1,12 @@
--- That the conditions of threads which wait for an event flag do not hold: after bits are set and
--- cleared, and on whatever pattern a thread that is met leaves.
-use Rattle.std.proofs.Common.{◌≡◌, ◌≢◌, ℕ, ◌==◌, Bool, true, false, not, if◌then◌else◌, List, [], ◌∷◌, refl, ap, sym, ◌∙◌, arith}
-use Rattle.std.specs.Prelude.{bit_and}
-use Rattle.std.proofs.lemmas.Bool.{cond_both}
-use Rattle.std.proofs.lemmas.Bool.Decides.{nat_tests}
-use Rattle.std.proofs.lemmas.List.Elements.{All-nil, All-cons, All-head, All-tail}
-use Rattle.std.proofs.lemmas.Nat.{and_assoc, and_comm}
+-- That the conditions of threads which wait for an event flag do not hold: after bits are cleared,
+-- and on whatever pattern a thread that is met leaves.
+use Rattle.std.proofs.Common.{◌≡◌, ◌≢◌, ℕ, ◌==◌, Bool, true, false, not, if◌then◌else◌, List, [], ◌∷◌, get_or, refl, ap, sym, ◌∙◌, arith}
 use Rattle.std.specs.Int.Bits.{and_self}
+use Rattle.std.specs.Prelude.{bit_and}
+use Rattle.std.proofs.lemmas.Bool.{cond_both, eqb-false, eqb-true, ne_eqb, not-false}
+use Rattle.std.proofs.lemmas.Bool.Decides.{nat_tests}
+use Rattle.std.proofs.lemmas.List.Elements.{All-cons, All-head, All-tail}
+use Rattle.std.proofs.lemmas.Nat.{and_assoc, and_comm}
 use Rattle.iop_event.specs.Laws.{AskBits, NoneOverdue}
 use Rattle.iop_event.specs.WakeConditions.{Settled, settles, is_met, has_bit, pattern_after, met_by, meets, stays}
 use Rattle.iop_event.specs.declared.wanted.TheConstants.{EITHER, CLEAR}
@@ -28,72 +28,35 @@ IsUnmet pattern x = is_met pattern x.item ≡ false
 
 -- none holds of the pattern 0
 unmet_zero : (x : Queued (Waiter Wanted)) → Asks x → IsUnmet 0 x
-unmet_zero x asks = either (has_bit x.item.wants.mode EITHER)
-  where
-    none_of : (0 == x.item.wants.bits) ≡ false
-    none_of = grind (arith, nat_tests, asks)
-
-    either : (b : Bool) → (if b then not (bit_and 0 x.item.wants.bits == 0)
-        else bit_and 0 x.item.wants.bits == x.item.wants.bits) ≡ false
-    either true = refl
-    either false = none_of
+unmet_zero x asks =
+    cond_both (has_bit x.item.wants.mode EITHER) (not (bit_and 0 x.item.wants.bits == 0))
+    (bit_and 0 x.item.wants.bits == x.item.wants.bits) (λ met. met ≡ false)
+    (λ either. refl) (λ all. grind (arith, nat_tests, asks))
 
 -- a thread that is met leaves the pattern, or clears it
-pub unmet_after : (mode pattern : ℕ) (x : Queued (Waiter Wanted)) → Asks x → IsUnmet pattern x
+unmet_after : (mode pattern : ℕ) (x : Queued (Waiter Wanted)) → Asks x → IsUnmet pattern x
     → IsUnmet (pattern_after mode pattern) x
-unmet_after mode pattern x asks unmet = either (has_bit mode CLEAR)
-  where
-    either : (b : Bool) → IsUnmet (if b then 0 else pattern) x
-    either true = unmet_zero x asks
-    either false = unmet
+unmet_after mode pattern x asks unmet =
+    cond_both (has_bit mode CLEAR) 0 pattern (λ pattern. IsUnmet pattern x)
+    (λ clear. unmet_zero x asks) (λ kept. unmet)
 
 -- of several
 pub none_overdue_after : (mode pattern : ℕ) (ws : Waiters) → AskBits ws → NoneOverdue pattern ws
     → NoneOverdue (pattern_after mode pattern) ws
-none_overdue_after mode pattern [] asks none = All-nil (IsUnmet (pattern_after mode pattern))
-none_overdue_after mode pattern (x ∷ xs) asks none =
-    All-cons (IsUnmet (pattern_after mode pattern)) x xs
-    (unmet_after mode pattern x (All-head Asks x xs asks) (All-head (IsUnmet pattern) x xs none))
-    (none_overdue_after mode pattern xs (All-tail Asks x xs asks)
-    (All-tail (IsUnmet pattern) x xs none))
+none_overdue_after mode pattern ws asks none k d below =
+    unmet_after mode pattern (get_or ws k d) (asks k d below) (none k d below)
 
--- after those that are met a condition that did not hold does not hold
-unmet_settled : (pattern : ℕ) (ws : Waiters) (x : Queued (Waiter Wanted)) → Asks x
-    → IsUnmet pattern x → IsUnmet (settles pattern ws).pattern x
-unmet_settled pattern [] x asks unmet = unmet
-unmet_settled pattern (y ∷ ys) x asks unmet =
-    let after = pattern_after y.item.wants.mode pattern in
-    cond_both (is_met pattern y.item)
-    (meets (met_by pattern y.item) (settles after ys)) (stays y (settles pattern ys))
-    (λ (s : Settled). IsUnmet s.pattern x)
-    (λ met. unmet_settled after ys x asks (unmet_after y.item.wants.mode pattern x asks unmet))
-    (λ stays. unmet_settled pattern ys x asks unmet)
-
--- none of those that wait on holds, and each of them asks for a bit
-pub record IsSettled (s : Settled) : Type 0 where
-  pub none : NoneOverdue s.pattern s.waiters
-  pub asks : AskBits s.waiters
-
-pub is_settled : (pattern : ℕ) (ws : Waiters) → AskBits ws → IsSettled (settles pattern ws)
-is_settled pattern [] asks = record {
-  none = All-nil (IsUnmet pattern);
-  asks = All-nil Asks;
-}
-is_settled pattern (x ∷ xs) asks =
+-- those that wait on after the others are met ask for bits, too
+pub settled_ask : (pattern : ℕ) (ws : Waiters) → AskBits ws → AskBits (settles pattern ws).waiters
+settled_ask pattern [] asks = asks
+settled_ask pattern (x ∷ xs) asks =
     let after = pattern_after x.item.wants.mode pattern in
-    let others = All-tail Asks x xs asks in
     let rest = settles pattern xs in
-    let on = is_settled pattern xs others in
-    let own = All-head Asks x xs asks in
-    cond_both (is_met pattern x.item)
-    (meets (met_by pattern x.item) (settles after xs)) (stays x rest) IsSettled
-    (λ met. let later = is_settled after xs others in
-    record { none = later.none; asks = later.asks })
-    (λ unmet. record {
-      none = All-cons (IsUnmet rest.pattern) x rest.waiters
-          (unmet_settled pattern xs x own unmet) on.none;
-      asks = All-cons Asks x rest.waiters own on.asks;
-    })
+    cond_both (is_met pattern x.item) (meets (met_by pattern x.item) (settles after xs))
+    (stays x rest) (λ (s : Settled). AskBits s.waiters)
+    (λ met. settled_ask after xs (All-tail Asks x xs asks))
+    (λ unmet. All-cons Asks x rest.waiters (All-head Asks x xs asks)
+    (settled_ask pattern xs (All-tail Asks x xs asks)))
 
 -- of fewer bits those of a condition are fewer
 fewer_bits : (pattern mask bits : ℕ)
@@ -114,31 +77,13 @@ all_bits pattern mask bits all =
 -- where bits are cleared a condition that did not hold does not hold
 pub unmet_cleared : (pattern mask : ℕ) (x : Queued (Waiter Wanted)) → IsUnmet pattern x
     → IsUnmet (bit_and pattern mask) x
-unmet_cleared pattern mask x = either (has_bit x.item.wants.mode EITHER)
+unmet_cleared pattern mask x = by x.item.wants.bits (has_bit x.item.wants.mode EITHER)
   where
-    all_free : (b : Bool) → (bit_and (bit_and pattern mask) x.item.wants.bits
-        == x.item.wants.bits) ≡ b → (bit_and pattern x.item.wants.bits == x.item.wants.bits) ≡ false
-        → b ≡ false
-    all_free true is unmet =
-        let bits = x.item.wants.bits in
-        let all : bit_and (bit_and pattern mask) bits ≡ bits = grind (arith, nat_tests, is) in
-        let was = all_bits pattern mask bits all in
-        absurd (grind (arith, nat_tests, was, unmet))
-    all_free false is unmet = refl
-
-    some_free : (bit_and pattern x.item.wants.bits == 0) ≡ true
-        → (bit_and (bit_and pattern mask) x.item.wants.bits == 0) ≡ true
-    some_free none =
-        let bits = x.item.wants.bits in
-        let was : bit_and pattern bits ≡ 0 = grind (arith, nat_tests, none) in
-        rw (fewer_bits pattern mask bits, was) refl
-
-    either : (b : Bool) → (if b then not (bit_and pattern x.item.wants.bits == 0)
-        else bit_and pattern x.item.wants.bits == x.item.wants.bits) ≡ false
-        → (if b then not (bit_and (bit_and pattern mask) x.item.wants.bits == 0)
-        else bit_and (bit_and pattern mask) x.item.wants.bits == x.item.wants.bits) ≡ false
-    either true unmet =
-        let bits = x.item.wants.bits in
-        let none : (bit_and pattern bits == 0) ≡ true = grind (arith, nat_tests, unmet) in
-        ap not (some_free none)
-    either false unmet = all_free _ refl unmet
+    by : (bits : ℕ) (either : Bool)
+        → (if either then not (bit_and pattern bits == 0) else bit_and pattern bits == bits) ≡ false
+        → (if either then not (bit_and (bit_and pattern mask) bits == 0)
+        else bit_and (bit_and pattern mask) bits == bits) ≡ false
+    by bits true unmet =
+        ap (λ n. not (n == 0)) (fewer_bits pattern mask bits
+        ∙ ap (λ n. bit_and n mask) (eqb-true _ 0 (not-false _ unmet)))
+    by bits false unmet = ne_eqb _ _ (λ all. eqb-false _ _ unmet (all_bits pattern mask bits all))

@@ -2,14 +2,12 @@
 use Rattle.std.proofs.Common.{◌≡◌, ℕ, Bool, true, Option, Some, List, [], ◌∷◌}
 use Rattle.iop_exec.specs.declared.cpu.Cpu.{Cpu}
 use Rattle.iop_intr.specs.InterruptLines.{IrqLine}
-use Rattle.iop_mbx.specs.Mailboxes.{Mailbox}
-use Rattle.iop_sema.specs.declared.semaphore.Semaphore.{Semaphore}
 use Rattle.iop_thread.specs.Laws.{SleepersAreUnwoken, KeepsSleepers}
 use Rattle.iop_thread.specs.Operations as threads
 use Rattle.iop_thread.specs.ThreadTable.{ThreadTable}
-use Rattle.iop_thread.specs.declared.wait.Wait.{Wait}
 use Rattle.iop_thread.specs.declared.kind.Kind.{Kind}
 use Rattle.iop_thread.specs.declared.kind.Kind.TheVariants as kinds
+use Rattle.iop_thread.specs.declared.wait.Wait.{Wait}
 use Rattle.iop_thread.specs.declared.wait.Wait.TheVariants as waits
 use Rattle.iop_thread.proofs.Sleepers.{keeps_sleepers}
 use Rattle.iop_time.specs.Timers.{Timers}
@@ -19,7 +17,8 @@ use Rattle.iop_kernel.specs.System.{Kernel}
 use Rattle.iop_kernel.specs.Waits.{wakes_all, leaves_object, requeues_at}
 use Rattle.iop_kernel.specs.declared.active_handler.ActiveHandler.{ActiveHandler}
 use Rattle.iop_kernel.proofs.Bodies.KindTables.{each_table}
-use Rattle.iop_kernel.proofs.Overdue.Kinds.{InTimeOf, idle_of, asks_of, drops_in_time, requeues_in_time as requeues_in_time_of}
+use Rattle.iop_kernel.proofs.Overdue.Kinds.{InTime, AllAsk, asks_of, drops_in_time, requeues_in_time as requeues_in_time_of}
+use Rattle.iop_kernel.proofs.Placing.Basics.{second}
 
 -- threads that are woken one after the other sleep as before
 woken_sleep : (s : ThreadTable) → SleepersAreUnwoken s → (ids : List ℕ) (word : ℕ)
@@ -34,10 +33,12 @@ module _ (k : Kernel) (h : NoneOverdue k) where
   sleepers = keeps_sleepers k.threads h.sleepers
 
   -- its objects of a kind
-  pub in_time_of : (kind : Kind) → InTimeOf kind (table kind k)
-  in_time_of kinds.Semaphore = h.objects kinds.Semaphore
-  in_time_of kinds.EventFlag = record { none = h.objects kinds.EventFlag; asks = h.asks }
-  in_time_of kinds.Mailbox = h.objects kinds.Mailbox
+  pub in_time_of : (kind : Kind) → InTime kind (table kind k)
+  in_time_of kind = record { none = h.objects kind; asks = by kind }
+    where
+      by : (kind : Kind) → AllAsk kind (table kind k)
+      by kinds.EventFlag = h.asks
+      by kind = tt
 
   -- other threads
   pub with_other_threads : (left : ThreadTable) → SleepersAreUnwoken left
@@ -47,6 +48,11 @@ module _ (k : Kernel) (h : NoneOverdue k) where
     sleepers = so;
     asks = h.asks;
   }
+
+  -- those that an operation answers
+  pub threads_come : {A : Type 0} {r : A × ThreadTable} {a : A} {left : ThreadTable}
+      → r ≡ (a, left) → SleepersAreUnwoken r.1 → NoneOverdue (record k { threads = left })
+  threads_come is so = with_other_threads _ (second SleepersAreUnwoken is so)
 
   -- the waits of some end
   pub woken_in_time : (ids : List ℕ) (word : ℕ)
@@ -60,11 +66,10 @@ module _ (k : Kernel) (h : NoneOverdue k) where
       with_other_threads _ (sleepers.blocks wait registers tt (λ asleep. absurd (awake asleep)))
 
   -- other objects of a kind
-  pub with_other_objects : (kind : Kind) (left : Table kind) → InTimeOf kind left
+  pub with_other_objects : (kind : Kind) (left : Table kind) → InTime kind left
       → NoneOverdue (with_table kind k left)
   with_other_objects kind left so = record {
-    objects = each_table AreIdle kind k left (idle_of kind left so)
-        (λ other apart. h.objects other);
+    objects = each_table AreIdle kind k left so.none (λ other apart. h.objects other);
     sleepers = h.sleepers;
     asks = asks_of kind left k.event_flags h.asks so;
   }

@@ -1,139 +1,225 @@
 -- No wait for an object of any kind is overdue, when one changes, comes or goes.
-use Rattle.std.proofs.Common.{◌≡◌, ℕ, Bool, Some, List, [], sym, ap, ◌∙◌, subst, arith}
-use Rattle.std.proofs.lemmas.Bool.Decides.{nat_tests}
-use Rattle.std.proofs.lemmas.List.Elements.{All-weaker}
-use Rattle.std.specs.Prelude.{bit_and}
-use Rattle.iop_event.specs.EventFlags.{EventFlags, AskForBits, with_pattern}
-use Rattle.iop_event.specs.Laws as laws
-use Rattle.iop_event.specs.declared.event_flag.EventFlag as flag
-use Rattle.iop_mbx.specs.Mailboxes.{Mailbox as Box, messages_by_priority, waiters_by_priority}
-use Rattle.iop_objects.specs.Objects.{state_of, waiters_of, with_state, with_waiters, creates, deletes, waits, drops, requeues}
+use Rattle.std.proofs.Common.{◌≡◌, ◌≢◌, ℕ, ◌==◌, Bool, false, if◌then◌else◌, ◌⊎◌, inl, inr, Some, Result, List, [], ◌∷◌, ◌++◌, refl, sym, ap, ◌∙◌, subst}
+use Rattle.std.specs.Prelude.{bit_and, ⊤}
+use Rattle.std.proofs.lemmas.Bool.{cond_both, eqb-false, eqb-true}
+use Rattle.std.proofs.lemmas.List.Elements.{All-map, All-nil, All-push, All-weaker}
+use Rattle.std.proofs.lemmas.Option.{same_Some}
+use Rattle.iop_base.specs.declared.code.Code.{Code}
+use Rattle.iop_event.specs.EventFlags.{EventFlags, AskForBits}
+use Rattle.iop_event.specs.Laws.{AskBits, NoneOverdue}
+use Rattle.iop_event.specs.WakeConditions.{Settled, is_met}
+use Rattle.iop_event.proofs.Asking.{AskBits-waiters_of, AskForBits-deletes, AskForBits-with_state, AskForBits-with_waiters}
+use Rattle.iop_mbx.specs.Mailboxes.{messages_by_priority, waiters_by_priority}
+use Rattle.iop_objects.specs.Objects.{state_of, waiters_of, has_room, changes, with_state, with_waiters, creates, deletes, waits, drops, requeues}
 use Rattle.iop_objects.specs.Queue.{Choice, chooses}
-use Rattle.iop_objects.specs.declared.waiter.Waiter.{Waiter}
 use Rattle.iop_objects.specs.declared.queued.Queued.{Queued}
+use Rattle.iop_objects.specs.declared.waiter.Waiter.{Waiter}
 use Rattle.iop_sema.specs.Semaphores.{by_priority}
-use Rattle.iop_sema.specs.declared.semaphore.Semaphore as semaphore
 use Rattle.iop_thread.specs.declared.kind.Kind.{Kind}
 use Rattle.iop_thread.specs.declared.kind.Kind.TheVariants.{Semaphore, EventFlag, Mailbox}
-use Rattle.iop_kernel.specs.Kinds.{State, Wants, Table, if_of, waits_by_priority}
-use Rattle.iop_kernel.specs.Overdue.{AreIdle}
-use Rattle.iop_kernel.proofs.Overdue.Conditions.{IsUnmet, unmet_cleared, none_overdue_after}
-use Rattle.iop_kernel.proofs.Overdue.Flags.{InTime, waiters_ask, flags_with_state, flags_wait, flags_chosen, flags_others, flags_create, flags_delete}
-use Rattle.iop_kernel.proofs.Overdue.Idle.{none_chosen, all_chosen, idle_chosen, idle_waits, idle_changes, idle_takes, idle_creates, idle_deletes, idle_others}
-use Rattle.iop_kernel.proofs.Placing.ObjectsKept.{NoOthers, none_without, none_requeued}
+use Rattle.iop_kernel.specs.EventFlags.{LiveFlag}
+use Rattle.iop_kernel.specs.Kinds.{State, Wants, Table, if_of}
+use Rattle.iop_kernel.specs.Overdue.{AreIdle, IsIdle}
+use Rattle.iop_kernel.proofs.Overdue.Conditions.{IsUnmet, Asks, unmet_cleared, none_overdue_after}
+use Rattle.iop_kernel.proofs.Overdue.Objects.{each_changes, each_with_waiters, each_with_state, each_creates, each_deletes}
+use Rattle.iop_kernel.proofs.Placing.Moves.{settled_flag}
+use Rattle.iop_kernel.proofs.Placing.ObjectsKept.{NoOthers, all_others, none_new, none_without, none_requeued, none_chosen_new}
+use Rattle.iop_kernel.proofs.Placing.Queues.{none_chosen, all_chosen}
 use Rattle.iop_kernel.proofs.Walk.Changes.{Changes, HasToWait}
 use Rattle.iop_kernel.proofs.Walk.Changes.FlagChanges.{clears, tests}
 use Rattle.iop_kernel.proofs.Walk.Changes.MailboxChanges.{puts, gets}
 use Rattle.iop_kernel.proofs.Walk.Changes.SemaphoreChanges.{counts, takes}
 
--- nothing is to be had of a semaphore
-abbrev IsZero : semaphore.Semaphore → Type 0
-IsZero x = x.count ≡ 0
+-- the threads that wait for an object of a kind: each that waits for bits asks for one at least
+abbrev AskWell : (kind : Kind) → List (Queued (Waiter (Wants kind))) → Type 0
+AskWell EventFlag waiters = AskBits waiters
+AskWell kind waiters = ⊤
 
--- nor of a mailbox
-abbrev IsClear : Box → Type 0
-IsClear x = x.messages ≡ []
+-- those that wait for all of them
+abbrev pub AllAsk : (kind : Kind) → Table kind → Type 0
+AllAsk EventFlag s = AskForBits s
+AllAsk kind s = ⊤
 
--- the objects of a kind are idle, and each thread that waits for bits asks for one at least
-abbrev pub InTimeOf : (kind : Kind) → Table kind → Type 0
-InTimeOf Semaphore s = AreIdle Semaphore s
-InTimeOf EventFlag s = InTime s
-InTimeOf Mailbox s = AreIdle Mailbox s
+-- the objects of a kind are idle, and those that wait for them ask so
+pub record InTime (kind : Kind) (s : Table kind) : Type 0 where
+  pub none : AreIdle kind s
+  pub asks : AllAsk kind s
 
--- they are idle
-pub idle_of : (kind : Kind) (s : Table kind) → InTimeOf kind s → AreIdle kind s
-idle_of Semaphore s h = h
-idle_of EventFlag s h = h.none
-idle_of Mailbox s h = h
-
--- and threads ask for bits, where they did
+-- threads ask for bits, where they did
 pub asks_of : (kind : Kind) (s : Table kind) (flags : EventFlags) → AskForBits flags
-    → InTimeOf kind s → AskForBits (if_of kind EventFlag s flags)
-asks_of Semaphore s flags asks h = asks
+    → InTime kind s → AskForBits (if_of kind EventFlag s flags)
 asks_of EventFlag s flags asks h = h.asks
+asks_of Semaphore s flags asks h = asks
 asks_of Mailbox s flags asks h = asks
 
--- none waits for one that did not
-others_in_time : (kind : Kind) (s : Table kind) → InTimeOf kind s → (id : ℕ)
-    (new : List (Queued (Waiter (Wants kind)))) → NoOthers (waiters_of s id) new
-    → InTimeOf kind (with_waiters s id new)
-others_in_time Semaphore s h = idle_others IsZero s h
-others_in_time EventFlag s h = flags_others s h
-others_in_time Mailbox s h = idle_others IsClear s h
+-- those of one object do where those of all do
+asks_at : (kind : Kind) (s : Table kind) → AllAsk kind s → (id : ℕ) → AskWell kind (waiters_of s id)
+asks_at EventFlag s asks id = AskBits-waiters_of s asks id
+asks_at kind s asks id = tt
 
--- so where a thread waits no more
-pub drops_in_time : (kind : Kind) (s : Table kind) → InTimeOf kind s → (id thread : ℕ)
-    → InTimeOf kind (drops s id thread)
-drops_in_time kind s h id thread =
-    others_in_time kind s h id _ (none_without thread (waiters_of s id))
+-- where none is new
+asks_others : (kind : Kind) (old new : List (Queued (Waiter (Wants kind)))) → NoOthers old new
+    → AskWell kind old → AskWell kind new
+asks_others EventFlag old new none asks = all_others (λ w. w.wants.bits ≢ 0) old new none asks
+asks_others kind old new none asks = tt
 
--- or has another priority
-pub requeues_in_time : (kind : Kind) (s : Table kind) → InTimeOf kind s
-    → (id : ℕ) (by_priority : Bool) (thread priority : ℕ)
-    → InTimeOf kind (requeues s id by_priority thread priority)
-requeues_in_time kind s h id by_priority thread priority =
-    others_in_time kind s h id _ (none_requeued by_priority thread priority (waiters_of s id))
+idle_others : (kind : Kind) (x : State kind) (old new : List (Queued (Waiter (Wants kind))))
+    → NoOthers old new → IsIdle kind x old → IsIdle kind x new
+idle_others Semaphore x old new none (inl empty) = inl (none_new old new none empty)
+idle_others Semaphore x old new none (inr zero) = inr zero
+idle_others EventFlag x old new none unmet =
+    all_others (λ w. is_met x.pattern w ≡ false) old new none unmet
+idle_others Mailbox x old new none (inl empty) = inl (none_new old new none empty)
+idle_others Mailbox x old new none (inr clear) = inr clear
 
--- one is chosen among those that wait
-pub chosen_in_time : (kind : Kind) (s : Table kind) → InTimeOf kind s → (id : ℕ) (x : State kind)
-    (one : Choice (Waiter (Wants kind)))
-    → chooses (waits_by_priority kind x) (waiters_of s id) ≡ Some one
-    → InTimeOf kind (with_waiters s id one.others)
-chosen_in_time Semaphore s h id x = idle_chosen IsZero s h id (by_priority x)
-chosen_in_time EventFlag s h id x = flags_chosen s h id
-chosen_in_time Mailbox s h id x = idle_chosen IsClear s h id (waiters_by_priority x.attr)
+-- where others wait for one object
+asks_with_waiters : (kind : Kind) (s : Table kind) → AllAsk kind s → (id : ℕ)
+    (new : List (Queued (Waiter (Wants kind)))) → AskWell kind new
+    → AllAsk kind (with_waiters s id new)
+asks_with_waiters EventFlag s asks id new ask = AskForBits-with_waiters s asks id new ask
+asks_with_waiters kind s asks id new ask = tt
 
--- a thread waits, which has to
-pub waits_in_time : (kind : Kind) (s : Table kind) → InTimeOf kind s → (id : ℕ) (x : State kind)
-    (w : Queued (Waiter (Wants kind))) → state_of s id ≡ Some x
-    → HasToWait kind s id x w.item.wants → InTimeOf kind (waits s id w)
-waits_in_time Semaphore s h id x w known zero =
-    idle_waits IsZero s h id w x known (grind (arith, nat_tests, zero))
-waits_in_time EventFlag s h id x w known must =
-    flags_wait s h id w x known (grind (arith, nat_tests, must.0)) must.2
-waits_in_time Mailbox s h id x w known none =
-    idle_waits IsClear s h id w x known (all_chosen (messages_by_priority x.attr) x.messages none)
+-- where something else is known of one
+asks_with_state : (kind : Kind) (s : Table kind) → AllAsk kind s → (id : ℕ) (x : State kind)
+    → AllAsk kind (with_state s id x)
+asks_with_state EventFlag s asks id x = AskForBits-with_state s asks id x
+asks_with_state kind s asks id x = tt
 
--- an object is made
-pub creates_in_time : (kind : Kind) (s : Table kind) → InTimeOf kind s → (x : State kind)
-    → InTimeOf kind (creates s x).1
-creates_in_time Semaphore s h = idle_creates IsZero s h
-creates_in_time EventFlag s h = flags_create s h
-creates_in_time Mailbox s h = idle_creates IsClear s h
+-- where one is made
+asks_creates : (kind : Kind) (s : Table kind) → AllAsk kind s → (x : State kind)
+    → AllAsk kind (creates s x).1
+asks_creates EventFlag s asks x =
+    cond_both (has_room s) _ _ (λ (r : Result ℕ Code × EventFlags). AskForBits r.1)
+    (λ room. All-push (λ o. AskBits o.waiters) s.live _ asks (All-nil Asks)) (λ full. asks)
+asks_creates kind s asks x = tt
 
--- one is deleted
-pub deletes_in_time : (kind : Kind) (s : Table kind) → InTimeOf kind s → (id : ℕ)
-    → InTimeOf kind (deletes s id)
-deletes_in_time Semaphore s h = idle_deletes IsZero s h
-deletes_in_time EventFlag s h = flags_delete s h
-deletes_in_time Mailbox s h = idle_deletes IsClear s h
+-- where one is deleted
+asks_deletes : (kind : Kind) (s : Table kind) → AllAsk kind s → (id : ℕ)
+    → AllAsk kind (deletes s id)
+asks_deletes EventFlag s asks id = AskForBits-deletes s asks id
+asks_deletes kind s asks id = tt
 
--- a flag has another pattern, on which none of the conditions holds that did not
-patterned : (s : EventFlags) → InTime s → (id pattern : ℕ) (x : flag.EventFlag)
-    → state_of s id ≡ Some x
-    → (laws.NoneOverdue x.pattern (waiters_of s id) → laws.NoneOverdue pattern (waiters_of s id))
-    → InTime (with_state s id (with_pattern x pattern))
-patterned s h id pattern x known lasts =
-    flags_with_state s h id (with_pattern x pattern) (λ y is none. let same : y ≡ x = cc in
-    lasts (subst (λ (x : flag.EventFlag). laws.NoneOverdue x.pattern (waiters_of s id)) same none))
+-- none waits for one that is made
+idle_first : (kind : Kind) (x : State kind) → IsIdle kind x []
+idle_first Semaphore x = inl refl
+idle_first EventFlag x = All-nil (IsUnmet x.pattern)
+idle_first Mailbox x = inl refl
 
--- what is known of one changes
-pub changes_in_time : (kind : Kind) (s : Table kind) → InTimeOf kind s → (id : ℕ)
-    (x y : State kind) → state_of s id ≡ Some x → Changes kind s id x y
-    → InTimeOf kind (with_state s id y)
-changes_in_time Semaphore s h id x y known (counts none fits) =
-    idle_changes IsZero s h id _ (all_chosen (by_priority x) (waiters_of s id) none)
-changes_in_time Semaphore s h id x y known (takes some) =
-    idle_takes IsZero s h id x _ known (λ zero. absurd (grind (arith, nat_tests, some, zero)))
-changes_in_time EventFlag s h id x y known (clears mask) =
-    let fewer = bit_and x.pattern mask in
-    patterned s h id fewer x known (All-weaker (IsUnmet x.pattern) (IsUnmet fewer)
-    (unmet_cleared x.pattern mask) (waiters_of s id))
-changes_in_time EventFlag s h id x y known (tests wanted met) =
-    patterned s h id _ x known
-    (none_overdue_after wanted.mode x.pattern (waiters_of s id) (waiters_ask s h id))
-changes_in_time Mailbox s h id x y known (puts message none room) =
-    idle_changes IsClear s h id _ (all_chosen (waiters_by_priority x.attr) (waiters_of s id) none)
-changes_in_time Mailbox s h id x y known (gets one next) =
-    idle_takes IsClear s h id x _ known (λ clear. none_chosen (messages_by_priority x.attr) one
-    (sym (ap (chooses (messages_by_priority x.attr)) clear) ∙ next))
+-- a thread waits that has to
+asks_last : (kind : Kind) (s : Table kind) (id : ℕ) (x : State kind)
+    (w : Queued (Waiter (Wants kind))) → HasToWait kind s id x w.item.wants
+    → AskWell kind (waiters_of s id) → AskWell kind (waiters_of s id ++ w ∷ [])
+asks_last EventFlag s id x w must asks =
+    All-push Asks (waiters_of s id) w asks (eqb-false w.item.wants.bits 0 must.0)
+asks_last kind s id x w must asks = tt
+
+idle_last : (kind : Kind) (s : Table kind) (id : ℕ) (x : State kind)
+    (w : Queued (Waiter (Wants kind))) → HasToWait kind s id x w.item.wants
+    → IsIdle kind x (waiters_of s id) → IsIdle kind x (waiters_of s id ++ w ∷ [])
+idle_last Semaphore s id x w zero idle = inr (eqb-true x.count 0 zero)
+idle_last EventFlag s id x w must idle =
+    All-push (IsUnmet x.pattern) (waiters_of s id) w idle must.2
+idle_last Mailbox s id x w none idle =
+    inr (all_chosen (messages_by_priority x.attr) x.messages none)
+
+-- where there is something to be had none waits
+none_at : {W E : Type 0} {ws : List W} → (ws ≡ []) ⊎ E → (E → ⊥) → ws ≡ []
+none_at (inl empty) some = empty
+none_at (inr is) some = absurd (some is)
+
+-- what is known of an object changes
+idle_changed : (kind : Kind) (s : Table kind) → AllAsk kind s → (id : ℕ) (x y : State kind)
+    → Changes kind s id x y → IsIdle kind x (waiters_of s id) → IsIdle kind y (waiters_of s id)
+idle_changed Semaphore s asks id x y (counts none fits) idle =
+    inl (all_chosen (by_priority x) (waiters_of s id) none)
+idle_changed Semaphore s asks id x y (takes some) idle =
+    inl (none_at idle (eqb-false x.count 0 some))
+idle_changed EventFlag s asks id x y (clears mask) idle =
+    All-weaker (IsUnmet x.pattern) (IsUnmet (bit_and x.pattern mask))
+    (unmet_cleared x.pattern mask) (waiters_of s id) idle
+idle_changed EventFlag s asks id x y (tests wanted met) idle =
+    none_overdue_after wanted.mode x.pattern (waiters_of s id) (AskBits-waiters_of s asks id) idle
+idle_changed Mailbox s asks id x y (puts message none room) idle =
+    inl (all_chosen (waiters_by_priority x.attr) (waiters_of s id) none)
+idle_changed Mailbox s asks id x y (gets one next) idle =
+    let first = messages_by_priority x.attr in
+    inl (none_at idle (λ clear. none_chosen first one (sym (ap (chooses first) clear) ∙ next)))
+
+module _ (kind : Kind) (s : Table kind) (h : InTime kind s) where
+  -- none waits for one that did not
+  others_in_time : (id : ℕ) (new : List (Queued (Waiter (Wants kind))))
+      → NoOthers (waiters_of s id) new → InTime kind (with_waiters s id new)
+  others_in_time id new none = record {
+    none = each_with_waiters (IsIdle kind) s h.none id new
+        (λ x is. idle_others kind x (waiters_of s id) new none);
+    asks = asks_with_waiters kind s h.asks id new
+        (asks_others kind (waiters_of s id) new none (asks_at kind s h.asks id));
+  }
+
+  -- so where a thread waits no more
+  pub drops_in_time : (id thread : ℕ) → InTime kind (drops s id thread)
+  drops_in_time id thread = others_in_time id _ (none_without thread (waiters_of s id))
+
+  -- or has another priority
+  pub requeues_in_time : (id : ℕ) (by_priority : Bool) (thread priority : ℕ)
+      → InTime kind (requeues s id by_priority thread priority)
+  requeues_in_time id by_priority thread priority =
+      others_in_time id _ (none_requeued by_priority thread priority (waiters_of s id))
+
+  -- or is chosen
+  pub chosen_in_time : (id : ℕ) (ordered : Bool) (one : Choice (Waiter (Wants kind)))
+      → chooses ordered (waiters_of s id) ≡ Some one → InTime kind (with_waiters s id one.others)
+  chosen_in_time id ordered one chosen =
+      others_in_time id _ (none_chosen_new ordered (waiters_of s id) one chosen)
+
+  -- a thread waits, which has to
+  pub waits_in_time : (id : ℕ) (x : State kind) (w : Queued (Waiter (Wants kind)))
+      → state_of s id ≡ Some x → HasToWait kind s id x w.item.wants → InTime kind (waits s id w)
+  waits_in_time id x w known must = record {
+    none = each_with_waiters (IsIdle kind) s h.none id _ (λ y is idle.
+        subst (λ y. IsIdle kind y (waiters_of s id ++ w ∷ [])) (same_Some x y (sym known ∙ is))
+        (idle_last kind s id x w must (h.none id x known)));
+    asks = asks_with_waiters kind s h.asks id _
+        (asks_last kind s id x w must (asks_at kind s h.asks id));
+  }
+
+  -- what is known of one changes
+  pub changes_in_time : (id : ℕ) (x y : State kind) → state_of s id ≡ Some x
+      → Changes kind s id x y → InTime kind (with_state s id y)
+  changes_in_time id x y known how = record {
+    none = each_with_state (IsIdle kind) s h.none id y
+        (idle_changed kind s h.asks id x y how (h.none id x known));
+    asks = asks_with_state kind s h.asks id y;
+  }
+
+  -- an object is made
+  pub creates_in_time : (x : State kind) → InTime kind (creates s x).1
+  creates_in_time x = record {
+    none = each_creates (IsIdle kind) s h.none x (idle_first kind x);
+    asks = asks_creates kind s h.asks x;
+  }
+
+  -- one is deleted
+  pub deletes_in_time : (id : ℕ) → InTime kind (deletes s id)
+  deletes_in_time id = record {
+    none = each_deletes (IsIdle kind) s h.none id;
+    asks = asks_deletes kind s h.asks id;
+  }
+
+-- the threads that wait for an event flag have settled, so that no condition holds
+module _ (s : EventFlags) (h : InTime EventFlag s) (id : ℕ) (settled : Settled) where
+  abbrev Asked : LiveFlag → Type 0
+  Asked o = AskBits o.waiters
+
+  abbrev change : LiveFlag → LiveFlag
+  change o = if o.id == id then settled_flag settled o else o
+
+  pub settles_in_time : NoneOverdue settled.pattern settled.waiters → AskBits settled.waiters
+      → InTime EventFlag (changes s id (settled_flag settled))
+  settles_in_time none ask = record {
+    none = each_changes (IsIdle EventFlag) s h.none id (settled_flag settled) (λ o. refl)
+        (λ o found. none);
+    asks = All-map Asked change s.live (All-weaker Asked (λ o. Asked (change o))
+        (λ o was. cond_both (o.id == id) (settled_flag settled o) o Asked (λ it. ask)
+        (λ other. was)) s.live h.asks);
+  }

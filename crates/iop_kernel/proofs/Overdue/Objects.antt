@@ -1,32 +1,15 @@
 -- What is known of each live object and of its waiters, when one of a table changes, comes or goes.
-use Rattle.std.proofs.Common.{◌≡◌, ℕ, ◌+◌, ◌==◌, Bool, true, false, if◌then◌else◌, ◌⊎◌, inl, inr, Option, Some, None, option_map, Result, List, [], ◌∷◌, ◌++◌, refl, ap, sym, ◌∙◌, subst, arith}
+use Rattle.std.proofs.Common.{◌≡◌, ℕ, ◌+◌, ◌==◌, if◌then◌else◌, Option, Some, None, option_map, Result, List, [], ◌∷◌, ◌++◌, refl, ap, sym, ◌∙◌, subst, arith}
+use Rattle.std.specs.Option.{option_or}
 use Rattle.std.proofs.lemmas.Bool.{cond_both}
 use Rattle.std.proofs.lemmas.Bool.Decides.{nat_tests}
+use Rattle.std.proofs.lemmas.List.Folds.{find-append}
+use Rattle.std.proofs.lemmas.Option.{same_Some}
 use Rattle.iop_base.specs.declared.code.Code.{Code}
 use Rattle.iop_objects.specs.Objects.{Object, Objects, object_of, state_of, waiters_in, waiters_of, has_room, creates, deletes, changes, with_state, with_waiters}
 use Rattle.iop_objects.specs.declared.queued.Queued.{Queued}
 use Rattle.iop_objects.specs.declared.waiter.Waiter.{Waiter}
 use Rattle.iop_kernel.proofs.Placing.Objects.{changed, object_of_id, object_of_changed, object_of_without}
-
-module _ {A W : Type 0} where
-  -- what is found once an object has come was found before, or is that one
-  object_of_added : (live : List (Object A W)) (made : Object A W) (id : ℕ) (o : Object A W)
-      → object_of (live ++ made ∷ []) id ≡ Some o → (object_of live id ≡ Some o) ⊎ (made ≡ o)
-  object_of_added [] made id o = by (made.id == id)
-    where
-      by : (b : Bool) → (if b then Some made else None) ≡ Some o
-          → (◌≡◌ {A = Option (Object A W)} None (Some o)) ⊎ (made ≡ o)
-      by true is = inr cc
-      by false is = cc
-  object_of_added (x ∷ live) made id o = by (x.id == id) (object_of_added live made id o)
-    where
-      by : (b : Bool)
-          → (object_of (live ++ made ∷ []) id ≡ Some o
-          → (object_of live id ≡ Some o) ⊎ (made ≡ o))
-          → (if b then Some x else object_of (live ++ made ∷ []) id) ≡ Some o
-          → ((if b then Some x else object_of live id) ≡ Some o) ⊎ (made ≡ o)
-      by true later is = inl is
-      by false later is = later is
 
 module _ {A W : Type 0} (Q : A → List (Queued (Waiter W)) → Type 0) where
   -- a fact of what is known of an object and of those that wait for it holds of each one
@@ -45,8 +28,7 @@ module _ {A W : Type 0} (Q : A → List (Queued (Waiter W)) → Type 0) where
       by : (o : Option (Object A W)) → object_of s.live id ≡ o
           → option_map (λ o. o.state) o ≡ Some x → Q x (waiters_in o)
       by None found is = cc
-      by (Some o) found is =
-          let same : o.state ≡ x = cc in subst (λ x. Q x o.waiters) same (all id o found)
+      by (Some o) found is = subst (λ x. Q x o.waiters) (same_Some o.state x is) (all id o found)
 
 module _ {A W : Type 0} (Q : A → List (Queued (Waiter W)) → Type 0) (s : Objects A W)
     (h : HoldsOfEach Q s) where
@@ -65,20 +47,17 @@ module _ {A W : Type 0} (Q : A → List (Queued (Waiter W)) → Type 0) (s : Obj
       (λ id o found. by id o (object_of s.live id) refl
       (sym (object_of_changed n change keeps s.live id) ∙ found))
     where
-      either : (id : ℕ) (o : Object A W) → object_of s.live id ≡ Some o → (b : Bool)
-          → (o.id == n) ≡ b → HoldsOf Q (if b then change o else o)
-      either id o was true it =
-          let own = object_of_id s.live id o was in
-          let here : id ≡ n = grind (arith, nat_tests, own, it) in
-          now o (subst (λ id. object_of s.live id ≡ Some o) here was)
-      either id o was false other = found_holds id o was
-
       by : (id : ℕ) (o : Object A W) (p : Option (Object A W)) → object_of s.live id ≡ p
           → option_map (changed n change keeps) p ≡ Some o → HoldsOf Q o
       by id o None was is = cc
       by id o (Some p) was is =
-          let same : changed n change keeps p ≡ o = cc in
-          subst (HoldsOf Q) same (either id p was (p.id == n) refl)
+          subst (HoldsOf Q) (same_Some (changed n change keeps p) o is)
+          (cond_both (p.id == n) (change p) p (HoldsOf Q)
+          (λ it.
+          let own = object_of_id s.live id p was in
+          let here : id ≡ n = grind (arith, nat_tests, own, it) in
+          now p (subst (λ id. object_of s.live id ≡ Some p) here was))
+          (λ other. found_holds id p was))
 
   -- its waiters are others
   pub each_with_waiters : (n : ℕ) (ws : List (Queued (Waiter W)))
@@ -90,13 +69,11 @@ module _ {A W : Type 0} (Q : A → List (Queued (Waiter W)) → Type 0) (s : Obj
       now o.state known (h n o.state known))
 
   -- something else is known of it
-  pub each_with_state : (n : ℕ) (state : A)
-      → ((x : A) → state_of s n ≡ Some x → Q x (waiters_of s n) → Q state (waiters_of s n))
+  pub each_with_state : (n : ℕ) (state : A) → Q state (waiters_of s n)
       → HoldsOfEach Q (with_state s n state)
   each_with_state n state now =
       each_changes n (λ o. record o { state = state }) (λ o. refl)
-      (λ o found. let known = ap (option_map (λ o. o.state)) found in
-      subst (Q state) (ap waiters_in found) (now o.state known (h n o.state known)))
+      (λ o found. subst (Q state) (ap waiters_in found) now)
 
   -- an object as it is made
   abbrev made : A → Object A W
@@ -107,21 +84,22 @@ module _ {A W : Type 0} (Q : A → List (Queued (Waiter W)) → Type 0) (s : Obj
   each_creates state first =
       cond_both (has_room s) _ _ (λ (r : Result ℕ Code × Objects A W). HoldsOfEach Q r.1)
       (λ room. each_from_found Q (record { live = s.live ++ made state ∷ []; next = s.next + 1 })
-      (λ id o found. by id o (object_of_added s.live (made state) id o found)))
+      (λ id o found. by id o (object_of s.live id) refl
+      (sym (find-append (λ o. o.id == id) s.live (made state ∷ [])) ∙ found)))
       (λ full. h)
     where
-      by : (id : ℕ) (o : Object A W) → (object_of s.live id ≡ Some o) ⊎ (made state ≡ o)
+      by : (id : ℕ) (o : Object A W) (p : Option (Object A W)) → object_of s.live id ≡ p
+          → option_or p (if (made state).id == id then Some (made state) else None) ≡ Some o
           → HoldsOf Q o
-      by id o (inl was) = found_holds id o was
-      by id o (inr it) = subst (HoldsOf Q) it first
+      by id o (Some p) was = λ is. found_holds id o (was ∙ is)
+      by id o None was =
+          cond_both ((made state).id == id) _ None (λ found. found ≡ Some o → HoldsOf Q o)
+          (λ it is. subst (HoldsOf Q) (same_Some (made state) o is) first) (λ other is. cc)
 
   -- one is deleted
   pub each_deletes : (n : ℕ) → HoldsOfEach Q (deletes s n)
   each_deletes n =
-      each_from_found Q (deletes s n)
-      (λ id o found. by id o (id == n) (sym (object_of_without s.live n id) ∙ found))
-    where
-      by : (id : ℕ) (o : Object A W) (b : Bool) → (if b then None else object_of s.live id) ≡ Some o
-          → HoldsOf Q o
-      by id o true is = cc
-      by id o false is = found_holds id o is
+      each_from_found Q (deletes s n) (λ id o found.
+      cond_both (id == n) None (object_of s.live id) (λ p. p ≡ Some o → HoldsOf Q o)
+      (λ it is. cc) (λ other is. found_holds id o is)
+      (sym (object_of_without s.live n id) ∙ found))

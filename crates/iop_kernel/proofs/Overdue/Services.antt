@@ -1,22 +1,22 @@
 -- No wait is overdue, whatever is served.
 use Rattle.std.proofs.Common.{◌≡◌, ℕ, Bool, true, false, Option, Some, None, IfSome, List, nat_lt, ◌-◌, ap, subst, arith, sym}
-use Rattle.std.proofs.lemmas.Bool.{cond_both}
-use Rattle.std.proofs.lemmas.Bool.Decides.{nat_tests}
 use Rattle.std.specs.Prelude.{⊤, bit_or}
+use Rattle.std.proofs.lemmas.Bool.{cond_both, ltb-false}
 use Rattle.iop_base.specs.Piece.{Piece}
 use Rattle.iop_base.specs.declared.code.TheConstants.Code.{OK, OBJECT_DELETED, WAIT_RELEASED}
-use Rattle.iop_event.specs.Laws as laws
+use Rattle.iop_event.specs.Laws.{AskBits}
 use Rattle.iop_event.specs.WakeConditions.{settles}
+use Rattle.iop_event.proofs.Asking.{AskBits-waiters_of}
+use Rattle.iop_event.proofs.Settling.{none_overdue}
 use Rattle.iop_exec.specs.Row.{reg}
 use Rattle.iop_objects.specs.Objects.{waiters_in}
-use Rattle.iop_thread.specs.Laws.{SleepersAreUnwoken}
 use Rattle.iop_thread.specs.Operations as threads
 use Rattle.iop_thread.specs.ThreadTable.{ThreadTable, running_thread, with_wakeups}
 use Rattle.iop_thread.specs.declared.kind.Kind.TheVariants.{EventFlag}
 use Rattle.iop_thread.specs.declared.thread.Thread.{Thread}
 use Rattle.iop_thread.specs.declared.wait.Wait.TheVariants.{Sleep, Delay, Object}
 use Rattle.iop_time.specs.Timers.{delays}
-use Rattle.iop_kernel.specs.Kinds.{table}
+use Rattle.iop_kernel.specs.Kinds.{table, waits_by_priority}
 use Rattle.iop_kernel.specs.ObjectServices.{threads_in_order}
 use Rattle.iop_kernel.specs.Overdue.{NoneOverdue}
 use Rattle.iop_kernel.specs.Serving.{services}
@@ -25,28 +25,20 @@ use Rattle.iop_kernel.specs.ThreadStarts.{ended}
 use Rattle.iop_kernel.specs.declared.after.After.{After}
 use Rattle.iop_kernel.proofs.Keeping.Handlers.{gives_to}
 use Rattle.iop_kernel.proofs.Keeping.Meetings.{met_of, threads_met}
-use Rattle.iop_kernel.proofs.Overdue.Conditions.{is_settled}
-use Rattle.iop_kernel.proofs.Overdue.Flags.{waiters_ask, flags_settle}
-use Rattle.iop_kernel.proofs.Overdue.Kernels.{sleepers, with_other_threads, woken_in_time, blocked_in_time, beside_in_time, opened_in_time, leaves_in_time, requeues_in_time, in_time_of, with_other_objects}
-use Rattle.iop_kernel.proofs.Overdue.Kinds.{chosen_in_time, waits_in_time, creates_in_time, deletes_in_time, changes_in_time}
+use Rattle.iop_kernel.proofs.Overdue.Conditions.{settled_ask}
+use Rattle.iop_kernel.proofs.Overdue.Kernels.{sleepers, with_other_threads, threads_come, woken_in_time, blocked_in_time, beside_in_time, opened_in_time, leaves_in_time, requeues_in_time, in_time_of, with_other_objects}
+use Rattle.iop_kernel.proofs.Overdue.Kinds.{settles_in_time, chosen_in_time, waits_in_time, creates_in_time, deletes_in_time, changes_in_time}
 use Rattle.iop_kernel.proofs.Walk.Moves.{Moves, CallMoves}
 use Rattle.iop_kernel.proofs.Walk.Services.{services_go, asked_not}
 
 -- where the running thread found no wakeup it has none
 none_to_take : (s : ThreadTable) (o : Option Thread) → (threads.takes_wakeup_it s o).0 ≡ false
     → IfSome o (λ t. t.wakeups ≡ 0)
-none_to_take s None found = tt
-none_to_take s (Some t) found = by found
-  where
-    by : (threads.takes_wakeup_it s (Some t)).0 ≡ false → t.wakeups ≡ 0
-    by =
-        cond_both (nat_lt 0 t.wakeups) (true, with_wakeups s t (t.wakeups - 1)) (false, s)
-        (λ (r : Bool × ThreadTable). r.0 ≡ false → t.wakeups ≡ 0) (λ some found. cc)
-        (λ none found. grind (arith, nat_tests, none))
-
--- what the second part of an equation is
-second : {A B : Type 0} (Q : B → Type 0) (r : A × B) (a : A) (b : B) → r ≡ (a, b) → Q r.1 → Q b
-second Q r a b is = subst Q (ap (λ x. x.1) is)
+none_to_take s None = λ found. tt
+none_to_take s (Some t) =
+    cond_both (nat_lt 0 t.wakeups) (true, with_wakeups s t (t.wakeups - 1)) (false, s)
+    (λ (r : Bool × ThreadTable). r.0 ≡ false → t.wakeups ≡ 0) (λ some found. cc)
+    (λ none found. omega (arith, ltb-false 0 t.wakeups none))
 
 module _ (s : System) (h : NoneOverdue s.core.kernel) where
   abbrev k : Kernel
@@ -58,20 +50,18 @@ module _ (s : System) (h : NoneOverdue s.core.kernel) where
   abbrev InTimeAfter : After → System → List Piece → Type 0
   InTimeAfter after d given = NoneOverdue d.core.kernel
 
-  -- other threads
-  go : (left : ThreadTable) → SleepersAreUnwoken left → NoneOverdue (record k { threads = left })
-  go left so = with_other_threads k h left so
-
   -- the running thread ends
   ended_so : NoneOverdue (ended s.core).kernel
-  ended_so = with_other_threads (opened s.core).kernel (opened_in_time k h) _ (sleepers k h).ends_running
+  ended_so =
+      with_other_threads (opened s.core).kernel (opened_in_time k h) _ (sleepers k h).ends_running
 
   -- ready threads are rotated
   rotated : (priority : ℕ) → NoneOverdue (record k {
     threads = threads.rotates k.threads priority (running_registers (answered s.core 0));
   })
   rotated priority =
-      go _ ((sleepers k h).rotates priority (running_registers (answered s.core 0)) tt)
+      with_other_threads k h _
+      ((sleepers k h).rotates priority (running_registers (answered s.core 0)) tt)
 
   in_time : (library : ℕ) → Moves InTimeSystem InTimeAfter ⊤ s library
   in_time library = record {
@@ -95,46 +85,39 @@ module _ (s : System) (h : NoneOverdue s.core.kernel) where
     threads = λ own_library. record {
       dispatch = λ enabled on asks. beside_in_time k h _ _ _ _ _ _;
       creates = λ size param stack blocks is.
-          go _ ((sleepers k h).creates param stack (reg s.core.cpu 28));
-      deletes = λ id stack left is. go left
-          (second SleepersAreUnwoken (threads.deletes k.threads id) _ left is
-          ((sleepers k h).deletes id));
-      starts = λ id argument. go _ ((sleepers k h).starts id argument);
+          with_other_threads k h _ ((sleepers k h).creates param stack (reg s.core.cpu 28));
+      deletes = λ id stack left is. threads_come k h is ((sleepers k h).deletes id);
+      starts = λ id argument. with_other_threads k h _ ((sleepers k h).starts id argument);
       ends = λ id is other. ended_so;
-      ends_deleted = λ id stack left is other did.
-          let e = (ended s.core).kernel in
-          with_other_threads e ended_so left
-          (second SleepersAreUnwoken (threads.deletes e.threads id) _ left did
-          ((sleepers e ended_so).deletes id));
+      ends_deleted = λ id stack left is other did. let e = (ended s.core).kernel in
+          threads_come e ended_so did ((sleepers e ended_so).deletes id);
       returns = λ id word is loader. opened_in_time k h;
       terminates = λ id wait left other is rests.
-          leaves_in_time _ (go left (second SleepersAreUnwoken (threads.terminates k.threads id) _
-          left is ((sleepers k h).terminates id))) id wait;
+          leaves_in_time _ (threads_come k h is ((sleepers k h).terminates id)) id wait;
       terminates_running = λ id wait left other is runs.
-          leaves_in_time _ (with_other_threads _ (opened_in_time k h) left
-          (second SleepersAreUnwoken (threads.terminates k.threads id) _ left is
-          ((sleepers k h).terminates id))) id wait;
+          leaves_in_time _ (threads_come (opened s.core).kernel (opened_in_time k h) is
+          ((sleepers k h).terminates id)) id wait;
       changes = λ id priority wait left is.
-          requeues_in_time _ (go left (second SleepersAreUnwoken
-          (threads.changes k.threads id priority) _ left is ((sleepers k h).changes id priority)))
-          id priority wait;
+          requeues_in_time _ (threads_come k h is ((sleepers k h).changes id priority)) id priority
+          wait;
       rotates = λ priority other. rotated priority;
       rotates_beside = λ priority own may is. rotated priority;
       rotates_own = λ priority id own may is. rotated priority;
       releases = λ id t wait found is.
-          leaves_in_time _ (go _ ((sleepers k h).wakes t.id (code_word WAIT_RELEASED))) t.id
+          leaves_in_time _
+          (with_other_threads k h _ ((sleepers k h).wakes t.id (code_word WAIT_RELEASED))) t.id
           (Some wait);
-      takes_wakeup = λ left is. go left
-          (second SleepersAreUnwoken (threads.takes_wakeup k.threads) _ left is
-          (sleepers k h).takes_wakeup);
+      takes_wakeup = λ left is. threads_come k h is (sleepers k h).takes_wakeup;
       sleeps = λ left is may asks.
-          go _ ((sleepers k h).blocks Sleep (running_registers s.core) tt (λ asleep.
+          with_other_threads k h _
+          ((sleepers k h).blocks Sleep (running_registers s.core) tt (λ asleep.
           none_to_take k.threads (running_thread k.threads)
           (ap (λ (r : Bool × ThreadTable). r.0) is)));
-      wakes_up = λ id other. go _ ((sleepers k h).wakes_up id);
-      cancels = λ id. go _ ((sleepers k h).cancels id);
-      suspends = λ id other may. go _ ((sleepers k h).suspends id (running_registers s.core) tt);
-      resumes = λ id other. go _ ((sleepers k h).resumes id);
+      wakes_up = λ id other. with_other_threads k h _ ((sleepers k h).wakes_up id);
+      cancels = λ id. with_other_threads k h _ ((sleepers k h).cancels id);
+      suspends = λ id other may.
+          with_other_threads k h _ ((sleepers k h).suspends id (running_registers s.core) tt);
+      resumes = λ id other. with_other_threads k h _ ((sleepers k h).resumes id);
       delays = λ moment thread is may.
           blocked_in_time _ (beside_in_time k h _ _ _ _ (delays k.timers moment thread) _) Delay
           (running_registers s.core) (λ asleep. cc asleep);
@@ -148,7 +131,8 @@ module _ (s : System) (h : NoneOverdue s.core.kernel) where
           with_other_objects k h kind _ (changes_in_time kind t due id x y known how);
       wakes = λ id x one known chosen.
           with_other_threads _
-          (with_other_objects k h kind _ (chosen_in_time kind t due id x one chosen)) _
+          (with_other_objects k h kind _
+          (chosen_in_time kind t due id (waits_by_priority kind x) one chosen)) _
           ((sleepers k h).wakes one.one.item.thread (code_word OK));
       waits = λ id thread x wants is may known must.
           blocked_in_time _ (with_other_objects k h kind _
@@ -157,10 +141,10 @@ module _ (s : System) (h : NoneOverdue s.core.kernel) where
     };
     sets = λ own_library bits o found. let now = bit_or o.state.pattern bits in
         let due = in_time_of k h EventFlag in
-        let ask = subst laws.AskBits (ap waiters_in found) (waiters_ask k.event_flags due o.id) in
-        let done = is_settled now o.waiters ask in
-        woken_in_time _ (with_other_objects k h EventFlag _ (flags_settle k.event_flags due o.id
-        (settles now o.waiters).pattern (settles now o.waiters).waiters done.none done.asks))
+        let flags = k.event_flags in
+        let ask = subst AskBits (ap waiters_in found) (AskBits-waiters_of flags h.asks o.id) in
+        woken_in_time _ (with_other_objects k h EventFlag _ (settles_in_time flags due o.id
+        (settles now o.waiters) (none_overdue now o.waiters ask) (settled_ask now o.waiters ask)))
         (threads_met (met_of o bits)) (code_word OK);
   }
 

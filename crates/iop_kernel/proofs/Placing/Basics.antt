@@ -1,32 +1,28 @@
--- Threads and waiters stay placed when other threads stand in the kernel.
-use Rattle.std.proofs.Common.{◌≡◌, ℕ, ◌≤◌, Bool, true, Option, Some, None, List, length}
+-- Threads and waiters stay placed when other threads stand in the kernel, or when only what is
+-- beside them changes.
+use Rattle.std.proofs.Common.{◌≡◌, ℕ, ◌≤◌, Bool, true, Option, List, length, ap, ◌∙◌, subst}
+use Rattle.iop_intr.specs.InterruptLines.{IrqLine}
 use Rattle.iop_thread.specs.Laws.{KeepsPlaces}
 use Rattle.iop_thread.specs.Placing as threads_placing
+use Rattle.iop_thread.specs.Placing.{times}
 use Rattle.iop_thread.specs.ThreadTable.{ThreadTable}
 use Rattle.iop_thread.specs.Waits.{MovesWaits, WaitOn, is_live}
 use Rattle.iop_thread.proofs.Placed.{keeps_places}
 use Rattle.iop_thread.proofs.Waits.{moves_waits}
-use Rattle.iop_intr.specs.InterruptLines.{IrqLine}
 use Rattle.iop_time.specs.Timers.{Timers, AreTimers}
 use Rattle.iop_time.specs.declared.clock.TheConstants.{MOST_DELAYS}
 use Rattle.iop_kernel.specs.Placing.{IsPlaced}
-use Rattle.iop_kernel.specs.System.{Kernel, Core, caller_beside}
+use Rattle.iop_kernel.specs.System.{Kernel, Core}
 use Rattle.iop_kernel.specs.ThreadStarts.{ended}
 use Rattle.iop_kernel.specs.declared.active_handler.ActiveHandler.{ActiveHandler}
-use Rattle.iop_kernel.proofs.Placing.Alike.{AllAskAlike, alike_on}
-use Rattle.iop_kernel.proofs.Placing.Delays.{live_room, delayed_beside}
-use Rattle.iop_kernel.proofs.Placing.Threads.{placed_with}
+use Rattle.iop_kernel.proofs.Placing.Live.{live_room}
+use Rattle.iop_kernel.proofs.Placing.Queues.{delayed}
+use Rattle.iop_kernel.proofs.Placing.Threads.{stand}
 
--- threads that can stand in place of the kernel's, since each waits for what it did
-pub record PlacedThreads (k : Kernel) (left : ThreadTable) : Type 0 where
-  pub placed : threads_placing.IsPlaced left
-  pub room : length left.live ≤ MOST_DELAYS
-  pub alike : AllAskAlike k.threads left
-
--- they stand there
-pub stand : (k : Kernel) → IsPlaced k → (left : ThreadTable) → PlacedThreads k left
-    → IsPlaced (record k { threads = left })
-stand k h left go = placed_with k left h go.placed go.room go.alike
+-- what holds of the second part of what an operation answers holds of what it is
+pub second : {A B : Type 0} (Holds : B → Type 0) {r : A × B} {a : A} {b : B} → r ≡ (a, b)
+    → Holds r.1 → Holds b
+second Holds is = subst Holds (ap (λ x. x.1) is)
 
 -- the kernel's threads stay placed
 abbrev pub places : (k : Kernel) → IsPlaced k → KeepsPlaces k.threads
@@ -41,23 +37,16 @@ pub same_live : (k : Kernel) → IsPlaced k → {left : ThreadTable} → threads
     → ((id : ℕ) → is_live left id ≡ is_live k.threads id) → length left.live ≤ MOST_DELAYS
 same_live k h {left} placed live = live_room k.threads left placed live h.delays.room
 
--- the same threads are live, and each waits on
-pub wait_on : (k : Kernel) → IsPlaced k → {left : ThreadTable} {running : Option ℕ}
-    → threads_placing.IsPlaced left → WaitOn k.threads left running → PlacedThreads k left
-wait_on k h placed on =
-    record { placed = placed; room = same_live k h placed on.live; alike = alike_on on.waits }
-
--- so they stand there
+-- the same threads are live, and each waits on: they stand in place of the kernel's
 pub stand_on : (k : Kernel) → IsPlaced k → {left : ThreadTable} {running : Option ℕ}
     → threads_placing.IsPlaced left → WaitOn k.threads left running
     → IsPlaced (record k { threads = left })
-stand_on k h {left} placed on = stand k h left (wait_on k h placed on)
+stand_on k h placed on = stand k h placed (same_live k h placed on.live) on.waits
 
--- a thread that calls runs
-pub caller_runs : (handler : Option ActiveHandler) (running : Option ℕ) (thread : ℕ)
-    → caller_beside handler running ≡ Some thread → running ≡ Some thread
-caller_runs None running thread calls = calls
-caller_runs (Some handler) running thread calls = cc
+-- so do those that an operation answers
+pub comes : (k : Kernel) {A : Type 0} {r : A × ThreadTable} {a : A} {left : ThreadTable}
+    → r ≡ (a, left) → IsPlaced (record k { threads = r.1 }) → IsPlaced (record k { threads = left })
+comes k = second (λ left. IsPlaced (record k { threads = left }))
 
 -- nothing changes but the moment, whether another thread may run, the handler and the lines
 pub beside_placed : {k : Kernel} (clock : ℕ) (interrupts dispatching : Bool)
@@ -86,7 +75,11 @@ pub timers_placed : {k : Kernel} (timers : Timers) → AreTimers timers
 timers_placed timers kept same h = record {
   threads = h.threads;
   objects = h.objects;
-  delays = delayed_beside h.delays timers kept same;
+  delays = record {
+    delays = λ t. ap (λ ds. times t (delayed ds)) same ∙ h.delays.delays t;
+    kept = kept;
+    room = h.delays.room;
+  };
 }
 
 -- the thread that runs has ended

@@ -1,188 +1,155 @@
--- Threads and waiters stay placed where a thread waits for an object, or those that wait for one
--- are woken: once, for each kind of objects.
-use Rattle.std.proofs.Common.{◌≡◌, ℕ, ◌+◌, ◌≤◌, nat_lt, Bool, true, if◌then◌else◌, Option, Some, None, option_map, List, length, refl, ap, sym, ◌∙◌}
+-- Threads and waiters stay placed where the running thread waits for an object or for a time, or
+-- threads that wait for an object are woken: once for all kinds of objects.
+use Rattle.std.proofs.Common.{◌≡◌, ℕ, ◌+◌, ◌<◌, ◌==◌, nat_lt, Bool, true, false, if◌then◌else◌, Option, Some, None, List, ◌∷◌, [], refl, ap, sym, ◌∙◌, arith}
+use Rattle.std.proofs.lemmas.Bool.{cond_both, eq-eqb, ltb-false, ltb-true}
+use Rattle.iop_base.specs.Numbers.{one_if}
 use Rattle.iop_exec.specs.declared.cpu.Cpu.{Cpu}
-use Rattle.iop_objects.specs.Objects.{object_of, state_of, waiters_in, waiters_of, with_waiters, changes, deletes}
+use Rattle.iop_objects.specs.Objects.{object_of, state_of, waiters_in, waiters_of}
 use Rattle.iop_objects.specs.Objects as objects
-use Rattle.iop_objects.specs.Queue.{Choice, chooses}
-use Rattle.iop_objects.specs.declared.queued.Queued.{Queued}
+use Rattle.iop_objects.specs.Queue.{Choice, chooses, in_order}
 use Rattle.iop_objects.specs.declared.waiter.Waiter.{Waiter}
+use Rattle.iop_objects.proofs.Changes.{waiters_of-with_waiters}
 use Rattle.iop_thread.specs.Operations as threads
-use Rattle.iop_thread.specs.Placing as threads_placing
 use Rattle.iop_thread.specs.Placing.{times}
 use Rattle.iop_thread.specs.ThreadTable.{ThreadTable, is_it}
-use Rattle.iop_thread.specs.Waits.{WaitBut, wait_of}
+use Rattle.iop_thread.specs.Waits.{wait_of}
 use Rattle.iop_thread.specs.declared.kind.Kind.{Kind}
 use Rattle.iop_thread.specs.declared.wait.Wait.{Wait}
 use Rattle.iop_thread.specs.declared.wait.Wait.TheVariants.{Delay, Object}
-use Rattle.iop_time.specs.Timers.{Timers}
-use Rattle.iop_time.specs.declared.clock.TheConstants.{MOST_DELAYS}
-use Rattle.iop_kernel.specs.Kinds.{State, Wants, Live, Table, table, with_table}
-use Rattle.iop_kernel.specs.Placing.{IsPlaced, AreWaited, AreDelayed, is_for, is_for_delay}
+use Rattle.iop_thread.proofs.ReadyIds.{times_first}
+use Rattle.iop_time.specs.Timers.{delays}
+use Rattle.iop_time.proofs.Keeping.{with_delay-keeps}
+use Rattle.iop_kernel.specs.Kinds.{State, Wants, Table, table, with_table, waits_by_priority}
+use Rattle.iop_kernel.specs.Placing.{IsPlaced, is_for, is_for_delay}
 use Rattle.iop_kernel.specs.System.{Kernel}
-use Rattle.iop_kernel.specs.Waits.{wakes_all}
-use Rattle.iop_kernel.proofs.Bodies.KindTables.{for_object, own_object, other_kind}
+use Rattle.iop_kernel.specs.Waits.{threads_of, wakes_all}
+use Rattle.iop_kernel.proofs.Bodies.KindTables.{for_object, own_object}
 use Rattle.iop_kernel.proofs.Placing.Basics.{places, moves, same_live}
-use Rattle.iop_kernel.proofs.Placing.Delays.{delayed_alike}
-use Rattle.iop_kernel.proofs.Placing.Endings.{chosen_waits, others_wait, among_waiters, ends_all, ends_other_kind, waited_ends, waited_ended}
-use Rattle.iop_kernel.proofs.Placing.Queues.{times_in}
-use Rattle.iop_kernel.proofs.Placing.Threads.{placed_objects, alike_ended, running_waits_not}
-use Rattle.iop_kernel.proofs.Placing.Waiters.{AskAlike, WaitsNow, alike_now, waited_alike, waited_leaves, waited_waits}
-
--- threads of which some begin or end this wait, and no other
-pub record Moved (k : Kernel) (left : ThreadTable) (wait : Wait) : Type 0 where
-  pub placed : threads_placing.IsPlaced left
-  pub room : length left.live ≤ MOST_DELAYS
-  pub others : (is_for : ℕ → Option Wait → Bool)
-      → ((id : ℕ) → is_for id None ≡ is_for id (Some wait)) → AskAlike is_for k.threads left
-
-module _ (k : Kernel) (h : IsPlaced k) (left : ThreadTable) where
-  -- they stand in the kernel, beside the objects that they wait for
-  objects_moved : (kind : Kind) (id : ℕ) → Moved k left (Object kind id) → (s : Table kind)
-      → AreWaited kind s left → IsPlaced (with_table kind (record k { threads = left }) s)
-  objects_moved kind id g s own =
-      placed_objects kind k left s g.placed own
-      (λ other apart. waited_alike other (table other k) k.threads left (h.objects other)
-      (g.others (is_for other) (other_kind kind other apart id)))
-      (delayed_alike h.delays g.room (g.others (λ n. is_for_delay) (λ n. refl)))
-
-  -- or beside the delays
-  pub delay_moved : Moved k left Delay → (timers : Timers) → AreDelayed timers left
-      → IsPlaced (record k { threads = left; timers = timers })
-  delay_moved g timers own = record {
-    threads = g.placed;
-    objects = λ kind. waited_alike kind (table kind k) k.threads left (h.objects kind)
-        (g.others (is_for kind) (λ n. refl));
-    delays = own;
-  }
+use Rattle.iop_kernel.proofs.Placing.Objects.{IsBut, with_waiters_but}
+use Rattle.iop_kernel.proofs.Placing.Queues.{times_added, times_in, times_in_last, times_in_order, chosen_split}
+use Rattle.iop_kernel.proofs.Placing.Rooms.{fewer_delays, runs_undelayed}
+use Rattle.iop_kernel.proofs.Placing.Threads.{all_woken, delay_turns, object_turns, running_waits_not}
+use Rattle.iop_kernel.proofs.Placing.Turns.{Turns}
 
 -- the running thread waits
-module _ (k : Kernel) (h : IsPlaced k) (wait : Wait) (thread : ℕ) (registers : Cpu)
-    (runs : k.threads.running ≡ Some thread) where
-  abbrev pub blocked : ThreadTable
+module _ (k : Kernel) (h : IsPlaced k) (wait : Wait) (registers : Cpu) where
+  abbrev blocked : ThreadTable
   blocked = threads.blocks k.threads wait registers
 
-  moved : WaitBut k.threads blocked k.threads.running (Some wait) None
-  moved = (moves k h).blocks wait registers
-
-  pub idle : wait_of k.threads thread ≡ None
-  idle = running_waits_not k.threads h.threads thread runs
-
-  pub now_waits : WaitsNow k.threads blocked thread (Some wait)
-  now_waits t =
-      moved.waits t ∙ ap (λ o. if is_it o t then Some wait else wait_of k.threads t) runs
-
-  pub blocked_moved : Moved k blocked wait
-  blocked_moved =
+  pub blocked_turns : Turns wait (is_it k.threads.running) None (Some wait) k.threads blocked
+  blocked_turns =
       let placed = (places k h).blocks wait registers tt tt in
+      let moved = (moves k h).blocks wait registers in
       record {
         placed = placed;
         room = same_live k h placed moved.live;
-        others = λ is_for same.
-            alike_now is_for k.threads blocked thread (Some wait) now_waits
-            (λ n. sym (same n) ∙ sym (ap (is_for n) idle));
+        before = running_waits_not k.threads h.threads;
+        after = moved.waits;
+        alike = λ asks same. sym same;
       }
 
-module _ (kind : Kind) (k : Kernel) (h : IsPlaced k) where
+  -- a list of the threads for whose waits something is true has the running one more
+  one_more : (thread : ℕ) → k.threads.running ≡ Some thread → (asks : Option Wait → Bool)
+      → asks None ≡ false → asks (Some wait) ≡ true → {often later : ℕ → ℕ}
+      → ((t : ℕ) → often t ≡ one_if (asks (wait_of k.threads t)))
+      → ((t : ℕ) → later t ≡ one_if (thread == t) + often t) → (t : ℕ)
+      → later t ≡ (if is_it k.threads.running t then one_if (asks (Some wait)) else often t)
+  one_more thread runs asks none own {often} {later} once more t =
+      let same = ap (λ o. one_if (is_it o t)) runs in
+      cond_both (is_it k.threads.running t) _ _ (λ n. later t ≡ n)
+      (λ it.
+      let nobody = once t ∙ ap (λ w. one_if (asks w))
+      (running_waits_not k.threads h.threads t it) ∙ ap one_if none in
+      omega (arith, more t, same, ap one_if it, nobody, ap one_if own))
+      (λ other. omega (arith, more t, same, ap one_if other))
+
+-- it waits for a time
+pub delayed_placed : (k : Kernel) → IsPlaced k → (registers : Cpu) (moment thread : ℕ)
+    → k.threads.running ≡ Some thread
+    → IsPlaced (record k {
+      threads = threads.blocks k.threads Delay registers;
+      timers = delays k.timers moment thread;
+    })
+delayed_placed k h registers moment thread runs =
+    delay_turns k h (blocked_turns k h Delay registers) _
+    (with_delay-keeps k.timers moment thread h.delays.kept (runs_undelayed k h thread runs)
+    (fewer_delays k h thread runs))
+    (one_more k h Delay registers thread runs is_for_delay refl refl h.delays.delays
+    (times_added k.timers.delays _))
+
+module _ (kind : Kind) (k : Kernel) (h : IsPlaced k) (id : ℕ) where
   abbrev s : Table kind
   s = table kind k
 
-  abbrev mine : AreWaited kind (table kind k) k.threads
-  mine = h.objects kind
+  -- it waits for an object
+  pub blocked_placed : (registers : Cpu) (thread : ℕ) → k.threads.running ≡ Some thread
+      → (x : State kind) → state_of s id ≡ Some x → (priority : ℕ) (wants : Wants kind)
+      → IsPlaced (with_table kind
+      (record k { threads = threads.blocks k.threads (Object kind id) registers })
+      (objects.waits s id
+      (record { priority = priority; item = record { thread = thread; wants = wants } })))
+  blocked_placed registers thread runs x known priority wants =
+      object_turns k h kind id (blocked_turns k h (Object kind id) registers) _
+      (with_waiters_but s id _)
+      (one_more k h (Object kind id) registers thread runs (is_for kind id) refl
+      (own_object kind id id ∙ eq-eqb id id refl) ((h.objects kind).waiters id)
+      (λ t. ap (times_in t) (waiters_of-with_waiters s id x known _)
+      ∙ times_in_last t (waiters_of s id) _))
 
-  -- one that waits for an object is chosen, and woken
-  module _ (id : ℕ) (ordered : Bool) (one : Choice (Waiter (Wants kind)))
-      (chosen : chooses ordered (waiters_of s id) ≡ Some one) (word : ℕ) where
-    abbrev woken_one : ThreadTable
-    woken_one = threads.wakes k.threads one.one.item.thread word
+  -- some that wait for the object are woken, and the others wait on
+  module _ {left : Table kind} (but : IsBut id s left) (ids : List ℕ) (word : ℕ)
+      (split : (t : ℕ) → times_in t (waiters_of left id) + times t ids
+      ≡ times_in t (waiters_of s id)) where
+    abbrev asks : ℕ → Bool
+    asks t = is_for kind id (wait_of k.threads t)
 
-    moved_one : WaitBut k.threads woken_one (Some one.one.item.thread) None k.threads.running
-    moved_one = (moves k h).wakes one.one.item.thread word
+    -- each was among those that waited for it, once
+    once : (t : ℕ) → times_in t (waiters_of left id) + times t ids ≡ one_if (asks t)
+    once t = split t ∙ (h.objects kind).waiters id t
 
-    now_left : WaitsNow k.threads woken_one one.one.item.thread None
-    now_left = moved_one.waits
+    -- a thread that is woken is one that waited for it, and is not among the others
+    woken_asks : (b : Bool) {rest often : ℕ} → rest + often ≡ one_if b → 0 < often
+        → (b ≡ true) × (rest ≡ 0)
+    woken_asks true is some = (refl, omega (arith, is, some))
+    woken_asks false is some = absurd (omega (arith, is, some))
 
-    was : is_for kind id (wait_of k.threads one.one.item.thread) ≡ true
-    was = chosen_waits kind s k.threads mine id ordered one chosen
-
-    pub chosen_placed : IsPlaced (with_table kind (record k { threads = woken_one })
-        (with_waiters s id one.others))
-    chosen_placed =
-        let placed = (places k h).wakes one.one.item.thread word in
-        objects_moved k h woken_one kind id (record {
-          placed = placed;
-          room = same_live k h placed moved_one.live;
-          others = λ other same.
-              alike_ended k woken_one h placed one.one.item.thread now_left other
-              (Some (Object kind id))
-              (for_object kind id (wait_of k.threads one.one.item.thread) was) same;
-        }) (with_waiters s id one.others)
-        (waited_leaves kind s k.threads woken_one mine id one.one.item.thread now_left was
-        one.others (others_wait kind s k.threads mine id ordered one chosen))
-
-  -- the running thread waits for one
-  module _ (id thread : ℕ) (registers : Cpu) (runs : k.threads.running ≡ Some thread) where
-    abbrev stopped : ThreadTable
-    stopped = threads.blocks k.threads (Object kind id) registers
-
-    abbrev waiting : (priority : ℕ) → Wants kind → Queued (Waiter (Wants kind))
-    waiting priority wants =
-        record { priority = priority; item = record { thread = thread; wants = wants } }
-
-    blocked_waited : (o : Option (Live kind)) → object_of s.live id ≡ o → (x : State kind)
-        → option_map (λ o. o.state) o ≡ Some x → (priority : ℕ) (wants : Wants kind)
-        → AreWaited kind (objects.waits s id (waiting priority wants)) stopped
-    blocked_waited None found x known priority wants = absurd (cc known)
-    blocked_waited (Some o) found x known priority wants =
-        let wait = Object kind id in
-        waited_waits kind s k.threads stopped mine id o found (waiting priority wants)
-        (Some wait) (now_waits k h wait thread registers runs) (own_object kind id)
-        (idle k h wait thread registers runs)
-
-    pub blocked_placed : (x : State kind) → state_of s id ≡ Some x
-        → (priority : ℕ) (wants : Wants kind)
-        → IsPlaced (with_table kind (record k { threads = stopped })
-        (objects.waits s id (waiting priority wants)))
-    blocked_placed x known priority wants =
-        objects_moved k h stopped kind id
-        (blocked_moved k h (Object kind id) thread registers runs) _
-        (blocked_waited (object_of s.live id) refl x known priority wants)
-
-  -- some that wait for one are woken
-  module _ (id : ℕ) (ids : List ℕ) (word : ℕ) (rest : ℕ → ℕ)
-      (split : (t : ℕ) → rest t + times t ids ≡ times_in t (waiters_of s id)) where
-    abbrev woken : ThreadTable
-    woken = wakes_all k.threads ids word
-
-    ask : (t : ℕ) → nat_lt 0 (times t ids) ≡ true → wait_of k.threads t ≡ Some (Object kind id)
-    ask =
-        among_waiters kind s k.threads mine id (Some (Object kind id)) (for_object kind id) ids rest
-        split
-
-    woken_moved : Moved k woken (Object kind id)
-    woken_moved =
-        let all = ends_all k h (Object kind id) ids word ask in
-        record {
+    -- so all is placed
+    pub woken_placed : IsPlaced (with_table kind (record k {
+      threads = wakes_all k.threads ids word;
+    }) left)
+    woken_placed =
+        let all = all_woken k.threads h.threads ids word in
+        object_turns k h {was = Some (Object kind id)} {now = None} kind id (record {
           placed = all.placed;
           room = same_live k h all.placed all.live;
-          others = ends_other_kind k h (Object kind id) ids word ask;
-        }
+          before = λ t it. for_object kind id _ (woken_asks (asks t) (once t) (ltb-true 0 _ it)).0;
+          after = all.waits;
+          alike = λ asks same. same;
+        }) left but
+        (λ t. cond_both (nat_lt 0 (times t ids)) _ _ (λ n. times_in t (waiters_of left id) ≡ n)
+        (λ it. (woken_asks (asks t) (once t) (ltb-true 0 _ it)).1)
+        (λ none. omega (arith, split t, ltb-false 0 _ none)))
 
-    -- the object is deleted
-    pub deleted_placed : ((t : ℕ) → times t ids ≡ times_in t (waiters_of s id))
-        → IsPlaced (with_table kind (record k { threads = woken }) (deletes s id))
-    deleted_placed all =
-        objects_moved k h woken kind id woken_moved (deletes s id)
-        (waited_ended k h (Object kind id) ids word ask kind s mine id
-        (own_object kind id) all)
+  -- so where one is chosen
+  pub chosen_placed : (x : State kind) → state_of s id ≡ Some x
+      → (one : Choice (Waiter (Wants kind)))
+      → chooses (waits_by_priority kind x) (waiters_of s id) ≡ Some one → (word : ℕ)
+      → IsPlaced (with_table kind
+      (record k { threads = threads.wakes k.threads one.one.item.thread word })
+      (objects.with_waiters s id one.others))
+  chosen_placed x known one chosen word =
+      woken_placed (with_waiters_but s id one.others) (one.one.item.thread ∷ []) word
+      (λ t. omega (
+        arith,
+        ap (times_in t) (waiters_of-with_waiters s id x known one.others),
+        chosen_split t (waits_by_priority kind x) (waiters_of s id) one chosen,
+        times_first t one.one.item.thread [],
+      ))
 
-    -- or the others wait on
-    pub changed_placed : (change : Live kind → Live kind)
-        → ((o : Live kind) → (change o).id ≡ o.id)
-        → ((t : ℕ) → times_in t (waiters_in (option_map change (object_of s.live id))) + times t ids
-        ≡ times_in t (waiters_of s id))
-        → IsPlaced (with_table kind (record k { threads = woken }) (changes s id change))
-    changed_placed change keeps others =
-        objects_moved k h woken kind id woken_moved (changes s id change)
-        (waited_ends k h (Object kind id) ids word ask kind s mine id
-        (own_object kind id) change keeps others)
+-- all that wait for an object, in order of priority or of arrival
+pub all_in_order : {A W : Type 0} (s : objects.Objects A W) (o : objects.Object A W)
+    → object_of s.live o.id ≡ Some o → (ordered : Bool) (t : ℕ)
+    → times t (threads_of (in_order ordered o.waiters)) ≡ times_in t (waiters_of s o.id)
+all_in_order {A} {W} s o live ordered t =
+    times_in_order t ordered o.waiters
+    ∙ ap (λ (found : Option (objects.Object A W)). times_in t (waiters_in found)) (sym live)

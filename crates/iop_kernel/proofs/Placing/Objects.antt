@@ -1,12 +1,15 @@
 -- The threads that wait for an object, when one of a table changes, comes or goes.
-use Rattle.std.proofs.Common.{◌≡◌, ◌≢◌, ℕ, ◌+◌, ◌<◌, ◌==◌, Bool, true, false, not, if◌then◌else◌, Option, Some, None, option_map, List, [], ◌∷◌, ◌++◌, length, get_or, map, filter, All, AllPairs, refl, ap, sym, ◌∙◌, arith}
+use Rattle.std.proofs.Common.{◌≡◌, ◌≢◌, ℕ, ◌+◌, ◌<◌, ◌==◌, false, not, if◌then◌else◌, Option, Some, None, option_map, List, [], ◌∷◌, ◌++◌, length, get_or, map, filter, All, AllPairs, refl, ap, sym, ◌∙◌, arith}
+use Rattle.std.proofs.lemmas.Bool.{cond_both, cond-false}
 use Rattle.std.proofs.lemmas.Bool.Decides.{nat_tests}
 use Rattle.std.proofs.lemmas.List.{get_or-map, length-map}
-use Rattle.std.proofs.lemmas.List.Elements.{All-map, All-push, All-weaker}
+use Rattle.std.proofs.lemmas.List.Elements.{All-filter, All-map, All-push, All-weaker}
+use Rattle.std.proofs.lemmas.List.Kept.{AllPairs-filter}
 use Rattle.std.proofs.lemmas.List.Quantifiers.{all_pairs_push}
-use Rattle.iop_objects.specs.Objects.{Object, Objects, object_of, state_of, waiters_in, waiters_of, changes, with_waiters}
+use Rattle.iop_objects.specs.Objects.{Object, Objects, object_of, state_of, waiters_in, waiters_of, changes, deletes, with_waiters}
 use Rattle.iop_objects.specs.declared.queued.Queued.{Queued}
 use Rattle.iop_objects.specs.declared.waiter.Waiter.{Waiter}
+use Rattle.iop_objects.proofs.Changes.{object_of-changed}
 
 module _ {A W : Type 0} where
   -- no two objects have one id
@@ -16,6 +19,12 @@ module _ {A W : Type 0} where
   -- none has an id that is still to be given
   abbrev pub HaveIdsBelow : ℕ → List (Object A W) → Type 0
   HaveIdsBelow next live = All (λ o. o.id < next) live
+
+  -- the objects of other ids are waited for as before, and ids are as good as they were
+  pub record IsBut (id : ℕ) (s left : Objects A W) : Type 0 where
+    pub others : (other : ℕ) → (other == id) ≡ false → waiters_of left other ≡ waiters_of s other
+    pub ids : HaveOwnIds s.live → HaveOwnIds left.live
+    pub given : HaveIdsBelow s.next s.live → HaveIdsBelow left.next left.live
 
   -- the object that is found has the id
   pub object_of_id : (live : List (Object A W)) (id : ℕ) (o : Object A W)
@@ -30,34 +39,12 @@ module _ {A W : Type 0} where
   object_of_without [] id other = grind (arith, nat_tests)
   object_of_without (o ∷ live) id other = grind (arith, nat_tests, object_of_without live id other)
 
-  -- then none waits for one of that id, and each other is waited for as before
-  pub waiters_without : (live : List (Object A W)) (id other : ℕ)
-      → waiters_in (object_of (filter (λ o. not (o.id == id)) live) other)
-      ≡ (if other == id then [] else waiters_in (object_of live other))
-  waiters_without live id other =
-      ap waiters_in (object_of_without live id other) ∙ by (other == id)
-    where
-      by : (b : Bool) → waiters_in (if b then None else object_of live other)
-          ≡ (if b then [] else waiters_in (object_of live other))
-      by true = refl
-      by false = refl
-
   -- an object comes for which none waits
   pub waiters_added : (live : List (Object A W)) (made : Object A W) → made.waiters ≡ [] → (id : ℕ)
       → waiters_in (object_of (live ++ made ∷ []) id) ≡ waiters_in (object_of live id)
-  waiters_added [] made none id = by (made.id == id)
-    where
-      by : (b : Bool) → waiters_in (if b then Some made else None) ≡ []
-      by true = none
-      by false = refl
-  waiters_added (o ∷ live) made none id = by (o.id == id) (waiters_added live made none id)
-    where
-      by : (b : Bool)
-          → waiters_in (object_of (live ++ made ∷ []) id) ≡ waiters_in (object_of live id)
-          → waiters_in (if b then Some o else object_of (live ++ made ∷ []) id)
-          ≡ waiters_in (if b then Some o else object_of live id)
-      by true later = refl
-      by false later = later
+  waiters_added [] made none id = grind (arith, nat_tests, none)
+  waiters_added (o ∷ live) made none id =
+      grind (arith, nat_tests, waiters_added live made none id)
 
   -- it has an id of its own
   pub own_ids_added : (live : List (Object A W)) (made : Object A W) → HaveIdsBelow made.id live
@@ -83,14 +70,11 @@ module _ {A W : Type 0} (id : ℕ) (change : Object A W → Object A W)
 
   -- it keeps its id
   changed_id : (o : Object A W) → (changed o).id ≡ o.id
-  changed_id o = by (o.id == id)
-    where
-      by : (b : Bool) → (if b then change o else o).id ≡ o.id
-      by true = keeps o
-      by false = refl
+  changed_id o =
+      cond_both (o.id == id) (change o) o (λ p. p.id ≡ o.id) (λ own. keeps o) (λ other. refl)
 
   -- no two have one id then
-  pub own_ids_changed : (live : List (Object A W)) → HaveOwnIds live → HaveOwnIds (map changed live)
+  own_ids_changed : (live : List (Object A W)) → HaveOwnIds live → HaveOwnIds (map changed live)
   own_ids_changed live own = λ i j d less below.
       let inside : j < length live = omega (arith, below, length-map live changed) in
       let before : i < length live = omega (arith, less, inside) in
@@ -99,7 +83,7 @@ module _ {A W : Type 0} (id : ℕ) (change : Object A W → Object A W)
       (sym (changed_id (get_or live i d)) ∙ same ∙ changed_id (get_or live j d)))
 
   -- and none one that is still to be given
-  pub ids_below_changed : (next : ℕ) (live : List (Object A W)) → HaveIdsBelow next live
+  ids_below_changed : (next : ℕ) (live : List (Object A W)) → HaveIdsBelow next live
       → HaveIdsBelow next (map changed live)
   ids_below_changed next live given =
       All-map (λ (o : Object A W). o.id < next) changed live
@@ -111,45 +95,49 @@ module _ {A W : Type 0} (id : ℕ) (change : Object A W → Object A W)
       → object_of (map changed live) other ≡ option_map changed (object_of live other)
   object_of_changed [] other = refl
   object_of_changed (o ∷ live) other =
-      by (o.id == other) refl (object_of_changed live other)
-    where
-      by : (b : Bool) → (o.id == other) ≡ b
-          → object_of (map changed live) other ≡ option_map changed (object_of live other)
-          → object_of (map changed (o ∷ live)) other
-          ≡ option_map changed (if b then Some o else object_of live other)
-      by true is later =
-          let here : ((changed o).id == other) ≡ true = ap (λ n. n == other) (changed_id o) ∙ is in
-          rw here refl
-      by false is later =
-          let here : ((changed o).id == other) ≡ false = ap (λ n. n == other) (changed_id o) ∙ is in
-          rw here later
+      grind (arith, nat_tests, object_of_changed live other, changed_id o)
 
   module _ (s : Objects A W) where
     -- another object is waited for as before
-    pub waiters_other : (other : ℕ) → (other == id) ≡ false
+    waiters_other : (other : ℕ) → (other == id) ≡ false
         → waiters_of (changes s id change) other ≡ waiters_of s other
     waiters_other other apart =
-        ap waiters_in (object_of_changed s.live other) ∙ by (object_of s.live other) refl
-      where
-        by : (o : Option (Object A W)) → object_of s.live other ≡ o
-            → waiters_in (option_map changed o) ≡ waiters_in o
-        by None found = refl
-        by (Some o) found =
-            let is = object_of_id s.live other o found in
-            let beside : (o.id == id) ≡ false = grind (arith, nat_tests, is, apart) in
-            rw beside refl
+        ap waiters_in (object_of_changed s.live other)
+        ∙ grind (arith, nat_tests, apart, object_of_id s.live other)
 
     -- the one of the id changes, if there is one
     pub waiters_own : waiters_of (changes s id change) id
         ≡ waiters_in (option_map change (object_of s.live id))
-    waiters_own = ap waiters_in (object_of_changed s.live id) ∙ by (object_of s.live id) refl
-      where
-        by : (o : Option (Object A W)) → object_of s.live id ≡ o
-            → waiters_in (option_map changed o) ≡ waiters_in (option_map change o)
-        by None found = refl
-        by (Some o) found =
-            let is = object_of_id s.live id o found in
-            let own : (o.id == id) ≡ true = grind (arith, nat_tests, is) in rw own refl
+    waiters_own = ap waiters_in (object_of-changed id change keeps s.live)
+
+    -- so the table is as before but for those that wait for it
+    pub changes_but : IsBut id s (changes s id change)
+    changes_but = record {
+      others = waiters_other;
+      ids = own_ids_changed s.live;
+      given = ids_below_changed s.next s.live;
+    }
+
+module _ {A W : Type 0} (s : Objects A W) (id : ℕ) where
+  -- those that wait for an object are others, and none where there is no such object
+  pub waiters_now : (waiters : List (Queued (Waiter W)))
+      → (object_of s.live id ≡ None → waiters ≡ [])
+      → waiters_of (with_waiters s id waiters) id ≡ waiters
+  waiters_now waiters dead = waiters_own id _ (λ o. refl) s ∙ grind (arith, dead)
+
+  -- and the others are waited for as before
+  pub with_waiters_but : (waiters : List (Queued (Waiter W)))
+      → IsBut id s (with_waiters s id waiters)
+  with_waiters_but waiters = changes_but id (λ o. record o { waiters = waiters }) (λ o. refl) s
+
+  -- an object is deleted
+  pub deletes_but : IsBut id s (deletes s id)
+  deletes_but = record {
+    others = λ other apart.
+        ap waiters_in (object_of_without s.live id other ∙ cond-false (other == id) None _ apart);
+    ids = AllPairs-filter (λ a b. a.id ≢ b.id) (λ o. not (o.id == id)) s.live;
+    given = All-filter (λ o. not (o.id == id)) (λ o. o.id < s.next) s.live;
+  }
 
 -- what is known of an object that is found
 abbrev pub known : {A W : Type 0} → Option (Object A W) → Option A

@@ -1,16 +1,18 @@
 -- What a change of those that wait for an object keeps of the objects of its kind.
-use Rattle.std.proofs.Common.{◌≡◌, ◌==◌, ℕ, Bool, true, false, if◌then◌else◌, option_map, Option, Some, None, List, [], ◌∷◌, map, filter, refl, subst, arith}
+use Rattle.std.proofs.Common.{◌≡◌, ◌==◌, ℕ, Bool, true, false, if◌then◌else◌, Some, None, List, [], ◌∷◌, ◌++◌, map, filter, refl, ap, subst, sym, arith}
 use Rattle.std.specs.List.{All, Contains}
 use Rattle.std.specs.Prelude.{not}
-use Rattle.std.proofs.lemmas.Bool.Decides.{nat_tests}
+use Rattle.std.proofs.lemmas.Bool.{cond_both, eqb-true}
 use Rattle.std.proofs.lemmas.List.{length-map, get_or-map}
-use Rattle.std.proofs.lemmas.List.Elements.{All-head, All-append, All-weaker, All-map, All-filter, All-contains}
-use Rattle.iop_objects.specs.Objects.{Object, Objects, object_of, waiters_in, waiters_of, with_waiters, drops, requeues}
+use Rattle.std.proofs.lemmas.List.Elements.{All-head, All-tail, All-cons, All-append, All-weaker, All-map, All-filter, All-contains}
+use Rattle.iop_objects.specs.Objects.{Objects, object_of, waiters_in, waiters_of, with_waiters, drops, requeues}
+use Rattle.iop_objects.specs.Queue.{Choice, chooses}
 use Rattle.iop_objects.specs.WaiterQueues.{is_thread, without, with_priority, requeued}
 use Rattle.iop_objects.specs.declared.queued.Queued.{Queued}
 use Rattle.iop_objects.specs.declared.waiter.Waiter.{Waiter}
+use Rattle.iop_objects.proofs.QueuesChosen.{queues_chosen}
 use Rattle.iop_kernel.specs.Laws.{KeepsObjects}
-use Rattle.iop_kernel.proofs.Placing.Objects.{waiters_other, waiters_own, waiters_leave_states}
+use Rattle.iop_kernel.proofs.Placing.Objects.{with_waiters_but, waiters_now, waiters_leave_states}
 
 module _ {W : Type 0} where
   -- those that wait, without the priorities by which they are queued
@@ -37,16 +39,6 @@ module _ {W : Type 0} where
   none_without thread waiters =
       All-filter (λ x. not (is_thread thread x)) (IsAmong waiters) waiters (themselves waiters)
 
-  -- one that has another priority now, if it is that of the thread
-  same_thread : (thread priority : ℕ) (old : List (Queued (Waiter W))) (x : Queued (Waiter W))
-      → IsAmong old x
-      → IsAmong old (if is_thread thread x then with_priority priority x else x)
-  same_thread thread priority old x h = either (is_thread thread x)
-    where
-      either : (b : Bool) → IsAmong old (if b then with_priority priority x else x)
-      either true = h
-      either false = h
-
   -- so where the priority of a thread changes
   pub none_requeued : (by_priority : Bool) (thread priority : ℕ)
       (waiters : List (Queued (Waiter W)))
@@ -62,7 +54,28 @@ module _ {W : Type 0} where
       λ x. if is_thread thread x then with_priority priority x else x in
       All-map (IsAmong waiters) change waiters
       (All-weaker (IsAmong waiters) (λ x. IsAmong waiters (change x))
-      (same_thread thread priority waiters) waiters (themselves waiters))
+      (λ x there. cond_both (is_thread thread x) (with_priority priority x) x (IsAmong waiters)
+      (λ own. there) (λ other. there)) waiters (themselves waiters))
+
+  -- nor is there where one is chosen
+  without_one : (Each : Queued (Waiter W) → Type 0) (before behind : List (Queued (Waiter W)))
+      (x : Queued (Waiter W)) → All Each (before ++ x ∷ behind) → All Each (before ++ behind)
+  without_one Each [] behind x all = All-tail Each x behind all
+  without_one Each (y ∷ ys) behind x all =
+      All-cons Each y (ys ++ behind) (All-head Each y (ys ++ x ∷ behind) all)
+      (without_one Each ys behind x (All-tail Each y (ys ++ x ∷ behind) all))
+
+  pub none_chosen_new : (by_priority : Bool) (waiters : List (Queued (Waiter W)))
+      (c : Choice (Waiter W)) → chooses by_priority waiters ≡ Some c → NoOthers waiters c.others
+  none_chosen_new true waiters c chosen =
+      let taken = (queues_chosen.by_priority waiters c chosen).taken in
+      subst (NoOthers waiters) (sym taken.others_are)
+      (without_one (IsAmong waiters) taken.before taken.behind c.one
+      (subst (NoOthers waiters) taken.queue_is (themselves waiters)))
+  none_chosen_new false [] c chosen = cc
+  none_chosen_new false (x ∷ xs) c chosen =
+      let same : xs ≡ c.others = cc in
+      subst (NoOthers (x ∷ xs)) same (All-tail (IsAmong (x ∷ xs)) x xs (themselves (x ∷ xs)))
 
   -- so what is among the new ones is among the old ones
   among : (old new : List (Queued (Waiter W))) → NoOthers old new → (w : Waiter W)
@@ -94,29 +107,20 @@ module _ {A W : Type 0} where
 
   module _ (s : Objects A W) (id : ℕ) (new : List (Queued (Waiter W)))
       (none : NoOthers (waiters_of s id) new) where
-    -- the object has these waiters now
-    abbrev to_new : Object A W → Object A W
-    to_new o = record o { waiters = new }
+    -- where there is no such object none waits for it
+    dead : object_of s.live id ≡ None → new ≡ []
+    dead gone = none_new (waiters_of s id) new none (ap waiters_in gone)
 
-    -- there are no other waiters
-    own_waiters : (o : Option (Object A W)) → NoOthers (waiters_in o) new → (w : Waiter W)
-        → Contains (items (waiters_in (option_map to_new o))) w
-        → Contains (items (waiters_in o)) w
-    own_waiters None fewer w h = h
-    own_waiters (Some o) fewer w h = among o.waiters new fewer w h
-
-    -- by whether it is the object
+    -- there are no other waiters, of whichever object
     waiters_leave : (other : ℕ) (w : Waiter W) (b : Bool) → (other == id) ≡ b
         → Contains (items (waiters_of (with_waiters s id new) other)) w
         → Contains (items (waiters_of s other)) w
     waiters_leave other w true is =
-        let same : other ≡ id = grind (arith, nat_tests, is) in
-        rw same (λ h. own_waiters (object_of s.live id) none w
-        (rw (waiters_own id to_new (λ o. refl) s) at h))
-    waiters_leave other w false is = rw (waiters_other id to_new (λ o. refl) s other is) (λ h. h)
+        rw (eqb-true other id is, waiters_now s id new dead) (among (waiters_of s id) new none w)
+    waiters_leave other w false is = rw ((with_waiters_but s id new).others other is) (λ h. h)
 
     -- the objects are kept
-    pub waiters_change : KeepsObjects s (with_waiters s id new)
+    waiters_change : KeepsObjects s (with_waiters s id new)
     waiters_change = record {
       states = waiters_leave_states id new s;
       waiters = λ other w. waiters_leave other w (other == id) refl;

@@ -1,5 +1,6 @@
 -- Threads and waiters are placed in the kernel at first.
-use Rattle.std.proofs.Common.{◌≡◌, ℕ, ◌==◌, Bool, true, false, if◌then◌else◌, option_and_then, Some, None, refl, ap, sym, arith}
+use Rattle.std.proofs.Common.{◌≡◌, ℕ, ◌==◌, option_and_then, Some, None, refl, ap, sym, arith}
+use Rattle.std.proofs.lemmas.Bool.{cond_both}
 use Rattle.iop_base.specs.Numbers.{one_if}
 use Rattle.iop_objects.specs.Objects.{no_objects}
 use Rattle.iop_thread.specs.Operations.{opening, dormant_thread, loader_param}
@@ -15,14 +16,9 @@ use Rattle.iop_kernel.specs.System.{beginning}
 
 -- no thread waits
 none_waits : (t : ℕ) → wait_of opening t ≡ None
-none_waits t = by (LOADER == t)
-  where
-    by : (b : Bool)
-        → option_and_then (λ t. wait_in t.state)
-        (if b then Some (dormant_thread LOADER loader_param LOADER_STACK 0) else None)
-        ≡ None
-    by true = refl
-    by false = refl
+none_waits t =
+    cond_both (LOADER == t) (Some (dormant_thread LOADER loader_param LOADER_STACK 0)) None
+    (λ o. option_and_then (λ t. wait_in t.state) o ≡ None) (λ loader. refl) (λ other. refl)
 
 -- and no object is waited for
 none_waited : (kind : Kind) → AreWaited kind no_objects opening

@@ -1,16 +1,36 @@
--- How often a thread is among those that wait, when one comes, goes or is chosen.
-use Rattle.std.proofs.Common.{◌≡◌, ℕ, ◌+◌, ◌==◌, nat_lt, Bool, true, false, if◌then◌else◌, Option, Some, None, List, [], ◌∷◌, ◌++◌, map, filter, refl, ◌∙◌, subst, arith}
-use Rattle.std.proofs.lemmas.Bool.{cond_both}
+-- How often a thread is among those that wait, when one comes, goes or is chosen, and among those
+-- of delays; and that one is chosen where there are some, and only there.
+use Rattle.std.proofs.Common.{◌≡◌, ℕ, ◌+◌, ◌==◌, Bool, true, false, if◌then◌else◌, None, Some, List, [], ◌∷◌, ◌++◌, map, filter, refl, ◌∙◌, subst, arith, not, ap}
+use Rattle.std.specs.List.{list_any}
 use Rattle.std.proofs.lemmas.Bool.Decides.{nat_tests}
+use Rattle.std.proofs.lemmas.List.{length-append, map-append}
+use Rattle.std.proofs.lemmas.List.Elements.{filter-append}
 use Rattle.std.proofs.lemmas.Option.{same_Some}
 use Rattle.iop_base.specs.Numbers.{one_if}
-use Rattle.iop_objects.specs.Queue.{Choice, chooses, chooses_between, chooses_best, in_order, put_by_priority, sorted}
+use Rattle.iop_objects.specs.Queue.{Choice, chooses, chooses_best, in_order, put_by_priority, sorted}
 use Rattle.iop_objects.specs.WaiterQueues.{is_thread, without, with_priority, in_place, moved_last, requeued}
 use Rattle.iop_objects.specs.declared.queued.Queued.{Queued}
 use Rattle.iop_objects.specs.declared.waiter.Waiter.{Waiter}
+use Rattle.iop_objects.proofs.QueuesChosen.{queues_chosen}
 use Rattle.iop_thread.specs.Placing.{times}
-use Rattle.iop_thread.proofs.ReadyIds.{times_first}
+use Rattle.iop_thread.proofs.ReadyIds.{times_first, times_last}
+use Rattle.iop_time.specs.Timers.{is_delay_of}
+use Rattle.iop_time.specs.declared.delay.Delay.{Delay as DelayOf}
 use Rattle.iop_kernel.specs.Waits.{threads_of}
+
+-- how often an id is in two lists, one behind the other
+pub times_append : (id : ℕ) (xs ys : List ℕ) → times id (xs ++ ys) ≡ times id xs + times id ys
+times_append id xs ys = simp (filter-append, length-append) refl
+
+-- from an empty queue nothing is chosen
+pub none_chosen : {T : Type 0} (ordered : Bool) (c : Choice T) → chooses ordered [] ≡ Some c → ⊥
+none_chosen true c is = cc
+none_chosen false c is = cc
+
+-- and from another one something
+pub all_chosen : {T : Type 0} (ordered : Bool) (queue : List (Queued T))
+    → chooses ordered queue ≡ None → queue ≡ []
+all_chosen ordered queue = queues_chosen.empty ordered queue
 
 module _ {W : Type 0} (t : ℕ) where
   -- how often it is among them
@@ -25,9 +45,9 @@ module _ {W : Type 0} (t : ℕ) where
   -- some behind others
   times_in_append : (xs ys : List (Queued (Waiter W)))
       → times_in (xs ++ ys) ≡ times_in xs + times_in ys
-  times_in_append [] ys = omega arith
-  times_in_append (x ∷ xs) ys =
-      omega (arith, times_in_first x (xs ++ ys), times_in_first x xs, times_in_append xs ys)
+  times_in_append xs ys =
+      ap (times t) (map-append (λ x. x.item.thread) xs ys)
+      ∙ times_append t (threads_of xs) (threads_of ys)
 
   -- one more behind all others
   pub times_in_last : (xs : List (Queued (Waiter W))) (x : Queued (Waiter W))
@@ -73,23 +93,11 @@ module _ {W : Type 0} (t : ℕ) where
   abbrev IsSplit : List (Queued (Waiter W)) → Choice (Waiter W) → Type 0
   IsSplit xs c = times_in xs ≡ one_if (c.one.item.thread == t) + times_in c.others
 
-  -- by priority, by whether the choice among the later ones is better
-  between_split : (x : Queued (Waiter W)) (xs : List (Queued (Waiter W)))
-      (o : Option (Choice (Waiter W))) → ((c : Choice (Waiter W)) → o ≡ Some c → IsSplit xs c)
-      → IsSplit (x ∷ xs) (chooses_between x xs o)
-  between_split x xs None later = times_in_first x xs
-  between_split x xs (Some c) later =
-      cond_both (nat_lt c.one.priority x.priority) _ _ (IsSplit (x ∷ xs))
-      (λ better. omega (arith, times_in_first x xs, times_in_first x c.others, later c refl))
-      (λ other. times_in_first x xs)
-
   -- by priority
   best_split : (xs : List (Queued (Waiter W))) (c : Choice (Waiter W)) → chooses_best xs ≡ Some c
       → IsSplit xs c
   best_split [] c chosen = cc
-  best_split (x ∷ xs) c chosen =
-      subst (IsSplit (x ∷ xs)) (same_Some _ c chosen)
-      (between_split x xs (chooses_best xs) (best_split xs))
+  best_split (x ∷ xs) c chosen = grind (arith, nat_tests, chosen, best_split xs)
 
   -- by priority or by arrival
   pub chosen_split : (by_priority : Bool) (xs : List (Queued (Waiter W))) (c : Choice (Waiter W))
@@ -100,29 +108,44 @@ module _ {W : Type 0} (t : ℕ) where
   chosen_split false (x ∷ xs) c chosen =
       subst (IsSplit (x ∷ xs)) (same_Some _ c chosen) (times_in_first x xs)
 
-  -- all of them, in the order of the choices
+  -- one more, put by its priority
   times_in_put : (x : Queued (Waiter W)) (xs : List (Queued (Waiter W)))
       → times_in (put_by_priority x xs) ≡ one_if (x.item.thread == t) + times_in xs
   times_in_put x [] = times_in_first x []
-  times_in_put x (y ∷ ys) =
-      cond_both (nat_lt y.priority x.priority) _ _
-      (λ xs. times_in xs ≡ one_if (x.item.thread == t) + times_in (y ∷ ys))
-      (λ before. omega (
-        arith,
-        times_in_first y (put_by_priority x ys),
-        times_in_first y ys,
-        times_in_put x ys,
-      ))
-      (λ behind. times_in_first x (y ∷ ys))
+  times_in_put x (y ∷ ys) = grind (arith, nat_tests, times_in_put x ys)
 
-  -- by priority
+  -- all, sorted by priority
   times_in_sorted : (xs : List (Queued (Waiter W))) → times_in (sorted xs) ≡ times_in xs
   times_in_sorted [] = refl
   times_in_sorted (x ∷ xs) =
       omega (arith, times_in_put x (sorted xs), times_in_first x xs, times_in_sorted xs)
 
-  -- by priority or by arrival
+  -- all, in the order of the choices
   pub times_in_order : (by_priority : Bool) (xs : List (Queued (Waiter W)))
       → times_in (in_order by_priority xs) ≡ times_in xs
   times_in_order true xs = times_in_sorted xs
   times_in_order false xs = refl
+
+-- the threads of delays
+abbrev pub delayed : List DelayOf → List ℕ
+delayed ds = map (λ delay. delay.thread) ds
+
+-- a thread that has no delay is not among those of delays
+pub undelayed : (ds : List DelayOf) (thread : ℕ) → times thread (delayed ds) ≡ 0
+    → list_any (is_delay_of thread) ds ≡ false
+undelayed [] thread none = refl
+undelayed (d ∷ ds) thread none = grind (arith, nat_tests, none, undelayed ds thread)
+
+-- the delay of a thread goes
+pub times_dropped : (ds : List DelayOf) (thread t : ℕ)
+    → times t (delayed (filter (λ delay. not (is_delay_of thread delay)) ds))
+    ≡ (if thread == t then 0 else times t (delayed ds))
+times_dropped [] thread t = grind (arith, nat_tests)
+times_dropped (d ∷ ds) thread t = grind (arith, nat_tests, times_dropped ds thread t)
+
+-- one more delay stands
+pub times_added : (ds : List DelayOf) (d : DelayOf) (t : ℕ)
+    → times t (delayed (ds ++ d ∷ [])) ≡ one_if (d.thread == t) + times t (delayed ds)
+times_added ds d t =
+    ap (times t) (map-append (λ (d : DelayOf). d.thread) ds (d ∷ []))
+    ∙ times_last t d.thread (delayed ds)

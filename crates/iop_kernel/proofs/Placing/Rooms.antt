@@ -1,260 +1,197 @@
--- Where a thread runs, fewer wait for the objects of a kind, or for a time, than threads are live.
-use Rattle.std.proofs.Common.{◌≡◌, ◌≢◌, ℕ, zero, suc, ◌+◌, ◌<◌, ◌≤◌, ◌==◌, ◌||◌, nat_eq, Bool, true, false, is_some, Option, Some, None, IfSome, List, [], ◌∷◌, length, get_or, map, All, AllPairs, Contains, refl, ap, sym, ◌∙◌, subst, arith}
-use Rattle.std.specs.List.{IsDistinct, list_any}
+-- A thread waits for one object at most, and where one runs, fewer wait for the objects of a kind,
+-- or for a time, than threads are live.
+use Rattle.std.proofs.Common.{◌≡◌, ℕ, ◌+◌, ◌<◌, ◌≤◌, ◌==◌, ◌||◌, false, true, is_some, Option, Some, None, IfSome, List, [], ◌∷◌, get_or, length, map, flat_map, refl, ap, sym, ◌∙◌, subst, arith, ◌≢◌, Bool, if◌then◌else◌, All}
+use Rattle.std.specs.List.{list_any}
+use Rattle.std.specs.Prelude.{option_and_then, option_map, unwrap_or}
+use Rattle.std.proofs.lemmas.Bool.{eq-eqb, cond_both, eqb-true, ne_eqb}
 use Rattle.std.proofs.lemmas.Bool.Decides.{nat_tests}
-use Rattle.std.proofs.lemmas.Cmp.{nat_eq_equiv}
-use Rattle.std.proofs.lemmas.List.{length-map}
-use Rattle.std.proofs.lemmas.List.Elements.{Contains-get_or}
-use Rattle.std.proofs.lemmas.List.Kept.{AllPairs-cons}
-use Rattle.std.proofs.lemmas.List.Sums.{count_by-le-length, length-filter}
-use Rattle.std.proofs.lemmas.Map.Keys.{IsDistinct-from_apart}
-use Rattle.std.proofs.lemmas.Map.Made.{length-le_from_is_member}
+use Rattle.std.proofs.lemmas.List.{length-append, length-map}
+use Rattle.std.proofs.lemmas.List.Sums.{count_by-le-length, length-filter, sum_by-cons}
 use Rattle.iop_base.specs.Numbers.{one_if}
-use Rattle.iop_objects.proofs.Rooms.{leave_room}
-use Rattle.iop_objects.specs.Laws.{threads_waiting}
-use Rattle.iop_objects.specs.Objects.{waiting}
+use Rattle.iop_base.proofs.Lists.{find-none}
+use Rattle.iop_objects.specs.Laws.{threads_of, threads_waiting}
+use Rattle.iop_objects.specs.Objects.{Object, waiting, object_of, waiters_in}
 use Rattle.iop_objects.specs.declared.objects.TheConstants.{MOST_WAITERS}
+use Rattle.iop_objects.proofs.Totals.{AllPairs-head, AllPairs-tail}
 use Rattle.iop_ready.specs.declared.entry.Entry.{Entry}
-use Rattle.iop_ready.specs.declared.slot.TheConstants.{MOST_THREADS}
 use Rattle.iop_thread.specs.Placing as threads_placing
-use Rattle.iop_thread.specs.Placing.{times, is_in_state}
-use Rattle.iop_thread.specs.Standing as standing
-use Rattle.iop_thread.specs.States.{is_running}
+use Rattle.iop_thread.specs.Placing.{times}
+use Rattle.iop_thread.specs.States.{is_running, wait_in}
 use Rattle.iop_thread.specs.ThreadTable.{ThreadTable, thread_of, is_it}
 use Rattle.iop_thread.specs.Waits.{wait_of}
 use Rattle.iop_thread.specs.declared.kind.Kind.{Kind}
 use Rattle.iop_thread.specs.declared.kind.Kind.TheVariants.{Semaphore, EventFlag, Mailbox}
+use Rattle.iop_thread.specs.declared.state.State.{State}
+use Rattle.iop_thread.specs.declared.state.State.TheVariants.{Running}
 use Rattle.iop_thread.specs.declared.thread.Thread.{Thread}
-use Rattle.iop_thread.specs.declared.threads.Threads.{Threads}
 use Rattle.iop_thread.specs.declared.wait.Wait.{Wait}
-use Rattle.iop_thread.specs.declared.wait.Wait.TheVariants.{Sleep, Delay, Object}
-use Rattle.iop_thread.proofs.ReadyIds.{times_first, not_contained}
+use Rattle.iop_thread.specs.declared.wait.Wait.TheVariants.{Delay}
+use Rattle.iop_thread.proofs.ReadyIds.{times_first}
 use Rattle.iop_time.specs.Timers.{Timers, is_delay_of}
 use Rattle.iop_time.specs.declared.clock.TheConstants.{MOST_DELAYS}
 use Rattle.iop_kernel.specs.Kinds.{Table, table}
-use Rattle.iop_kernel.specs.Placing.{IsPlaced, AreWaited, is_for_delay}
-use Rattle.iop_kernel.specs.Standing.{Holds, IsActive, IsUndelayed, HasRoomToWait}
-use Rattle.iop_kernel.specs.System.{Kernel, is_active}
+use Rattle.iop_kernel.specs.Placing.{IsPlaced, AreWaited, is_for_delay, is_for}
+use Rattle.iop_kernel.specs.Standing.{IsActive, IsUndelayed, HasRoomToWait}
+use Rattle.iop_kernel.specs.System.{Kernel}
 use Rattle.iop_kernel.specs.declared.active_handler.ActiveHandler.{ActiveHandler}
 use Rattle.iop_kernel.specs.declared.kernel.Kernel.{Kernel as Program}
-use Rattle.iop_kernel.proofs.Placing.Delays.{delayed, undelayed}
-use Rattle.iop_kernel.proofs.Placing.Live.{ids_of, finds_member}
-use Rattle.iop_kernel.proofs.Placing.Once.{waits_once}
+use Rattle.iop_kernel.proofs.Bodies.KindTables.{one_object}
+use Rattle.iop_kernel.proofs.Placing.Live.{few}
+use Rattle.iop_kernel.proofs.Placing.Objects.{HaveOwnIds}
+use Rattle.iop_kernel.proofs.Placing.Queues.{delayed, undelayed, times_append, times_in}
 use Rattle.iop_kernel.proofs.Placing.Threads.{running_waits_not}
 
--- one that is in a list is there at least once
-often_contained : (ids : List ℕ) → All (λ id. 0 < times id ids) ids
-often_contained ids = λ k d below. by _ (times _ ids) refl (Contains-get_or ids k d below)
-  where
-    by : (id n : ℕ) → times id ids ≡ n → Contains ids id → 0 < times id ids
-    by id zero none there = absurd (not_contained id ids none there)
-    by id (suc n) some there = omega (arith, some)
+module _ {A W : Type 0} where
+  -- no object has the id of one in front of it
+  none_behind : (id : ℕ) (live : List (Object A W)) → All (λ o. id ≢ o.id) live
+      → object_of live id ≡ None
+  none_behind id live others =
+      find-none (λ o. o.id == id) live
+      (λ k d below. ne_eqb (get_or live k d).id id (λ same. others k d below (sym same)))
 
--- one that is found in a list is there at least once
-member_often : (q : ℕ) (ids : List ℕ) → list_any (nat_eq q) ids ≡ true → 0 < times q ids
-member_often q [] is = cc
-member_often q (x ∷ ids) is = grind (arith, nat_tests, is, member_often q ids)
+  module _ (kind : Kind) (t : ℕ) where
+    -- how often a thread is among those that wait for the object of an id
+    abbrev often : List (Object A W) → ℕ → ℕ
+    often live id = times_in t (waiters_in (object_of live id))
 
--- ids of which none is there twice are all different
-different : (ids : List ℕ) → ((id : ℕ) → times id ids ≤ 1) → AllPairs (λ a b. a ≢ b) ids
-different [] once = λ i j d less below. absurd (omega (arith, below))
-different (x ∷ ids) once =
-    AllPairs-cons (λ a b. a ≢ b) x ids
-    (λ k d below same.
-    not_contained x ids none (subst (Contains ids) (sym same) (Contains-get_or ids k d below)))
-    (different ids (λ id. omega (arith, once id, times_first id x ids)))
-  where
-    none : times x ids ≡ 0
-    none =
-        let here : (x == x) ≡ true = grind (arith, nat_tests) in
-        let one : one_if (x == x) ≡ 1 = ap one_if here in
-        omega (arith, one, times_first x x ids, once x)
+    -- a thread is among those that wait for all objects together at most once, and only where it
+    -- waits
+    abbrev IsOnce : List (Object A W) → Type 0
+    IsOnce live = (wait : Option Wait) → ((id : ℕ) → often live id ≡ one_if (is_for kind id wait))
+        → times t (flat_map threads_of live) ≤ one_if (is_some wait)
 
--- the id that finds a thread is among the ids
-contains_live : (live : List Thread) (id : ℕ) → is_some (thread_of live id) ≡ true
-    → Contains (map (λ t. t.id) live) id
-contains_live [] id there = cc
-contains_live (t ∷ live) id there = by (t.id == id) refl (contains_live live id)
-  where
-    by : (b : Bool) → (t.id == id) ≡ b
-        → (is_some (thread_of live id) ≡ true → Contains (map (λ t. t.id) live) id)
-        → Contains (map (λ t. t.id) (t ∷ live)) id
-    by true is later =
-        let here : t.id ≡ id = grind (arith, nat_tests, is) in (0, omega arith, here)
-    by false is later =
-        let found : is_some (thread_of live id) ≡ true = grind (arith, nat_tests, is, there) in
-        let at = later found in (suc at.0, omega (arith, at.1), at.2)
+    module _ (o : Object A W) (live : List (Object A W)) (own : HaveOwnIds (o ∷ live)) where
+      -- behind an object none has its id, and each other one is found as before
+      behind : (id : ℕ) → often live id ≡ (if o.id == id then 0 else often (o ∷ live) id)
+      behind id =
+          let none = none_behind o.id live (AllPairs-head (λ a b. a.id ≢ b.id) o live own) in
+          grind (arith, nat_tests, none)
+
+      one_more : IsOnce live → IsOnce (o ∷ live)
+      one_more later wait each = by (is_for kind o.id wait) refl
+        where
+          first : times_in t o.waiters ≡ one_if (is_for kind o.id wait)
+          first = rw (eq-eqb o.id o.id refl) at (each o.id)
+
+          all : times t (flat_map threads_of (o ∷ live))
+              ≡ times_in t o.waiters + times t (flat_map threads_of live)
+          all = times_append t (threads_of o) (flat_map threads_of live)
+
+          -- behind this one it waits for the others alone
+          rest : (w : Option Wait) → is_for kind o.id w ≡ false
+              → ((id : ℕ) → (o.id == id) ≡ false → is_for kind id wait ≡ is_for kind id w)
+              → (id : ℕ) → often live id ≡ one_if (is_for kind id w)
+          rest w not_this same id =
+              behind id
+              ∙ cond_both (o.id == id) 0 (often (o ∷ live) id) (λ n. n ≡ one_if (is_for kind id w))
+              (λ it. ap one_if
+              (sym (subst (λ id. is_for kind id w ≡ false) (eqb-true o.id id it) not_this)))
+              (λ other. each id ∙ ap one_if (same id other))
+
+          some : (w : Option Wait) → is_for kind o.id w ≡ true → is_some w ≡ true
+          some None is = cc
+          some (Some w) is = refl
+
+          by : (b : Bool) → is_for kind o.id wait ≡ b
+              → times t (flat_map threads_of (o ∷ live)) ≤ one_if (is_some wait)
+          by true is =
+              let else_none = later None
+              (rest None refl (λ id other. one_object kind o.id id wait is ∙ other)) in
+              omega (arith, all, first ∙ ap one_if is, else_none, ap one_if (some wait is))
+          by false is =
+              let others = later wait (rest wait is (λ id other. refl)) in
+              omega (arith, all, first ∙ ap one_if is, others)
+
+    -- so it is for each list of objects
+    waits_once : (live : List (Object A W)) → HaveOwnIds live → IsOnce live
+    waits_once [] own = λ wait each. omega arith
+    waits_once (o ∷ live) own =
+        one_more o live own (waits_once live (AllPairs-tail (λ a b. a.id ≢ b.id) o live own))
+
+-- those that wait for all objects together
+length-waiting : {A W : Type 0} (live : List (Object A W))
+    → length (flat_map threads_of live) ≡ waiting (record { live = live; next = 0 })
+length-waiting [] = refl
+length-waiting (o ∷ live) =
+    omega (
+      arith,
+      length-append (threads_of o) (flat_map threads_of live),
+      length-map o.waiters (λ x. x.item.thread),
+      sum_by-cons (λ n. n) (length o.waiters) (map (λ p. length p.waiters) live),
+      length-waiting live,
+    )
+
+-- a thread that runs does not wait
+runs_or_waits : (state : State) → one_if (is_running state) + one_if (is_some (wait_in state)) ≤ 1
+runs_or_waits Running = omega arith
+runs_or_waits other = omega arith
 
 module _ (s : ThreadTable) (placed : threads_placing.IsPlaced s) (one : ℕ)
     (runs : s.running ≡ Some one) where
-  -- a thread that waits is live
-  waits_live : (id : ℕ) → is_some (wait_of s id) ≡ true → is_some (thread_of s.live id) ≡ true
-  waits_live id waits = by (thread_of s.live id) refl
+  -- threads that all wait, each there once at most, are fewer than are live
+  fewer : (ws : List ℕ) → ((t : ℕ) → times t ws ≤ one_if (is_some (wait_of s t)))
+      → length ws < length s.live
+  fewer ws most = few s.live (one ∷ ws) (λ t. by t (thread_of s.live t)
+      (sym (ap (λ o. is_it o t) runs) ∙ placed.running t) (most t))
     where
-      by : (o : Option Thread) → thread_of s.live id ≡ o → is_some o ≡ true
-      by None found = let idle : wait_of s id ≡ None = rw found refl in absurd (cc (waits, idle))
-      by (Some t) found = refl
+      by : (t : ℕ) (o : Option Thread)
+          → (one == t) ≡ unwrap_or (option_map (λ t. is_running t.state) o) false
+          → times t ws ≤ one_if (is_some (option_and_then (λ t. wait_in t.state) o))
+          → times t (one ∷ ws) ≤ one_if (is_some o)
+      by t None is least = omega (arith, times_first t one ws, ap one_if is, least)
+      by t (Some u) is least =
+          omega (arith, times_first t one ws, ap one_if is, least, runs_or_waits u.state)
 
-  -- so is the one that runs
-  runs_live : is_some (thread_of s.live one) ≡ true
-  runs_live =
-      let same : (one == one) ≡ true = grind (arith, nat_tests) in
-      let here : is_it s.running one ≡ true = ap (λ o. is_it o one) runs ∙ same in
-      by (thread_of s.live one) refl (sym (placed.running one) ∙ here)
+  -- a thread is among those that wait for objects of a kind only where it waits, so they are fewer
+  fewer_wait : (kind : Kind) (o : Table kind) → AreWaited kind o s → waiting o < length s.live
+  fewer_wait kind o h =
+      let less = fewer (threads_waiting o)
+      (λ t. waits_once kind t o.live h.ids (wait_of s t) (λ id. h.waiters id t)) in
+      omega (arith, less, length-waiting o.live)
+
+module _ (k : Kernel) (h : IsPlaced k) (id : ℕ) (runs : k.threads.running ≡ Some id) where
+  -- where a thread runs, there is room for one more delay
+  pub fewer_delays : length k.timers.delays < MOST_DELAYS
+  fewer_delays =
+      let ds = k.timers.delays in
+      let less = fewer k.threads h.threads id runs (delayed ds)
+      (λ t. omega (arith, h.delays.delays t, by (wait_of k.threads t))) in
+      omega (arith, less, length-map ds (λ d. d.thread), h.delays.room)
     where
-      by : (o : Option Thread) → thread_of s.live one ≡ o
-          → is_in_state is_running s.live one ≡ true → is_some o ≡ true
-      by None found is =
-          let away : is_in_state is_running s.live one ≡ false = rw found refl in
-          absurd (cc (is, away))
-      by (Some t) found is = refl
+      by : (wait : Option Wait) → one_if (is_for_delay wait) ≤ one_if (is_some wait)
+      by (Some Delay) = omega arith
+      by other = omega arith
 
-  -- some threads, each there only where it waits, and at most once
-  module _ (ws : List ℕ) (most : (t : ℕ) → times t ws ≤ one_if (is_some (wait_of s t))) where
-    once : (t : ℕ) (wait : Option Wait) → times t ws ≤ one_if (is_some wait) → times t ws ≤ 1
-    once t None least = omega (arith, least)
-    once t (Some wait) least = least
+  -- and it has none
+  pub runs_undelayed : list_any (is_delay_of id) k.timers.delays ≡ false
+  runs_undelayed =
+      undelayed k.timers.delays id
+      (h.delays.delays id ∙ ap (λ w. one_if (is_for_delay w))
+      (running_waits_not k.threads h.threads id
+      (ap (λ o. is_it o id) runs ∙ eq-eqb id id refl)))
 
-    -- so they are all different
-    all_differ : AllPairs (λ a b. a ≢ b) ws
-    all_differ = different ws (λ t. once t (wait_of s t) (most t))
+module _ {R : Type 0} {stands_for : R → List Entry → Type 0} (k : Program R)
+    (active : IsActive stands_for k) where
+  abbrev s : Kernel
+  s = active.0
 
-    -- one that is among them waits
-    waits_some : (t : ℕ) (wait : Option Wait) → times t ws ≤ one_if (is_some wait)
-        → 0 < times t ws → is_some wait ≡ true
-    waits_some t None least there = absurd (omega (arith, least, there))
-    waits_some t (Some wait) least there = refl
+  abbrev placed : IsPlaced s
+  placed = active.1.placed
 
-    -- so it is live
-    often_live : (t : ℕ) → 0 < times t ws → is_some (thread_of s.live t) ≡ true
-    often_live t there = waits_live t (waits_some t (wait_of s t) (most t) there)
+  -- the thread that runs, if one does, has no delay
+  undelayed_held : IsUndelayed stands_for k
+  undelayed_held =
+      record { kernel = s; holds = active.1.holds; free = by s.threads.running refl }
+    where
+      by : (o : Option ℕ) → s.threads.running ≡ o
+          → IfSome o (λ thread. list_any (is_delay_of thread) s.timers.delays ≡ false)
+      by None runs = tt
+      by (Some id) runs = runs_undelayed s placed id runs
 
-    -- they are all live
-    all_live : All (Contains (ids_of s.live)) ws
-    all_live = λ k d below.
-        let id = get_or ws k d in
-        contains_live s.live id (often_live id (often_contained ws k d below))
-
-    -- the one that runs is not among them
-    runs_not : times one ws ≡ 0
-    runs_not =
-        let idle = running_waits_not s placed one runs in
-        let never : one_if (is_some (wait_of s one)) ≡ 0 = rw idle refl in
-        omega (arith, never, most one)
-
-    -- with it they are all different, too
-    with_running : (t : ℕ) → times t (one ∷ ws) ≤ 1
-    with_running t = by (one == t) refl (times_first t one ws)
-      where
-        by : (b : Bool) → (one == t) ≡ b → times t (one ∷ ws) ≡ one_if b + times t ws
-            → times t (one ∷ ws) ≤ 1
-        by true it all =
-            let here : one ≡ t = grind (arith, nat_tests, it) in
-            let none : times t ws ≡ 0 = subst (λ t. times t ws ≡ 0) here runs_not in
-            omega (arith, all, none)
-        by false other all = omega (arith, all, once t (wait_of s t) (most t))
-
-    -- and all live
-    members_live : (q : ℕ) → list_any (nat_eq q) (one ∷ ws) ≡ true
-        → list_any (nat_eq q) (ids_of s.live) ≡ true
-    members_live q is =
-        sym (finds_member s.live q) ∙ by (one == q) refl (member_often q (one ∷ ws) is)
-      where
-        by : (b : Bool) → (one == q) ≡ b → 0 < times q (one ∷ ws)
-            → is_some (thread_of s.live q) ≡ true
-        by true it there =
-            let here : one ≡ q = grind (arith, nat_tests, it) in
-            subst (λ q. is_some (thread_of s.live q) ≡ true) here runs_live
-        by false other there =
-            let first = times_first q one ws ∙ ap (λ b. one_if b + times q ws) other in
-            often_live q (omega (arith, first, there))
-
-    -- so they are fewer than are live
-    fewer : length ws < length s.live
-    fewer =
-        let apart = different (one ∷ ws) with_running in
-        let distinct : IsDistinct nat_eq (one ∷ ws) =
-        IsDistinct-from_apart nat_eq (one ∷ ws)
-        (λ i j d less below. let differ = apart i j d less below in
-        grind (arith, nat_tests, differ)) in
-        let few = length-le_from_is_member nat_eq_equiv (one ∷ ws) (ids_of s.live) distinct
-        members_live in
-        omega (arith, few, length-map s.live (λ t. t.id))
-
-  module _ (kind : Kind) (o : Table kind) (h : AreWaited kind o s) where
-    -- a thread is among those that wait only where it waits
-    most_wait : (t : ℕ) → times t (threads_waiting o) ≤ one_if (is_some (wait_of s t))
-    most_wait t = waits_once kind t o.live h.ids (wait_of s t) (λ id. h.waiters id t)
-
-    -- so fewer wait than are live
-    pub fewer_wait : waiting o < length s.live
-    fewer_wait =
-        let ws = threads_waiting o in
-        let room = leave_room o (ids_of s.live) one (all_differ ws most_wait)
-        (all_live ws most_wait) (contains_live s.live one runs_live)
-        (not_contained one ws (runs_not ws most_wait)) in
-        omega (arith, room, length-map s.live (λ t. t.id))
-
--- where a thread runs, there is room for one more delay
-pub fewer_delays : (k : Kernel) → IsPlaced k → (id : ℕ) → k.threads.running ≡ Some id
-    → length k.timers.delays < MOST_DELAYS
-fewer_delays k h id runs =
-    let ds = k.timers.delays in
-    let few = fewer k.threads h.threads id runs (delayed ds) most in
-    omega (arith, few, length-map ds (λ d. d.thread), h.delays.room)
-  where
-    by : (wait : Option Wait) → one_if (is_for_delay wait) ≤ one_if (is_some wait)
-    by None = omega arith
-    by (Some Sleep) = omega arith
-    by (Some Delay) = omega arith
-    by (Some (Object kind id)) = omega arith
-
-    most : (t : ℕ) → times t (delayed k.timers.delays)
-        ≤ one_if (is_some (wait_of k.threads t))
-    most t = omega (arith, h.delays.delays t, by (wait_of k.threads t))
-
--- the thread that runs has no delay
-pub runs_undelayed : (k : Kernel) → IsPlaced k → (id : ℕ) → k.threads.running ≡ Some id
-    → list_any (is_delay_of id) k.timers.delays ≡ false
-runs_undelayed k h id runs =
-    undelayed k.timers.delays id
-    (h.delays.delays id
-    ∙ ap (λ w. one_if (is_for_delay w)) (running_waits_not k.threads h.threads id runs))
-
-module _ {R : Type 0} {stands_for : R → List Entry → Type 0} where
-  -- no more threads are live than there are places
-  pub few_live : (t : Threads R) (s : ThreadTable) → standing.Stands stands_for t s
-      → length s.live ≤ MOST_THREADS
-  few_live t s h = omega (
-    arith,
-    h.holds.count,
-    h.holds.size,
-    length-filter is_some t.places,
-    count_by-le-length is_some t.places,
-  )
-
-  module _ (k : Program R) (s : Kernel) (h : Holds stands_for k s) (placed : IsPlaced s) where
-    -- the thread that runs, if one does, has no delay
-    undelayed_held : IsUndelayed stands_for k
-    undelayed_held = record { kernel = s; holds = h; free = by s.threads.running refl }
-      where
-        by : (o : Option ℕ) → s.threads.running ≡ o
-            → IfSome o (λ thread. list_any (is_delay_of thread) s.timers.delays ≡ false)
-        by None runs = tt
-        by (Some id) runs = runs_undelayed s placed id runs
-
-    -- where a thread runs there is room for one more that waits for an object
-    room_for : (kind : Kind) (id : ℕ) → s.threads.running ≡ Some id
-        → waiting (table kind s) < MOST_WAITERS
-    room_for kind id runs =
-        let fewer = fewer_wait s.threads placed.threads id runs kind (table kind s)
-        (placed.objects kind) in
-        omega (arith, fewer, few_live k.threads s.threads h.threads)
-
+  module _ (none : k.handler ≡ None) where
     -- where no handler runs, but a thread or a handler does, a thread runs
-    thread_runs : is_active s ≡ true → k.handler ≡ None → (id : ℕ) × (s.threads.running ≡ Some id)
-    thread_runs active none =
-        by s.handler s.threads.running refl (h.handler ∙ none) active
+    thread_runs : (id : ℕ) × (s.threads.running ≡ Some id)
+    thread_runs = by s.handler s.threads.running refl (active.1.holds.handler ∙ none) active.2
       where
         by : (handler : Option ActiveHandler) (o : Option ℕ) → s.threads.running ≡ o
             → handler ≡ None → (is_some handler || is_some o) ≡ true
@@ -263,25 +200,33 @@ module _ {R : Type 0} {stands_for : R → List Entry → Type 0} where
         by None None runs none is = cc
         by None (Some id) runs none is = (id, runs)
 
-    -- so there is room for the thread that calls, if one does
-    room_to_wait : is_active s ≡ true → HasRoomToWait stands_for k
-    room_to_wait active = record {
-      undelayed = undelayed_held;
-      delays = λ none. let it = thread_runs active none in
-          subst (λ (timers : Timers). length timers.delays < MOST_DELAYS) h.timers
-          (fewer_delays s placed it.0 it.1);
-      semaphores = λ none. let it = thread_runs active none in
-          subst (λ o. waiting o < MOST_WAITERS) h.semaphores
-          (room_for Semaphore it.0 it.1);
-      event_flags = λ none. let it = thread_runs active none in
-          subst (λ o. waiting o < MOST_WAITERS) h.event_flags
-          (room_for EventFlag it.0 it.1);
-      mailboxes = λ none. let it = thread_runs active none in
-          subst (λ o. waiting o < MOST_WAITERS) h.mailboxes
-          (room_for Mailbox it.0 it.1);
-    }
+    -- and there is room for one more that waits for an object: no more threads are live than there
+    -- are places
+    room_for : (kind : Kind) → waiting (table kind s) < MOST_WAITERS
+    room_for kind =
+        let it = thread_runs in
+        let places = k.threads.places in
+        let stands = active.1.holds.threads.holds in
+        omega (
+          arith,
+          fewer_wait s.threads placed.threads it.0 it.1 kind (table kind s) (placed.objects kind),
+          stands.count,
+          stands.size,
+          length-filter is_some places,
+          count_by-le-length is_some places,
+        )
 
-  -- where the kernel stands and a thread or a handler executes in it, there is room
-  pub active_room : (k : Program R) → IsActive stands_for k → HasRoomToWait stands_for k
-  active_room k active =
-      room_to_wait k active.0 active.1.holds active.1.placed active.2
+  -- so there is room for the thread that calls, if one does
+  pub active_room : HasRoomToWait stands_for k
+  active_room = let holds = active.1.holds in record {
+    undelayed = undelayed_held;
+    delays = λ none. let it = thread_runs none in
+        subst (λ (timers : Timers). length timers.delays < MOST_DELAYS) holds.timers
+        (fewer_delays s placed it.0 it.1);
+    semaphores = λ none.
+        subst (λ o. waiting o < MOST_WAITERS) holds.semaphores (room_for none Semaphore);
+    event_flags = λ none.
+        subst (λ o. waiting o < MOST_WAITERS) holds.event_flags (room_for none EventFlag);
+    mailboxes = λ none.
+        subst (λ o. waiting o < MOST_WAITERS) holds.mailboxes (room_for none Mailbox);
+  }

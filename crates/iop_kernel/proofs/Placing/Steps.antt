@@ -1,21 +1,17 @@
 -- Threads and waiters stay placed over deliveries and dispatches, where the loader's thread begins
 -- and ends, and when a handler returns.
-use Rattle.std.proofs.Common.{◌≡◌, ◌≢◌, ℕ, ◌==◌, Bool, true, false, if◌then◌else◌, Option, Some, None, option_map, option_and_then, find, List, [], ◌∷◌, refl, ap, ◌∙◌, arith}
-use Rattle.std.specs.Option.{option_or}
+use Rattle.std.proofs.Common.{◌≡◌, ℕ, ◌<◌, ◌==◌, Bool, true, Option, Some, None, option_and_then, find, List, [], ◌∷◌, refl, subst, arith}
 use Rattle.std.specs.Prelude.{⊤}
 use Rattle.std.proofs.lemmas.Bool.{cond_both}
 use Rattle.std.proofs.lemmas.Bool.Decides.{nat_tests}
-use Rattle.std.proofs.lemmas.Option.{same_Some}
 use Rattle.iop_base.specs.Numbers.{one_if}
 use Rattle.iop_base.specs.Piece.{Piece}
 use Rattle.iop_base.specs.declared.code.TheConstants.Code.{OK}
 use Rattle.iop_exec.specs.Row.{reg}
 use Rattle.iop_thread.specs.Operations as threads
 use Rattle.iop_thread.specs.Placing.{times}
-use Rattle.iop_thread.specs.Waits.{wait_of}
 use Rattle.iop_thread.specs.declared.wait.Wait.{Wait}
-use Rattle.iop_thread.specs.declared.wait.Wait.TheVariants.{Sleep, Delay, Object}
-use Rattle.iop_thread.proofs.ReadyIds.{times_first}
+use Rattle.iop_thread.specs.declared.wait.Wait.TheVariants.{Delay}
 use Rattle.iop_time.specs.Taking.{timer_of, takes_due}
 use Rattle.iop_time.specs.Timers.{Timers, drops_delay, removes, sets_again}
 use Rattle.iop_time.specs.Turns.{due as due_at}
@@ -31,70 +27,32 @@ use Rattle.iop_kernel.specs.declared.active_handler.ActiveHandler.{ActiveHandler
 use Rattle.iop_kernel.specs.declared.active_handler.Cause.{Cause}
 use Rattle.iop_kernel.specs.declared.active_handler.Cause.TheVariants.{Line, Alarm}
 use Rattle.iop_kernel.proofs.Placing.Basics.{places, moves, stand_on, timers_placed, beside_placed}
-use Rattle.iop_kernel.proofs.Placing.Delays.{delayed}
+use Rattle.iop_kernel.proofs.Placing.Queues.{delayed}
 use Rattle.iop_kernel.proofs.Placing.Threads.{placed_leaves}
 use Rattle.iop_kernel.proofs.Walk.Steps.{DueComes, due_goes, Steps}
 
 -- a wait for a time is for nothing else
-for_delay : (wait : Option Wait) → is_for_delay wait ≡ true → wait ≡ Some Delay
-for_delay None is = cc
-for_delay (Some Sleep) is = cc
+for_delay : (wait : Option Wait) → 0 < one_if (is_for_delay wait) → wait ≡ Some Delay
 for_delay (Some Delay) is = refl
-for_delay (Some (Object kind id)) is = cc
+for_delay other is = absurd (omega (arith, is))
 
 -- a delay that is found is that of its thread
 found_delay : (ds : List DelayOf) (p : DelayOf → Bool) (delay : DelayOf) → find p ds ≡ Some delay
-    → times delay.thread (delayed ds) ≢ 0
+    → 0 < times delay.thread (delayed ds)
 found_delay [] p delay found = cc
-found_delay (d ∷ ds) p delay found = by (p d) found (found_delay ds p delay)
-  where
-    by : (b : Bool) → (if b then Some d else find p ds) ≡ Some delay
-        → (find p ds ≡ Some delay → times delay.thread (delayed ds) ≢ 0)
-        → times delay.thread (delayed (d ∷ ds)) ≢ 0
-    by true here later =
-        let own : d ≡ delay = same_Some d delay here in
-        let same : (delay.thread == delay.thread) ≡ true = grind (arith, nat_tests) in
-        let one : one_if (d.thread == delay.thread) ≡ 1 =
-        ap (λ (d : DelayOf). one_if (d.thread == delay.thread)) own ∙ ap one_if same in
-        λ none. omega (arith, none, one, times_first delay.thread d.thread (delayed ds))
-    by false behind later =
-        let some = later behind in
-        λ none. some (omega (arith, none, times_first delay.thread d.thread (delayed ds)))
+found_delay (d ∷ ds) p delay found = grind (arith, nat_tests, found, found_delay ds p delay)
 
 -- the delay that is taken stood
 taken_stood : (timers : Timers) (number : Option ℕ) (delay : DelayOf)
     → option_and_then (timer_of timers) number ≡ Some (due.Delay delay)
-    → times delay.thread (delayed timers.delays) ≢ 0
+    → 0 < times delay.thread (delayed timers.delays)
 taken_stood timers None delay taken = cc
 taken_stood timers (Some number) delay taken =
-    by (find (λ alarm. alarm.number == number) timers.alarms)
-    (find (λ delay. delay.number == number) timers.delays) refl taken
-  where
-    by : (alarm : _) (found : Option DelayOf)
-        → find (λ delay. delay.number == number) timers.delays ≡ found
-        → option_or (option_map due.Alarm alarm) (option_map due.Delay found)
-        ≡ Some (due.Delay delay)
-        → times delay.thread (delayed timers.delays) ≢ 0
-    by (Some alarm) found is taken = cc
-    by None None is taken = cc
-    by None (Some one) is taken =
-        let same : one ≡ delay = cc in
-        found_delay timers.delays (λ delay. delay.number == number) delay
-        (is ∙ ap (λ d. Some d) same)
+    found_delay timers.delays (λ delay. delay.number == number) delay (grind (arith, taken))
 
 module _ (c : Core) (h : IsPlaced c.kernel) where
   abbrev k : Kernel
   k = c.kernel
-
-  -- a thread whose delay stands waits for a time
-  delay_waits : (thread : ℕ) → times thread (delayed k.timers.delays) ≢ 0
-      → wait_of k.threads thread ≡ Some Delay
-  delay_waits thread some = for_delay _ (by (is_for_delay (wait_of k.threads thread)) refl)
-    where
-      by : (b : Bool) → is_for_delay (wait_of k.threads thread) ≡ b
-          → is_for_delay (wait_of k.threads thread) ≡ true
-      by true is = is
-      by false is = absurd (some (h.delays.delays thread ∙ ap one_if is))
 
   -- where something is delivered
   abbrev StaysPlaced : Core → Piece → Type 0
@@ -109,7 +67,8 @@ module _ (c : Core) (h : IsPlaced c.kernel) where
       let now = (moves k h).wakes delay.thread word in
       placed_leaves k (threads.wakes k.threads delay.thread word) h
       ((places k h).wakes delay.thread word) delay.thread now.waits now.live (Some Delay)
-      (delay_waits delay.thread (taken_stood k.timers (due_at k.timers k.clock) delay taken))
+      (for_delay _ (subst (λ n. 0 < n) (h.delays.delays delay.thread)
+      (taken_stood k.timers (due_at k.timers k.clock) delay taken)))
 
   pub placed_due : DueComes StaysPlaced c
   placed_due = record {

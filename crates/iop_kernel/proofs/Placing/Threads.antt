@@ -1,49 +1,40 @@
 -- Threads and waiters are placed when the waits of threads change.
-use Rattle.std.proofs.Common.{◌≡◌, ℕ, ◌+◌, ◌≤◌, ◌==◌, nat_lt, Bool, true, false, if◌then◌else◌, Option, Some, None, List, [], ◌∷◌, length, refl, ap, sym, ◌∙◌, arith}
+use Rattle.std.proofs.Common.{◌≡◌, ℕ, ◌≤◌, ◌==◌, nat_lt, Bool, true, false, if◌then◌else◌, Option, Some, None, List, [], ◌∷◌, length, refl, ap, sym, ◌∙◌, arith}
+use Rattle.std.specs.Prelude.{option_and_then, option_map, unwrap_or}
 use Rattle.std.proofs.lemmas.Bool.Decides.{nat_tests}
 use Rattle.iop_base.specs.Numbers.{one_if}
+use Rattle.iop_objects.specs.Objects.{waiters_in, waiters_of}
+use Rattle.iop_objects.specs.WaiterQueues.{without}
 use Rattle.iop_thread.specs.Operations as threads
 use Rattle.iop_thread.specs.Placing as threads_placing
-use Rattle.iop_thread.specs.Placing.{times, is_in_state}
+use Rattle.iop_thread.specs.Placing.{times}
 use Rattle.iop_thread.specs.States.{is_running, wait_in}
 use Rattle.iop_thread.specs.ThreadTable.{ThreadTable, thread_of, is_it}
 use Rattle.iop_thread.specs.Waits.{wait_of, is_live}
 use Rattle.iop_thread.specs.declared.kind.Kind.{Kind}
 use Rattle.iop_thread.specs.declared.state.State.{State}
-use Rattle.iop_thread.specs.declared.state.State.TheVariants.{Dormant, Running, Ready, Waiting, Suspended, WaitingSuspended}
+use Rattle.iop_thread.specs.declared.state.State.TheVariants.{Waiting, WaitingSuspended}
 use Rattle.iop_thread.specs.declared.thread.Thread.{Thread}
 use Rattle.iop_thread.specs.declared.wait.Wait.{Wait}
 use Rattle.iop_thread.specs.declared.wait.Wait.TheVariants.{Sleep, Delay, Object}
 use Rattle.iop_thread.proofs.Placed.{keeps_places}
 use Rattle.iop_thread.proofs.ReadyIds.{times_first}
 use Rattle.iop_thread.proofs.Waits.{moves_waits}
+use Rattle.iop_time.specs.Timers.{Timers, AreTimers}
 use Rattle.iop_time.specs.declared.clock.TheConstants.{MOST_DELAYS}
-use Rattle.iop_kernel.specs.Kinds.{is_kind, Table, table, with_table, is_by_priority}
+use Rattle.iop_time.proofs.Keeping.{without_delays-keeps}
+use Rattle.iop_kernel.specs.Kinds.{is_kind, Live, Table, table, with_table, is_by_priority}
 use Rattle.iop_kernel.specs.Placing.{IsPlaced, AreWaited, AreDelayed, is_for_delay, is_for}
 use Rattle.iop_kernel.specs.System.{Kernel}
 use Rattle.iop_kernel.specs.Waits.{leaves_object, requeues_at, wakes_all}
-use Rattle.iop_kernel.proofs.Bodies.KindTables.{each_table, own_object, other_kind}
-use Rattle.iop_kernel.proofs.Placing.Alike.{AreForSame, AllAskAlike, same_wait, none_for_sleep}
-use Rattle.iop_kernel.proofs.Placing.Delays.{delayed_alike, delayed_drops, live_room}
-use Rattle.iop_kernel.proofs.Placing.Waiters.{AskAlike, WaitsNow, alike_now, waited_alike, waited_requeues, waited_drops}
+use Rattle.iop_kernel.proofs.Bodies.KindTables.{each_table, other_kind}
+use Rattle.iop_kernel.proofs.Placing.Live.{live_room}
+use Rattle.iop_kernel.proofs.Placing.Objects.{IsBut, with_waiters_but, waiters_now}
+use Rattle.iop_kernel.proofs.Placing.Queues.{delayed, times_dropped, times_in, times_in_without}
+use Rattle.iop_kernel.proofs.Placing.Turns.{Turns, asked_alike, counted, one_turns, waited_alike, waited_requeues, waited_turns}
 
--- an id is itself
-itself : (id : ℕ) → (id == id) ≡ true
-itself id = grind (arith, nat_tests)
-
--- other threads stand in the kernel, and wait alike
-pub placed_with : (k : Kernel) (left : ThreadTable) → IsPlaced k → threads_placing.IsPlaced left
-    → length left.live ≤ MOST_DELAYS → AllAskAlike k.threads left
-    → IsPlaced (record k { threads = left })
-placed_with k left h placed room alike = record {
-  threads = placed;
-  objects = λ kind.
-      waited_alike kind (table kind k) k.threads left (h.objects kind) (alike.objects kind);
-  delays = delayed_alike h.delays room alike.delays;
-}
-
--- with other objects of a kind
-pub placed_objects : (kind : Kind) (k : Kernel) (left : ThreadTable) (s : Table kind)
+-- other threads stand in the kernel, with other objects of a kind
+placed_objects : (kind : Kind) (k : Kernel) (left : ThreadTable) (s : Table kind)
     → threads_placing.IsPlaced left → AreWaited kind s left
     → ((other : Kind) → is_kind other kind ≡ false
     → AreWaited other (table other k) left)
@@ -54,118 +45,136 @@ placed_objects kind k left s placed own rest delays = record {
   delays = delays;
 }
 
+-- or the same threads
+pub placed_own : (k : Kernel) → IsPlaced k → (kind : Kind) (s : Table kind)
+    → AreWaited kind s k.threads → IsPlaced (with_table kind k s)
+placed_own k h kind s own =
+    placed_objects kind k k.threads s h.threads own (λ other apart. h.objects other) h.delays
+
 -- a thread has another priority among those that wait
 pub placed_requeues : (k : Kernel) → IsPlaced k → (thread priority : ℕ) (wait : Option Wait)
     → IsPlaced (requeues_at k thread priority wait)
-placed_requeues k h thread priority None = h
-placed_requeues k h thread priority (Some Sleep) = h
-placed_requeues k h thread priority (Some Delay) = h
 placed_requeues k h thread priority (Some (Object kind id)) =
-    let t = table kind k in
-    placed_objects kind k k.threads _ h.threads
-    (waited_requeues kind t k.threads k.threads (h.objects kind) id (is_by_priority kind t id) thread
-    priority (λ n t. refl))
-    (λ other apart. h.objects other) h.delays
+    let s = table kind k in
+    placed_own k h kind _
+    (waited_requeues kind s (h.objects kind) id (is_by_priority kind s id) thread priority)
+placed_requeues k h thread priority other = h
 
--- a wait ends
+-- some threads wait for something else
+module _ (k : Kernel) (h : IsPlaced k) {turns : ℕ → Bool} {was now : Option Wait}
+    {left : ThreadTable} where
+  -- the objects for which they did not, and do not, are waited for alike
+  elsewhere : {wait : Wait} → Turns wait turns was now k.threads left → (kind : Kind)
+      → ((id : ℕ) → is_for kind id None ≡ is_for kind id (Some wait))
+      → AreWaited kind (table kind k) left
+  elsewhere g kind same =
+      waited_alike kind (table kind k) (h.objects kind)
+      (λ id. asked_alike g (is_for kind id) (same id))
+
+  -- so are the delays
+  delays_alike : {wait : Wait} → Turns wait turns was now k.threads left
+      → is_for_delay None ≡ is_for_delay (Some wait) → AreDelayed k.timers left
+  delays_alike g same = record {
+    delays = λ t. h.delays.delays t ∙ ap one_if (sym (asked_alike g is_for_delay same t));
+    kept = h.delays.kept;
+    room = g.room;
+  }
+
+  -- they sleep, or sleep no more
+  pub asleep_turns : Turns Sleep turns was now k.threads left
+      → IsPlaced (record k { threads = left })
+  asleep_turns g = record {
+    threads = g.placed;
+    objects = λ kind. elsewhere g kind (λ id. refl);
+    delays = delays_alike g refl;
+  }
+
+  -- they wait for a time, or wait for it no more
+  pub delay_turns : Turns Delay turns was now k.threads left → (timers : Timers) → AreTimers timers
+      → ((t : ℕ) → times t (delayed timers.delays)
+      ≡ (if turns t then one_if (is_for_delay now) else times t (delayed k.timers.delays)))
+      → IsPlaced (record k { threads = left; timers = timers })
+  delay_turns g timers kept changed = record {
+    threads = g.placed;
+    objects = λ kind. elsewhere g kind (λ id. refl);
+    delays = record {
+      delays = counted g is_for_delay h.delays.delays changed;
+      kept = kept;
+      room = g.room;
+    };
+  }
+
+  -- they wait for an object, or wait for it no more
+  pub object_turns : (kind : Kind) (id : ℕ) → Turns (Object kind id) turns was now k.threads left
+      → (s : Table kind) → IsBut id (table kind k) s
+      → ((t : ℕ) → times_in t (waiters_of s id)
+      ≡ (if turns t then one_if (is_for kind id now)
+      else times_in t (waiters_of (table kind k) id)))
+      → IsPlaced (with_table kind (record k { threads = left }) s)
+  object_turns kind id g s but changed =
+      placed_objects kind k left s g.placed
+      (waited_turns kind (table kind k) (h.objects kind) id but g changed)
+      (λ other apart. elsewhere g other (other_kind kind other apart id)) (delays_alike g refl)
+
+-- no wait changes, and there is room for a delay of each thread
+pub stand : (k : Kernel) → IsPlaced k → {left : ThreadTable} → threads_placing.IsPlaced left
+    → length left.live ≤ MOST_DELAYS → ((t : ℕ) → wait_of left t ≡ wait_of k.threads t)
+    → IsPlaced (record k { threads = left })
+stand k h placed room on = asleep_turns k h {turns = λ t. false} {was = None} {now = None} (record {
+  placed = placed;
+  room = room;
+  before = λ t never. cc;
+  after = on;
+  alike = λ asks same. refl;
+})
+
+-- the wait of a thread ends
 module _ (k : Kernel) (left : ThreadTable) (h : IsPlaced k) (placed : threads_placing.IsPlaced left)
-    (thread : ℕ) (now : WaitsNow k.threads left thread None) where
-  -- the objects of a kind for which it was not are waited for alike
-  pub alike_ended : (is_for : ℕ → Option Wait → Bool) (wait : Option Wait)
-      → wait_of k.threads thread ≡ wait → ((id : ℕ) → is_for id None ≡ is_for id wait)
-      → AskAlike is_for k.threads left
-  alike_ended is_for wait was same =
-      alike_now is_for k.threads left thread None now
-      (λ id. same id ∙ sym (ap (is_for id) was))
+    (thread : ℕ)
+    (now : (t : ℕ) → wait_of left t ≡ (if thread == t then None else wait_of k.threads t))
+    (live : (id : ℕ) → is_live left id ≡ is_live k.threads id) where
+  turn : (wait : Wait) (was : Option Wait) → wait_of k.threads thread ≡ was
+      → ((asks : Option Wait → Bool) → asks None ≡ asks (Some wait) → asks None ≡ asks was)
+      → Turns wait (λ t. thread == t) was None k.threads left
+  turn wait was is alike =
+      one_turns thread placed (live_room k.threads left placed live h.delays.room) is now alike
 
-  module _ (live : (id : ℕ) → is_live left id ≡ is_live k.threads id) where
-    -- so there is still room for a delay of each
-    room_left : length left.live ≤ MOST_DELAYS
-    room_left = live_room k.threads left placed live h.delays.room
-
-    -- where it was for no time the same delays stand
-    pub delays_ended : (wait : Option Wait) → wait_of k.threads thread ≡ wait
-        → is_for_delay None ≡ is_for_delay wait → AreDelayed k.timers left
-    delays_ended wait was same =
-        delayed_alike h.delays room_left (alike_ended (λ id. is_for_delay) wait was (λ id. same))
-
-    -- it was for none
-    ends_none : (wait : Option Wait) → wait_of k.threads thread ≡ wait → AreForSame None wait
-        → IsPlaced (record k { threads = left })
-    ends_none wait was same =
-        placed_with k left h placed room_left (record {
-          objects = λ kind. alike_ended (is_for kind) wait was (same.objects kind);
-          delays = alike_ended (λ id. is_for_delay) wait was (λ id. same.delays);
-        })
-
-    -- the objects of another kind are waited for alike
-    others : (kind : Kind) (wait : Option Wait) → wait_of k.threads thread ≡ wait
-        → ((id : ℕ) → is_for kind id None ≡ is_for kind id wait)
-        → AreWaited kind (table kind k) left
-    others kind wait was same =
-        waited_alike kind (table kind k) k.threads left (h.objects kind)
-        (alike_ended (is_for kind) wait was same)
-
-    -- the thread is no longer among those that wait for the object of its wait, or for a time
-    pub placed_leaves : (wait : Option Wait) → wait_of k.threads thread ≡ wait
-        → IsPlaced (leaves_object (record k { threads = left }) thread wait)
-    placed_leaves None was = ends_none None was (same_wait None)
-    placed_leaves (Some Sleep) was = ends_none (Some Sleep) was none_for_sleep
-    placed_leaves (Some Delay) was = record {
-      threads = placed;
-      objects = λ kind. others kind (Some Delay) was (λ n. refl);
-      delays = delayed_drops h.delays room_left thread now;
-    }
-    placed_leaves (Some (Object kind id)) was =
-        placed_objects kind k left _ placed
-        (waited_drops kind (table kind k) k.threads left (h.objects kind) id thread now
-        (ap (is_for kind id) was ∙ own_object kind id id ∙ itself id))
-        (λ other apart. others other _ was (other_kind kind other apart id))
-        (delays_ended _ was refl)
+  -- it is no longer among those that wait for the object of its wait, or for a time
+  pub placed_leaves : (wait : Option Wait) → wait_of k.threads thread ≡ wait
+      → IsPlaced (leaves_object (record k { threads = left }) thread wait)
+  placed_leaves None was = asleep_turns k h (turn Sleep None was (λ asks same. refl))
+  placed_leaves (Some Sleep) was = asleep_turns k h (turn Sleep _ was (λ asks same. same))
+  placed_leaves (Some Delay) was =
+      delay_turns k h (turn Delay _ was (λ asks same. same)) _
+      (without_delays-keeps k.timers _ h.delays.kept) (times_dropped k.timers.delays thread)
+  placed_leaves (Some (Object kind id)) was =
+      let s = table kind k in
+      object_turns k h kind id (turn (Object kind id) _ was (λ asks same. same)) _
+      (with_waiters_but s id (without thread (waiters_of s id)))
+      (λ t. ap (times_in t) (waiters_now s id _
+      (ap (λ (o : Option (Live kind)). without thread (waiters_in o))))
+      ∙ times_in_without t thread (waiters_of s id))
 
 -- the thread that runs waits for nothing
 pub running_waits_not : (s : ThreadTable) → threads_placing.IsPlaced s → (id : ℕ)
-    → s.running ≡ Some id → wait_of s id ≡ None
-running_waits_not s placed id runs =
-    let here : is_it s.running id ≡ true = rw runs (itself id) in
-    by (thread_of s.live id) refl (sym (placed.running id) ∙ here)
+    → is_it s.running id ≡ true → wait_of s id ≡ None
+running_waits_not s placed id runs = by (thread_of s.live id) (sym (placed.running id) ∙ runs)
   where
     idle : (state : State) → is_running state ≡ true → wait_in state ≡ None
-    idle Dormant is = refl
-    idle Running is = refl
-    idle (Ready own) is = refl
     idle (Waiting wait own) is = cc
-    idle (Suspended own) is = refl
     idle (WaitingSuspended wait own) is = cc
+    idle other is = refl
 
-    by : (o : Option Thread) → thread_of s.live id ≡ o → is_in_state is_running s.live id ≡ true
-        → wait_of s id ≡ None
-    by None found is = rw found refl
-    by (Some t) found is =
-        let state : is_in_state is_running s.live id ≡ is_running t.state = rw found refl in
-        let wait : wait_of s id ≡ wait_in t.state = rw found refl in
-        wait ∙ idle t.state (sym state ∙ is)
+    by : (o : Option Thread) → unwrap_or (option_map (λ t. is_running t.state) o) false ≡ true
+        → option_and_then (λ t. wait_in t.state) o ≡ None
+    by None is = refl
+    by (Some t) is = idle t.state is
 
 -- several waits end, and the same threads are live
 pub record AllWoken (s : ThreadTable) (ids : List ℕ) (left : ThreadTable) : Type 0 where
   pub placed : threads_placing.IsPlaced left
   pub live : (t : ℕ) → is_live left t ≡ is_live s t
   pub waits : (t : ℕ) → wait_of left t ≡ (if nat_lt 0 (times t ids) then None else wait_of s t)
-
--- either way it is that one
-same_either : (b : Bool) (wait : Option Wait) → (if b then wait else wait) ≡ wait
-same_either true wait = refl
-same_either false wait = refl
-
--- a wait ends where one of them does
-woken_by : (old w : Option Wait) (b : Bool) (n m : ℕ) → w ≡ (if b then None else old)
-    → m ≡ one_if b + n
-    → (if nat_lt 0 n then None else w) ≡ (if nat_lt 0 m then None else old)
-woken_by old w true n m is more =
-    let some : nat_lt 0 m ≡ true = grind (arith, nat_tests, more) in
-    rw (some, is) (same_either (nat_lt 0 n) None)
-woken_by old w false n m is more =
-    let same : m ≡ n = omega (arith, more) in rw (same, is) refl
 
 -- one after the other
 pub all_woken : (s : ThreadTable) → threads_placing.IsPlaced s → (ids : List ℕ) (word : ℕ)
@@ -179,7 +188,5 @@ all_woken s placed (id ∷ ids) word =
     record {
       placed = later.placed;
       live = λ t. later.live t ∙ moved.live t;
-      waits = λ t. later.waits t
-          ∙ woken_by (wait_of s t) (wait_of next t) (id == t) (times t ids) (times t (id ∷ ids))
-          (moved.waits t) (times_first t id ids);
+      waits = λ t. grind (arith, nat_tests, later.waits t, moved.waits t, times_first t id ids);
     }

@@ -1,13 +1,15 @@
--- The bytes of words, one word after the other.
-use Rattle.std.proofs.Common.{◌≡◌, ◌<◌, ◌+◌, ◌-◌, ◌*◌, ℕ, List, [], ◌∷◌, ◌++◌, length, take, drop, get_or, replicate, append_assoc, refl, ap, sym, ◌∙◌, arith}
-use Rattle.std.proofs.lemmas.List.{length-append, length-take-le, take_more, drop-replicate}
+-- The bytes of words, one word after the other, and each of them read where they were put into
+-- memory.
+use Rattle.std.proofs.Common.{◌≡◌, ℕ, zero, suc, ◌+◌, ◌-◌, ◌*◌, ◌^◌, ◌<◌, ◌≤◌, List, [], ◌∷◌, ◌++◌, length, take, drop, get_or, replicate, All, append_assoc, refl, ap, sym, ◌∙◌, arith}
 use Rattle.std.proofs.Math.Seq.{take-append_seam, drop-append-add}
-use Rattle.iop_base.specs.Numbers.{bytes_of, with_bytes}
-use Rattle.iop_base.proofs.Lists.{length-bytes_of}
+use Rattle.std.proofs.lemmas.List.{length-append, length-take-le, take_more, drop-replicate}
+use Rattle.iop_base.specs.Numbers.{number_at, bytes_of, with_bytes}
+use Rattle.iop_base.proofs.Lists.{length-bytes_of, number_at-word}
+use Rattle.iop_base.proofs.Memory.{number_at_inside}
 use Rattle.iop_kernel.specs.Boards.{bytes_of_words}
 
 -- the bytes of words behind others
-pub bytes_of_words-append : (words more : List ℕ)
+bytes_of_words-append : (words more : List ℕ)
     → bytes_of_words (words ++ more) ≡ bytes_of_words words ++ bytes_of_words more
 bytes_of_words-append [] more = refl
 bytes_of_words-append (word ∷ words) more =
@@ -50,3 +52,39 @@ word_put words bytes n i below is =
     ∙ with_bytes-front (bytes_of_words front) word (n - 4 * i) (4 * i) at
     ∙ ap (λ t. t ++ replicate (n - 4 * i - 4) 0) (sym more)
     ∙ ap (λ m. bytes_of_words (take (i + 1) words) ++ replicate m 0) left
+
+-- the bytes of one of many words
+word_bytes : (words : List ℕ) (k : ℕ) → k < length words
+    → take 4 (drop (4 * k) (bytes_of_words words)) ≡ bytes_of 4 (get_or words k 0)
+word_bytes [] k below = absurd (omega (arith, below))
+word_bytes (word ∷ words) zero below = take-append_seam (bytes_of 4 word) (bytes_of_words words)
+word_bytes (word ∷ words) (suc k) below =
+    let rest = bytes_of_words words in
+    let next : 4 * suc k ≡ 4 + 4 * k = omega arith in
+    ap (λ p. take 4 (drop p (bytes_of 4 word ++ rest))) next
+    ∙ ap (take 4) (drop-append-add (bytes_of 4 word) rest (4 * k))
+    ∙ word_bytes words k (omega (arith, below))
+
+-- words that were put into memory
+abbrev pub written : (memory : List ℕ) (place : ℕ) (words : List ℕ) → List ℕ
+written memory place words = with_bytes memory place (bytes_of_words words)
+
+module _ (memory : List ℕ) (place : ℕ) (words : List ℕ)
+    (fits : place + 4 * length words ≤ length memory)
+    (small : All (λ word. word < 2 ^ 32) words) where
+  -- each is read at its place
+  pub word_at : (k : ℕ) → k < length words
+      → number_at (written memory place words) (place + 4 * k) 4 ≡ get_or words k 0
+  word_at k below =
+      let bytes = bytes_of_words words in
+      let long = length-bytes_of_words words in
+      number_at_inside memory place bytes (omega (arith, fits, long)) (4 * k) 4
+      (omega (arith, below, long))
+      ∙ number_at-word bytes (4 * k) (get_or words k 0) (small k 0 below) (word_bytes words k below)
+
+  -- the first one, at the place itself
+  pub first_at : 0 < length words
+      → number_at (written memory place words) place 4 ≡ get_or words 0 0
+  first_at some =
+      let first : place ≡ place + 4 * 0 = omega arith in
+      ap (λ p. number_at (written memory place words) p 4) first ∙ word_at 0 some

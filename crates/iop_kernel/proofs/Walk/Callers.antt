@@ -1,13 +1,13 @@
 -- The services that ask for a thread that calls them: a handler calls none of them.
 use Rattle.std.proofs.Common.{◌≡◌, ℕ, ◌||◌, not, Bool, true, false, Option, Some, None, refl, arith}
-use Rattle.std.proofs.lemmas.Bool.Decides.{nat_tests}
 use Rattle.std.specs.Prelude.{is_some}
-use Rattle.iop_services.proofs.Rows.{AllPass, rows_all}
+use Rattle.std.proofs.lemmas.Bool.Decides.{nat_tests}
 use Rattle.iop_services.specs.Table.{row_of, allows}
 use Rattle.iop_services.specs.declared.row.Row.{Row}
 use Rattle.iop_services.specs.declared.service.Service.{Service}
 use Rattle.iop_services.specs.declared.service.Service.TheVariants.{Thbase}
 use Rattle.iop_services.specs.declared.thbase_service.ThbaseService.TheVariants.{SleepThread, DisableDispatchThread}
+use Rattle.iop_services.proofs.Rows.{AllPass, rows_all}
 use Rattle.iop_kernel.specs.System.{Core, caller_beside, caller, in_handler, is_active}
 use Rattle.iop_kernel.specs.declared.active_handler.ActiveHandler.{ActiveHandler}
 

@@ -18,8 +18,8 @@ use Rattle.iop_kernel.specs.EventFlags.{LiveFlag, creates_flag_at, clear_event_f
 use Rattle.iop_kernel.specs.System.{Core, Left, System, Done, may_switch, caller, with_event_flags, answers_result}
 use Rattle.iop_kernel.specs.Waits.{is_code}
 use Rattle.iop_kernel.specs.declared.after.After.{After}
-use Rattle.iop_kernel.proofs.Keeping.Boards.{PlaceFits, optional_fits}
 use Rattle.iop_kernel.proofs.Keeping.Meetings.{met_of, set_flags, meets_core}
+use Rattle.iop_kernel.proofs.Keeping.Memory.{PlaceFits, optional_fits}
 use Rattle.iop_kernel.proofs.Walk.Changes.FlagChanges.{clears, tests}
 use Rattle.iop_kernel.proofs.Walk.Moves.{EachMoves, ObjectMoves, Sets, CoreEnds, BoardEnds}
 use Rattle.iop_kernel.proofs.Walk.Objects.{waits_goes}
@@ -125,7 +125,8 @@ module _ {P : System → List Piece → Type 0} {Q : After → System → List P
     waits_flag_by None fits = e.faults faults_of.Address
     waits_flag_by (Some place) fits =
         either_board e (may_switch c.kernel) _ _ (λ may.
-        tests_by (λ (r : Result ℕ Code × EventFlags). BoardGoes (tests_or_waits b id wanted place r))
+        tests_by
+        (λ (r : Result ℕ Code × EventFlags). BoardGoes (tests_or_waits b id wanted place r))
         (state_of those id) refl (refused place)
         (λ x known met. written e place (x.pattern ∷ []) _ OK (fits place refl)
         (m.changes id x _ known (tests wanted met)))
@@ -133,10 +134,12 @@ module _ {P : System → List Piece → Type 0} {Q : After → System → List P
         waits_goes e EventFlag m id x wanted may known (some, free, unmet) (caller c) refl))
         (λ cannot. only e _)
 
-    pub waits_flag_goes : BoardGoes (waits_flag_at b id wanted (optional_place s.memory wanted.place))
+    pub waits_flag_goes : BoardGoes
+        (waits_flag_at b id wanted (optional_place s.memory wanted.place))
     waits_flag_goes =
         waits_flag_by (optional_place s.memory wanted.place) (optional_fits s wanted.place)
 
-    pub polls_flag_goes : BoardGoes (polls_flag_at b id wanted (optional_place s.memory wanted.place))
+    pub polls_flag_goes : BoardGoes
+        (polls_flag_at b id wanted (optional_place s.memory wanted.place))
     polls_flag_goes =
         polls_flag_by (optional_place s.memory wanted.place) (optional_fits s wanted.place)

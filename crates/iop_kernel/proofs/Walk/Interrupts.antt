@@ -13,7 +13,7 @@ use Rattle.iop_kernel.specs.System.{System}
 use Rattle.iop_kernel.specs.SystemClock.{sets_alarm_at, ticks_in}
 use Rattle.iop_kernel.specs.Waits.{is_code}
 use Rattle.iop_kernel.specs.declared.after.After.{After}
-use Rattle.iop_kernel.proofs.Keeping.Boards.{WordsFit, PlaceFits, optional_fits}
+use Rattle.iop_kernel.proofs.Keeping.Memory.{WordsFit, PlaceFits, optional_fits}
 use Rattle.iop_kernel.proofs.Walk.Moves.{EachMoves, AlarmMoves, InterruptMoves, CoreEnds, BoardEnds}
 use Rattle.iop_kernel.proofs.Walk.Stores.{written, either_board}
 use Rattle.iop_kernel.proofs.Walk.Threads.{answers_after, only, either}
@@ -59,4 +59,5 @@ module _ {P : System → List Piece → Type 0} {Q : After → System → List P
       → BoardEnds Q s (suspends_at (board_of s) o)
   suspends_goes None fits = e.faults faults_of.Address
   suspends_goes (Some place) fits =
-      written e (Some place) (one_if s.core.kernel.interrupts ∷ []) _ (suspended_code s.core.kernel.interrupts) fits (i.turns false)
+      written e (Some place) (one_if s.core.kernel.interrupts ∷ []) _
+      (suspended_code s.core.kernel.interrupts) fits (i.turns false)

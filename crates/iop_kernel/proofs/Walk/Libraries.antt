@@ -6,14 +6,14 @@ use Rattle.iop_base.specs.BlockSizes.{block_len}
 use Rattle.iop_base.specs.Piece.{Piece}
 use Rattle.iop_base.specs.declared.code.Code.{Code}
 use Rattle.iop_base.specs.declared.guest_fault.GuestFault.TheVariants as faults_of
-use Rattle.iop_ready.specs.Priorities.{priority_of as priority_of_word}
 use Rattle.iop_libs.specs.Calls.{table_place, registers_at}
-use Rattle.iop_services.specs.declared.service.Service.{Service}
-use Rattle.iop_services.specs.declared.service.Service.TheVariants.{Thbase}
+use Rattle.iop_ready.specs.Priorities.{priority_of as priority_of_word}
 use Rattle.iop_services.specs.declared.intrman_service.IntrmanService.{IntrmanService}
 use Rattle.iop_services.specs.declared.intrman_service.IntrmanService.TheVariants as intrman
 use Rattle.iop_services.specs.declared.loadcore_service.LoadcoreService.{LoadcoreService}
 use Rattle.iop_services.specs.declared.loadcore_service.LoadcoreService.TheVariants as loadcore
+use Rattle.iop_services.specs.declared.service.Service.{Service}
+use Rattle.iop_services.specs.declared.service.Service.TheVariants.{Thbase}
 use Rattle.iop_services.specs.declared.stdio_service.StdioService.{StdioService}
 use Rattle.iop_services.specs.declared.stdio_service.StdioService.TheVariants as stdio
 use Rattle.iop_services.specs.declared.sysmem_service.SysmemService.{SysmemService}
@@ -129,8 +129,8 @@ module _ {P : System → List Piece → Type 0} {Q : After → System → List P
   registers_go moves None = e.faults faults_of.Address
   registers_go moves (Some place) = e.goes_on _ _ _ (moves.registers _)
 
-  pub loadcore_goes : RegistryMoves P Q Asks s → (x : LoadcoreService) → Ends Q (serves_loadcore s x)
-  unfolding serves_loadcore
+  pub loadcore_goes : RegistryMoves P Q Asks s → (x : LoadcoreService)
+      → Ends Q (serves_loadcore s x)
   loadcore_goes moves loadcore.FlushIcache = only e _
   loadcore_goes moves loadcore.FlushDcache = only e _
   loadcore_goes moves loadcore.RegisterLibraryEntries =
@@ -138,7 +138,6 @@ module _ {P : System → List Piece → Type 0} {Q : After → System → List P
   loadcore_goes moves loadcore.ReleaseLibraryEntries = e.goes_on _ _ _ (moves.registers _)
 
   pub sysmem_goes : BlockMoves P Q Asks s → (x : SysmemService) → Ends Q (serves_sysmem s x)
-  unfolding serves_sysmem
   sysmem_goes moves sysmem.AllocSysMemory = e.goes_on _ _ _ (moves.takes (a s 0) (a s 1) (a s 2))
   sysmem_goes moves sysmem.FreeSysMemory = e.goes_on _ _ _ (moves.frees (a s 0))
   sysmem_goes moves sysmem.QueryMemSize = only e _
@@ -149,7 +148,6 @@ module _ {P : System → List Piece → Type 0} {Q : After → System → List P
   sysmem_goes moves sysmem.Kprintf = e.goes_on _ _ _ (e.prints _)
 
   pub stdio_goes : (x : StdioService) → Ends Q (serves_stdio s x)
-  unfolding serves_stdio
   stdio_goes stdio.Printf = e.goes_on _ _ _ (e.prints _)
 
   pub intrman_goes : InterruptMoves P Q Asks s → (x : IntrmanService)
@@ -226,7 +224,8 @@ module _ {P : System → List Piece → Type 0} {Q : After → System → List P
   thbase_goes t alarms thbase.ReleaseWaitThread asks = release_goes e t (a s 0)
   thbase_goes t alarms thbase.GetThreadId asks = only e _
   thbase_goes t alarms thbase.ReferThreadStatus asks =
-      refers_go e (a s 0) (place s (a s 1) STATUS_WORDS) (words_inside s.memory (a s 1) STATUS_WORDS)
+      refers_go e (a s 0) (place s (a s 1) STATUS_WORDS)
+      (words_inside s.memory (a s 1) STATUS_WORDS)
   thbase_goes t alarms thbase.SleepThread asks = sleep_goes e t (asks refl)
   thbase_goes t alarms thbase.WakeupThread asks = wakeup_goes e t (a s 0)
   thbase_goes t alarms thbase.CancelWakeupThread asks =

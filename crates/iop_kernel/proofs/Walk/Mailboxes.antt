@@ -18,8 +18,7 @@ use Rattle.iop_kernel.specs.Mailboxes.{message_priority, creates_mbx_at, leaves_
 use Rattle.iop_kernel.specs.System.{Core, Left, System, Done, may_switch, caller, with_mailboxes, answers_result, words_place}
 use Rattle.iop_kernel.specs.declared.after.After.{After}
 use Rattle.iop_kernel.proofs.Bodies.KindTables.{by_priority_known}
-use Rattle.iop_kernel.proofs.Keeping.Boards.{WordsFit}
-use Rattle.iop_kernel.proofs.Keeping.Memory.{words_inside}
+use Rattle.iop_kernel.proofs.Keeping.Memory.{WordsFit, words_inside}
 use Rattle.iop_kernel.proofs.Walk.Changes.MailboxChanges.{puts, gets}
 use Rattle.iop_kernel.proofs.Walk.Moves.{EachMoves, ObjectMoves, CoreEnds, BoardEnds}
 use Rattle.iop_kernel.proofs.Walk.Objects.{waits_goes}

@@ -1,7 +1,7 @@
--- What holds after each service, if it lasts over each small change that one can make: a law gives its
--- two properties and an instance of `Moves`, and `Walking` does the rest. A premise is what is known
--- where a service makes the change. All changes are told of the state in which the service was
--- called: a service makes one of them, then stores, and then answers.
+-- What holds after each service, if it lasts over each small change that one can make: a law gives
+-- its two properties and an instance of `Moves`, and `Services` does the rest. A premise is what is
+-- known where a service makes the change. All changes are told of the state in which the service
+-- was called: a service makes one of them, then stores, and then answers.
 use Rattle.std.proofs.Common.{◌≡◌, ℕ, ◌+◌, ◌≤◌, ◌==◌, Bool, true, false, not, ◌&&◌, Option, Some, None, Ok, List, [], ◌∷◌, ◌++◌, length}
 use Rattle.iop_base.specs.Piece.{Piece, Told, Traced}
 use Rattle.iop_base.specs.Text.{line_bytes}
@@ -116,7 +116,8 @@ module _ (P : System → List Piece → Type 0) (Q : After → System → List P
   -- alarms
   pub record AlarmMoves : Type 0 where
     pub sets : (moment handler arg : ℕ)
-        → Lasts (with_timers now (sets_alarm now.kernel.timers moment handler arg (reg now.cpu 28)).1)
+        → Lasts (with_timers now
+        (sets_alarm now.kernel.timers moment handler arg (reg now.cpu 28)).1)
     pub cancels : (handler arg : ℕ)
         → Lasts (with_timers now (cancels now.kernel.timers handler arg).1)
 

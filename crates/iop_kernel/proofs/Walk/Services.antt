@@ -1,15 +1,15 @@
 -- What holds after each service, and after each `syscall`, if it lasts over each small change.
 use Rattle.std.proofs.Common.{◌≡◌, ℕ, true, is_some, Option, Some, None, List, refl, sym, subst}
-use Rattle.std.proofs.lemmas.Bool.{cond_both}
 use Rattle.std.specs.Prelude.{⊤}
+use Rattle.std.proofs.lemmas.Bool.{cond_both}
 use Rattle.iop_base.specs.Piece.{Piece}
 use Rattle.iop_base.specs.declared.guest_fault.GuestFault.TheVariants as faults_of
-use Rattle.iop_services.proofs.Rows.{home, row_home}
 use Rattle.iop_services.specs.Table.{row_of, allows}
 use Rattle.iop_services.specs.declared.codes.TheConstants.{THBASE}
 use Rattle.iop_services.specs.declared.row.Row.{Row}
 use Rattle.iop_services.specs.declared.service.Service.{Service}
 use Rattle.iop_services.specs.declared.service.Service.TheVariants.{Loadcore, Sysmem, Intrman, Thbase, Thsemap, Thevent, Thmsgbx, Stdio}
+use Rattle.iop_services.proofs.Rows.{home, row_home}
 use Rattle.iop_thread.specs.declared.kind.Kind.TheVariants as kinds
 use Rattle.iop_kernel.specs.Handlers.{returns_handler}
 use Rattle.iop_kernel.specs.Serving.{call_of, serves, calls_row, calls_library, calls, services}

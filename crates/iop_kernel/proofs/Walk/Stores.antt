@@ -2,31 +2,31 @@
 use Rattle.std.proofs.Common.{◌≡◌, ℕ, ◌+◌, ◌/◌, ◌%◌, ◌≤◌, Bool, true, false, if◌then◌else◌, Option, Some, None, List, [], ◌∷◌, ◌++◌, length, ◌∙◌, refl, sym, subst, ap, append_assoc, arith}
 use Rattle.std.proofs.lemmas.Bool.{cond_both}
 use Rattle.std.proofs.lemmas.List.{append-nil}
-use Rattle.iop_base.proofs.Memory.{length-with_bytes}
 use Rattle.iop_base.specs.Numbers.{wrapped}
 use Rattle.iop_base.specs.Piece.{Piece}
 use Rattle.iop_base.specs.declared.code.Code.{Code}
 use Rattle.iop_base.specs.declared.code.TheConstants.Code.{OK}
 use Rattle.iop_base.specs.declared.guest_fault.GuestFault.TheVariants as faults_of
+use Rattle.iop_base.proofs.Memory.{length-with_bytes}
 use Rattle.iop_event.specs.declared.met.Met.{Met}
+use Rattle.iop_objects.specs.Objects.{Object, Objects, object_of}
 use Rattle.iop_stubs.specs.Stubs.{Memory, after_store, store_lines}
 use Rattle.iop_thread.specs.declared.kind.Kind.{Kind}
+use Rattle.iop_time.specs.ClockTime.{micros_of}
 use Rattle.iop_kernel.specs.Boards.{Board, board_of, bytes_of_words, writes_with, writes}
 use Rattle.iop_kernel.specs.EventFlags.{met_place, meets_one, meets_all, meeting_lines, meeting_all}
 use Rattle.iop_kernel.specs.Kinds.{Live, table}
 use Rattle.iop_kernel.specs.ObjectServices.{refers_to, refers_at}
 use Rattle.iop_kernel.specs.System.{Core, Left, System, Done}
 use Rattle.iop_kernel.specs.SystemClock.{time_words, ticks_in, writes_time, writes_seconds, converts_at}
-use Rattle.iop_kernel.specs.declared.system_clock.TheConstants.{MICROS_OF_SECOND}
-use Rattle.iop_time.specs.ClockTime.{micros_of}
 use Rattle.iop_kernel.specs.declared.after.After.{After}
-use Rattle.iop_kernel.proofs.Keeping.Boards.{WordsFit}
+use Rattle.iop_kernel.specs.declared.system_clock.TheConstants.{MICROS_OF_SECOND}
 use Rattle.iop_kernel.proofs.Keeping.Meetings.{met_inside}
+use Rattle.iop_kernel.proofs.Keeping.Memory.{WordsFit}
+use Rattle.iop_kernel.proofs.Placing.Objects.{object_of_id}
 use Rattle.iop_kernel.proofs.Readings.WordBytes.{length-bytes_of_words}
 use Rattle.iop_kernel.proofs.Walk.Moves.{EachMoves, CoreEnds, BoardEnds}
 use Rattle.iop_kernel.proofs.Walk.Threads.{only}
-use Rattle.iop_objects.specs.Objects.{Object, Objects, object_of}
-use Rattle.iop_kernel.proofs.Placing.Objects.{object_of_id}
 
 -- an object that an id finds has that id
 pub own_id : {A W : Type 0} (objects : Objects A W) (id : ℕ) (o : Object A W)
@@ -87,7 +87,8 @@ module _ {P : System → List Piece → Type 0} {Q : After → System → List P
       (given ++ store_lines n t.memory (met_place d one) (length bytes))) clock
       (stored t given (met_place d one) bytes (λ p e.
       let fits : p + 4 ≤ length d.memory.ram = met_inside d one p e in
-      let whole : length t.memory.ram ≡ length d.memory.ram = ap (λ (x : Memory). length x.ram) same in
+      let whole : length t.memory.ram ≡ length d.memory.ram =
+      ap (λ (x : Memory). length x.ram) same in
       omega (arith, fits, whole, length-bytes_of_words (one.pattern ∷ []))) h)) in
       subst (P (record t { memory = (meets_all next met).memory }))
       (append_assoc given (meeting_lines d one) (meeting_all next met))
@@ -123,14 +124,15 @@ module _ {P : System → List Piece → Type 0} {Q : After → System → List P
   writes_seconds_goes : (seconds rest micros : ℕ) → WordsFit s.memory (Some seconds) 1
       → WordsFit s.memory (Some rest) 1 → BoardGoes (writes_seconds b seconds rest micros)
   writes_seconds_goes seconds rest micros first_fits last_fits =
-      let whole = bytes_of_words (wrapped (micros / MICROS_OF_SECOND) ∷ []) in
+      let words = wrapped (micros / MICROS_OF_SECOND) ∷ [] in
+      let whole = bytes_of_words words in
       let fits : seconds + length whole ≤ length s.memory.ram =
-      omega (arith, first_fits seconds refl, length-bytes_of_words (wrapped (micros / MICROS_OF_SECOND) ∷ [])) in
+      omega (arith, first_fits seconds refl, length-bytes_of_words words) in
       let between = after_store s.memory (Some seconds) whole in
       let first : P (record s { memory = between })
       (store_lines c.kernel.clock s.memory (Some seconds) (length whole)) =
-      stored s [] (Some seconds) whole (λ p e. let same : seconds ≡ p = cc e in omega (arith, fits, same))
-      e.begins in
+      stored s [] (Some seconds) whole
+      (λ p e. let same : seconds ≡ p = cc e in omega (arith, fits, same)) e.begins in
       e.goes_on _ _ _ (stored (record s { memory = between }) _ (Some rest)
       (bytes_of_words ((micros % MICROS_OF_SECOND) ∷ [])) (λ p e.
       omega (

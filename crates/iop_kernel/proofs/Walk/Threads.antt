@@ -9,8 +9,8 @@ use Rattle.iop_base.specs.declared.guest_fault.GuestFault.TheVariants as faults_
 use Rattle.iop_thread.specs.Operations as threads
 use Rattle.iop_thread.specs.States.{wait_in}
 use Rattle.iop_thread.specs.ThreadTable.{ThreadTable, thread_of, priority_of, is_it, has_priority, running_thread}
-use Rattle.iop_thread.specs.declared.thread.Thread.{Thread}
 use Rattle.iop_thread.specs.declared.thread.TheConstants.{LOADER}
+use Rattle.iop_thread.specs.declared.thread.Thread.{Thread}
 use Rattle.iop_thread.specs.declared.wait.Wait.{Wait}
 use Rattle.iop_time.specs.ClockTime.{ticks_of, moment_after}
 use Rattle.iop_kernel.specs.NamedThreads.{named, is_nobody_else}

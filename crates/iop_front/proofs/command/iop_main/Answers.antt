@@ -1,10 +1,10 @@
 use Rattle.std.proofs.Common.{map, subst, sym}
 use Rattle.std.specs.Prelude.{string_bytes}
+use Rattle.iop_options.specs.Commands.{command_of}
 use Rattle.iop_front.specs.Answers.{outside}
 use Rattle.iop_front.specs.Promises.{Promises}
 use Rattle.iop_front.proofs.Promising.{promises}
 use Rattle.iop_front.proofs.command.iop_main.Goals as goal
-use Rattle.iop_options.specs.Commands.{command_of}
 
 pub returns-clause-promises : goal.returns-clause-promises
 returns-clause-promises g c =

@@ -1,9 +1,9 @@
 use Rattle.std.proofs.Common.{false, Some, [], ap, sym, ◌∙◌, subst, refl, arith}
 use Rattle.iop_base.specs.Output.{Adds, HasNoFault}
 use Rattle.iop_base.proofs.Giving.{adds_none}
-use Rattle.iop_trace.specs.Outs.{output_with}
 use Rattle.iop_options.specs.Values.{DumpRange}
-use Rattle.iop_front.proofs.RangeLemmas.{window_short, range_low, nothing_dumped}
+use Rattle.iop_trace.specs.Outs.{output_with}
+use Rattle.iop_front.proofs.DumpLemmas.{window_short, range_low, nothing_dumped}
 use Rattle.iop_front.proofs.dumping.write_dump.Goals as goal
 
 pub send_dump-requires : goal.send_dump-requires

@@ -32,8 +32,8 @@ returns-in_err-modules-clause-read g c =
     let p = err_from_is_err_and made.result made.ensures.1 in
     let mid = seen_by c.read_script_of.new.files in
     let new = seen_by c.read_modules.new.files in
-    rw (p.1, p.2) (stops_behind_script command c.in_ok-script.script (seen_by c.args.files.now) mid new
-    c.in_ok-script.ensures.read c.in_err-modules.field-0.0
+    rw (p.1, p.2) (stops_behind_script command c.in_ok-script.script (seen_by c.args.files.now) mid
+    new c.in_ok-script.ensures.read c.in_err-modules.field-0.0
     (subst (λ names. HasStopped AsModule names c.in_err-modules.field-0.0 mid new)
     c.of.ensures c.in_err-modules.ensures.read))
 

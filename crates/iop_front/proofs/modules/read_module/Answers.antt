@@ -18,6 +18,6 @@ returns-in_err-module_of-clause-read g c =
 pub returns-clause-read : goal.returns-clause-read
 returns-clause-read g c =
     let seen_by = seen g.F.Files.told g.F.Files.faults in
-    subst (λ one. HasTaken AsModule (c.args.word.text.now ∷ []) (one ∷ []) (seen_by c.args.files.now)
-    (seen_by c.read_whole.new.files))
+    subst (λ one. HasTaken AsModule (c.args.word.text.now ∷ []) (one ∷ [])
+    (seen_by c.args.files.now) (seen_by c.read_whole.new.files))
     (sym c.in_ok-module_of.ensures) (c.in_ok-len.ensures.read AsModule)

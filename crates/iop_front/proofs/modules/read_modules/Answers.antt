@@ -1,5 +1,4 @@
-use Rattle.std.proofs.Common.{◌≡◌, ℕ, suc, cond, Result, is_ok, List, [], ◌∷◌, ◌++◌, All, take, drop, length, map}
-use Rattle.std.proofs.Common.{string_bytes, refl, ap, sym, ◌∙◌, subst, arith}
+use Rattle.std.proofs.Common.{◌≡◌, suc, cond, Result, is_ok, List, [], ◌∷◌, ◌++◌, All, take, drop, length, map, string_bytes, refl, ap, sym, ◌∙◌, subst, arith}
 use Rattle.std.specs.declared.alloc.AllocFailed.{AllocFailed}
 use Rattle.std.proofs.lemmas.Grind.{common_steps}
 use Rattle.std.proofs.lemmas.List.{length-append}
@@ -40,8 +39,9 @@ returns-in_err-module-clause-read g c =
     let was = c.loop-text.invariant in
     let made = c.from_residual-in_err-module in
     let p = err_from_is_err_and made.result made.ensures.1 in
-    rw (p.1, p.2) (stops_behind AsModule (map string_bytes texts) (map string_bytes (take index texts))
-    (c.as_str.result.now ∷ []) (map string_bytes (drop (suc index) texts))
+    rw (p.1, p.2) (stops_behind AsModule (map string_bytes texts)
+    (map string_bytes (take index texts)) (c.as_str.result.now ∷ [])
+    (map string_bytes (drop (suc index) texts))
     c.loop-text.modules.items (seen_by c.args.files.now) (seen_by c.loop-text.files)
     (seen_by c.read_module.new.files)
     (split_text string_bytes texts index c.text-item.result c.as_str.result.now
@@ -74,10 +74,6 @@ loop-text-preserved g c =
       buffer = grind (arith, common_steps, was.buffer, c.read_module.auto.buffer);
       room = omega (arith, was.room, c.push.ensures.lower_bound);
       count = ap length pushed ∙ length-append items (one ∷ []) ∙ omega (arith, was.count);
-      short = subst (λ (fs : List NamedFile). All IsShort fs) (sym pushed)
-          (All-push IsShort items one was.short c.in_ok-module.ensures.short);
-      taken = subst (λ (ns : List (List ℕ)). HasTaken AsModule ns c.push.new.self.items old new)
-          (sym names)
-          (subst (λ (fs : List NamedFile). HasTaken AsModule (before ++ name ∷ []) fs old new)
-          (sym pushed) both);
+      short = rw pushed (All-push IsShort items one was.short c.in_ok-module.ensures.short);
+      taken = rw (names, pushed) both;
     }

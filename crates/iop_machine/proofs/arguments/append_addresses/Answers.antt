@@ -3,7 +3,7 @@ use Rattle.std.proofs.lemmas.List.{length-append, drop_all}
 use Rattle.iop_base.specs.Numbers.{bytes_of}
 use Rattle.iop_machine.specs.Modules.{addresses}
 use Rattle.iop_machine.specs.declared.arguments.TheConstants.{ARGUMENTS_LEN}
-use Rattle.iop_machine.proofs.ArgumentLemmas.{length-addresses, address_fits, addresses_go_on, strings_end, le_bytes}
+use Rattle.iop_machine.proofs.ArgumentReading.{length-addresses, address_fits, addresses_go_on, strings_end, le_bytes}
 use Rattle.iop_machine.proofs.arguments.append_addresses.Goals as goal
 
 pub append-requires : goal.append-requires
@@ -11,7 +11,12 @@ append-requires c =
     let words = c.args.words.now in
     let whole = c.args.block.now.items ++ addresses c.args.at words in
     let fits : length whole ≤ ARGUMENTS_LEN =
-    omega (arith, length-append c.args.block.now.items (addresses c.args.at words), length-addresses c.args.at words, c.requires.room) in
+    omega (
+      arith,
+      length-append c.args.block.now.items (addresses c.args.at words),
+      length-addresses c.args.at words,
+      c.requires.room,
+    ) in
     let left = address_fits words c.loop-word.word-index c.word-item.result c.loop-word-test.true
     c.word-item.is c.loop-word.at c.loop-word.block.items whole ARGUMENTS_LEN
     c.loop-word.invariant.rest fits in
@@ -30,7 +35,8 @@ loop-word-preserved c =
     let next : c.loop-word.at + (c.len.result + 1) ≡ c.loop-word.at + length word + 1 =
     omega (arith, long) in
     record {
-      rest = ap (λ t. t ++ addresses (c.loop-word.at + (c.len.result + 1)) rest) c.append.ensures.bytes
+      rest = ap (λ t. t ++ addresses (c.loop-word.at + (c.len.result + 1)) rest)
+          c.append.ensures.bytes
           ∙ ap (λ t. block ++ t ++ addresses (c.loop-word.at + (c.len.result + 1)) rest) bytes
           ∙ ap (λ n. block ++ bytes_of 4 c.loop-word.at ++ addresses n rest) next
           ∙ addresses_go_on words c.loop-word.word-index word c.loop-word-test.true

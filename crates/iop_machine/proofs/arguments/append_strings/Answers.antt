@@ -2,7 +2,7 @@ use Rattle.std.proofs.Common.{◌+◌, ◌≤◌, [], ◌∷◌, ◌++◌, drop,
 use Rattle.std.proofs.lemmas.List.{length-append}
 use Rattle.iop_machine.specs.Modules.{strings}
 use Rattle.iop_machine.specs.declared.arguments.TheConstants.{ARGUMENTS_LEN}
-use Rattle.iop_machine.proofs.ArgumentLemmas.{strings_fit, strings_go_on}
+use Rattle.iop_machine.proofs.ArgumentReading.{strings_fit, strings_go_on}
 use Rattle.iop_machine.proofs.arguments.append_strings.Goals as goal
 
 pub append_string-requires : goal.append_string-requires

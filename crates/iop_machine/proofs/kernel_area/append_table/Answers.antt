@@ -1,6 +1,6 @@
 use Rattle.std.proofs.Common.{◌≡◌, arith}
 use Rattle.iop_services.specs.declared.codes.TheConstants.{SERVICES}
-use Rattle.iop_machine.proofs.AreaLemmas.{table_is}
+use Rattle.iop_machine.proofs.Area.{table_is}
 use Rattle.iop_machine.proofs.kernel_area.append_table.Goals as goal
 
 pub returns-clause-bytes : goal.returns-clause-bytes

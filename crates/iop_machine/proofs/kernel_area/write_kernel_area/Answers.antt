@@ -3,7 +3,7 @@ use Rattle.iop_base.proofs.Giving.{gives_then}
 use Rattle.iop_base.proofs.Memory.{length-with_bytes}
 use Rattle.iop_stubs.specs.Stubs.{Memory}
 use Rattle.iop_machine.specs.KernelArea.{kernel_area}
-use Rattle.iop_machine.proofs.AreaLemmas.{length-kernel_area, area_stored}
+use Rattle.iop_machine.proofs.Area.{length-kernel_area, area_stored}
 use Rattle.iop_machine.proofs.kernel_area.write_kernel_area.Goals as goal
 
 pub returns-clause-memory : goal.returns-clause-memory

@@ -1,4 +1,4 @@
-use Rattle.iop_machine.proofs.ComingFirst.{next_coming_is_least}
+use Rattle.iop_machine.proofs.Coming.{next_coming_is_least}
 use Rattle.iop_machine.proofs.laws.next_coming_is_least.Goals as goal
 
 pub returns : goal.returns

@@ -1,4 +1,4 @@
-use Rattle.iop_machine.proofs.StubSteps.{stubs_are_followed}
+use Rattle.iop_machine.proofs.Stubs.{stubs_are_followed}
 use Rattle.iop_machine.proofs.laws.stubs_are_followed.Goals as goal
 
 pub returns : goal.returns

@@ -1,5 +1,5 @@
 use Rattle.std.proofs.Common.{string_bytes, sym, subst}
-use Rattle.iop_front.proofs.WordLemmas.{AreShortWords, words_short}
+use Rattle.iop_front.proofs.RoomLemmas.{AreShortWords, words_short}
 use Rattle.iop_front.proofs.words.ModuleWords.of.Goals as goal
 
 pub invariant_of-result : goal.invariant_of-result

@@ -3,8 +3,7 @@ use Rattle.iop_objects.specs.Objects.{waiters_of}
 use Rattle.iop_kernel.specs.Kinds.{Table, table, is_by_priority}
 use Rattle.iop_kernel.specs.ObjectServices.{removes}
 use Rattle.iop_kernel.specs.Standing.{core, held}
-use Rattle.iop_kernel.proofs.Deletions.Objects.{threads_waiting, waking_begins, holds_others, objects_stay, waking_goes_on, deletion_is}
-use Rattle.iop_kernel.proofs.Deletions.Waiters.{taken_out, none_taken_out, all_are_woken}
+use Rattle.iop_kernel.proofs.Deletions.Objects.{chosen_of, waking_begins, holds_others, objects_stay, waking_goes_on, deletion_is, taken_out, none_taken_out, all_are_woken}
 use Rattle.iop_kernel.proofs.kernel.Kernel.delete_object.Goals as goal
 
 pub loop-thread-init : goal.loop-thread-init
@@ -65,7 +64,7 @@ returns g c = λ k h.
     let none = none_taken_out (is_by_priority kind before id) before (held kind out) id
     c.in_default.ensures.answer c.in_default.ensures.left in
     let woken = all_are_woken (is_by_priority kind before id) waking.threads k.threads
-    (threads_waiting kind (table kind k) id) before id none.1 waking.order in
+    (chosen_of kind (table kind k) id) before id none.1 waking.order in
     let same = ap (λ (s : Table kind). removes kind s id) none.0 ∙ waking.deletes in
     let told = c.remove-code.ensures in
     let holds = holds_others g.R.Ready.stands kind id k waking.threads c.loop-thread.self out

@@ -7,13 +7,7 @@ use Rattle.iop_kernel.proofs.kernel.Kernel.deliver_due.Goals as goal
 
 pub wake-requires : goal.wake-requires
 wake-requires g c =
-    let k = c.requires.sound.0 in
-    record {
-      sound = (
-        record k { timers = c.take_due.new.self },
-        holds_timers g.R.Ready.stands c.requires.sound.1.holds refl,
-      );
-    }
+    record { sound = (_, holds_timers g.R.Ready.stands c.requires.sound.1.holds refl) }
 
 pub returns-in-Some-Delay : goal.returns-in-Some-Delay
 returns-in-Some-Delay g c = λ k h.

@@ -2,7 +2,7 @@ use Rattle.std.proofs.Common.{◌≡◌, true, not, ap, sym, ◌∙◌}
 use Rattle.std.specs.Prelude.{is_some}
 use Rattle.iop_kernel.specs.Standing.{core}
 use Rattle.iop_kernel.specs.System.{may_dispatch}
-use Rattle.iop_kernel.proofs.Order.Dispatches.{both_on, dispatched_some}
+use Rattle.iop_kernel.proofs.Order.Strict.{both_on, dispatched_some}
 use Rattle.iop_kernel.proofs.kernel.Kernel.dispatch.Goals as goal
 use Rattle.iop_kernel.proofs.kernel.Kernel.dispatch.Goals.{then-self, else-self, then-self-2, else-self-2}
 

@@ -1,41 +1,31 @@
-use Rattle.std.proofs.Common.{ap, ◌∙◌}
+use Rattle.std.proofs.Common.{◌≡◌, ap, sym, ◌∙◌}
 use Rattle.std.specs.Prelude.{unwrap_or}
-use Rattle.iop_objects.specs.Objects.{state_of}
-use Rattle.iop_thread.specs.declared.kind.Kind.TheVariants.{Mailbox}
-use Rattle.iop_kernel.specs.Mailboxes.{mailbox_words}
-use Rattle.iop_kernel.specs.Standing.{board}
-use Rattle.iop_kernel.specs.declared.mailboxes.TheConstants.{MAILBOX_STATUS_WORDS}
-use Rattle.iop_kernel.proofs.Bodies.Mailboxes.{refers_live, no_mailbox}
-use Rattle.iop_kernel.proofs.Bodies.Standing.{takes_quiet}
-use Rattle.iop_kernel.proofs.Bodies.Statuses.{told_none}
+use Rattle.iop_mbx.specs.Mailboxes.{without_messages}
+use Rattle.iop_mbx.specs.declared.mailbox.Mailbox.{Mailbox}
+use Rattle.iop_objects.specs.Objects.{object_of, state_of}
+use Rattle.iop_kernel.specs.Mailboxes.{LiveMailbox, next_word}
+use Rattle.iop_kernel.proofs.Bodies.Reads.{one_read}
+use Rattle.iop_kernel.proofs.Bodies.Standing.{over}
 use Rattle.iop_kernel.proofs.kernel.Kernel.refer_mbx_status.Goals as goal
 
-pub returns-in_default-get : goal.returns-in_default-get
-returns-in_default-get g c = λ k h.
-    let id = c.args.id in
-    let b = board k c.args.cpu.now c.args.guest.now in
-    rw (told_none Mailbox mailbox_words b MAILBOX_STATUS_WORDS id c.args.at c.in-Some.place
-    c.in-Some.ensures.place (ap (λ s. state_of s id) h.mailboxes
-    ∙ no_mailbox c.args.self.now.mailboxes id c.in_default-get.ensures))
-    (takes_quiet c.args.guest.now (g.L.Lines.output c.args.lines.now) (record {
-      answer = c.answer.ensures.after;
-      kernel = h;
-      processor = c.answer.ensures.processor;
-    }))
-
 pub returns : goal.returns
-returns g c = λ k h.
-    let b = board k c.args.cpu.now c.args.guest.now in
-    let next = c.unwrap_or.ensures ∙ ap (λ o. unwrap_or o 0) c.next_message.ensures in
-    rw (refers_live b c.args.self.now.mailboxes c.args.id c.args.at c.in-Some.place
-    c.in-Some-get.mailbox c.waiters.result c.messages.result c.unwrap_or.result h.mailboxes
-    c.in-Some.ensures.place c.in-Some-get.ensures c.waiters.ensures.count
-    c.messages.ensures.count next) (record {
-      core = record {
-        answer = c.answer-2.ensures.after;
-        kernel = h;
-        processor = c.answer-2.ensures.processor;
-      };
-      ram = c.store_words.ensures.memory;
-      gives = rw h.clock c.store_words.ensures.lines;
-    })
+returns g c = over g.R.Ready.stands _ (λ t h.
+    let was = c.args.self.now.mailboxes in
+    let state = one_read without_messages (state_of was c.args.id) c.in-Some-get.ensures in
+    let object = object_of was.live c.args.id in
+    let found = one_read (λ (o : LiveMailbox). o.state) object (sym state.1) in
+    let read = state.2 ∙ ap without_messages found.2 in
+    let waiters = rw found.1 at c.waiters.ensures.count in
+    let messages = rw found.1 at c.messages.ensures.count in
+    let next : c.unwrap_or.result ≡ next_word found.0.state = c.unwrap_or.ensures
+    ∙ ap (λ o. unwrap_or o 0) (rw found.1 at c.next_message.ensures) in
+    rw (
+      ← c.in-Some.ensures.place,
+      found.1,
+      ← next,
+      ← messages,
+      ← waiters,
+      ← ap (λ (m : Mailbox). m.attr) read,
+      ← ap (λ (m : Mailbox). m.option) read,
+    )
+    (c.answer_words_at.ensures _ h))

@@ -1,19 +1,14 @@
 use Rattle.std.proofs.Common.{◌+◌, Some, List, ◌∙◌, ap, sym, subst, refl, arith}
-use Rattle.std.specs.Prelude.{option_copied}
-use Rattle.std.specs.List.{slice_get}
-use Rattle.iop_base.proofs.Lists.{option_copied-item}
-use Rattle.iop_script.specs.declared.raise.Raise.{Raise}
 use Rattle.std.proofs.lemmas.Option.{slice_get_within}
+use Rattle.iop_script.specs.declared.raise.Raise.{Raise}
 use Rattle.iop_machine.specs.Events.{due_lines, events_of, TakesDue}
+use Rattle.iop_machine.proofs.Elements.{looked_up}
 use Rattle.iop_machine.proofs.EventLemmas.{behind_comes, not_taken, one_taken}
 use Rattle.iop_machine.proofs.events.Events.take_due.Goals as goal
 
 pub returns-then-event-moment : goal.returns-then-event-moment
 returns-then-event-moment c =
-    let at = ap (λ xs. slice_get xs c.self.inside.taken) (sym c.deref.ensures.value)
-    ∙ sym (option_copied-item c.deref.result.now c.self.inside.taken c.get.result
-    c.get.ensures.lookup)
-    ∙ ap option_copied c.in_ok-event.was in (
+    let at = looked_up c.deref.ensures.value c.get.ensures.lookup c.in_ok-event.was in (
       refl,
       ap (due_lines c.args.moment) (sym c.self.view_is)
           ∙ not_taken c.self.inside c.in_ok-event.field-0.now at c.self.invariant.0 c.args.moment
@@ -22,10 +17,7 @@ returns-then-event-moment c =
 
 pub invariant_of-self : goal.invariant_of-self
 invariant_of-self c =
-    let at = ap (λ xs. slice_get xs c.self.inside.taken) (sym c.deref.ensures.value)
-    ∙ sym (option_copied-item c.deref.result.now c.self.inside.taken c.get.result
-    c.get.ensures.lookup)
-    ∙ ap option_copied c.in_ok-event.was in
+    let at = looked_up c.deref.ensures.value c.get.ensures.lookup c.in_ok-event.was in
     let within = slice_get_within c.self.inside.events.items c.self.inside.taken
     c.in_ok-event.field-0.now at in (
       behind_comes c.self.inside c.in_ok-event.field-0.now at c.self.invariant.0,
@@ -34,10 +26,7 @@ invariant_of-self c =
 
 pub returns : goal.returns
 returns c =
-    let at = ap (λ xs. slice_get xs c.self.inside.taken) (sym c.deref.ensures.value)
-    ∙ sym (option_copied-item c.deref.result.now c.self.inside.taken c.get.result
-    c.get.ensures.lookup)
-    ∙ ap option_copied c.in_ok-event.was in
+    let at = looked_up c.deref.ensures.value c.get.ensures.lookup c.in_ok-event.was in
     let event = c.in_ok-event.field-0.now in
     subst (λ (old : List Raise). TakesDue (Some event.line) c.args.moment old
     (events_of (record c.self.inside { taken = c.self.inside.taken + 1 }))) c.self.view_is

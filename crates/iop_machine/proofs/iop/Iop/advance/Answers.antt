@@ -48,7 +48,8 @@ take_events-requires g c =
     let settled = (c.if-settle_first.ensures.settles r.0 c.args.budget r.1).1 in
     record { sound = (_, stands_now settled) }
 
-pub instructions_ahead-most-requires-clause-sound : goal.instructions_ahead-most-requires-clause-sound
+pub instructions_ahead-most-requires-clause-sound
+    : goal.instructions_ahead-most-requires-clause-sound
 instructions_ahead-most-requires-clause-sound g c =
     let r = c.requires.machine in
     let settled = (c.if-settle_first.ensures.settles r.0 c.args.budget r.1).1 in

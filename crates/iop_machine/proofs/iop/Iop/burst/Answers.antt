@@ -47,7 +47,8 @@ returns-then-left-eq0-clause-advances g c = λ s h r.
     let turn = turn_of (i.bursts s h r) i.some c.perform.ensures in (
       _,
       plain_advances turn c.in-Plain.is (λ t k. c.take_over.ensures _
-          (stands_after c.instructions.self.cpu c.perform.new.guest c.instructions.self.kernel.clock k)),
+          (stands_after c.instructions.self.cpu c.perform.new.guest
+          c.instructions.self.kernel.clock k)),
     )
 
 pub take_over-requires-in_default-clause-sound : goal.take_over-requires-in_default-clause-sound
@@ -92,7 +93,9 @@ returns-in_default-clause-advances g c = λ s h r.
     let i = c.instructions.invariant in
     let turn = turn_of (i.bursts s h r) i.some c.perform.ensures in (
       _,
-      conclude_advances turn {now = c.take_over-in_default.new.self} (λ t k. c.take_over-in_default.ensures _
-          (stands_after c.instructions.self.cpu c.perform.new.guest c.instructions.self.kernel.clock k))
+      conclude_advances turn {now = c.take_over-in_default.new.self}
+          (λ t k. c.take_over-in_default.ensures _
+          (stands_after c.instructions.self.cpu c.perform.new.guest
+          c.instructions.self.kernel.clock k))
           c.instructions.position c.in_default.not-Plain refl c.conclude.ensures,
     )

@@ -18,7 +18,8 @@ invariant-instructions g l = record {
   number : HasNumber l.self.kernel;
   same_size : l.self.blocks.size ≡ length l.self.guest.ram;
   bursts : (s : State) → Stands l.fn.self s → RunsFor s l.fn.budget
-      → Bursts (booted s) l.fn.budget l.left (held l.self (cpu_of l.registers l.position) l.self.guest l.clock)
+      → Bursts (booted s) l.fn.budget l.left
+      (held l.self (cpu_of l.registers l.position) l.self.guest l.clock)
       (output_of g.C.Sink.told g.T.Sink.told l.initial.out)
       (output_of g.C.Sink.told g.T.Sink.told l.out);
 }

@@ -4,7 +4,7 @@ use Rattle.iop_machine.specs.Iop.{later}
 use Rattle.iop_machine.specs.Services.{returns_by}
 use Rattle.iop_machine.specs.Standing.{Stands}
 use Rattle.iop_machine.proofs.ServiceLemmas.{served, serves_takes, calls_takes, faults_takes, clock_left, size_left, clock_returned}
-use Rattle.iop_machine.proofs.Taking.{takes_then, takes_with}
+use Rattle.iop_machine.proofs.StandingLemmas.{takes_then, takes_with}
 use Rattle.iop_machine.proofs.iop.Iop.call.Goals as goal
 
 pub service-after-requires : goal.service-after-requires
@@ -16,9 +16,7 @@ service-after-requires g c = record {
 
 pub tick-requires : goal.tick-requires
 tick-requires g c =
-    let h = served c.args.self.now c.service-after.new.self c.service-after.new.cpu
-    c.service-after.new.guest c.service-after.new.blocks c.service-after.new.registry c.args.code
-    c.service-after.result c.service-after.ensures in
+    let h = served c.args.self.now c.args.code c.service-after.ensures in
     let runs = c.requires.runs in
     let clock = clock_left h c.args.before runs.0 runs.1 runs.2 in
     record {
@@ -28,9 +26,7 @@ tick-requires g c =
 
 pub return_module-requires : goal.return_module-requires
 return_module-requires g c =
-    let h = served c.args.self.now c.service-after.new.self c.service-after.new.cpu
-    c.service-after.new.guest c.service-after.new.blocks c.service-after.new.registry c.args.code
-    c.service-after.result c.service-after.ensures in
+    let h = served c.args.self.now c.args.code c.service-after.ensures in
     let runs = c.requires.runs in
     record {
       sound = (_, (serves_takes h c.args.before runs.0 runs.1).state);
@@ -39,9 +35,7 @@ return_module-requires g c =
 
 pub tick-requires-in-ModuleReturned : goal.tick-requires-in-ModuleReturned
 tick-requires-in-ModuleReturned g c =
-    let h = served c.args.self.now c.service-after.new.self c.service-after.new.cpu
-    c.service-after.new.guest c.service-after.new.blocks c.service-after.new.registry c.args.code
-    c.service-after.result c.service-after.ensures in
+    let h = served c.args.self.now c.args.code c.service-after.ensures in
     let runs = c.requires.runs in
     let left = (serves_takes h c.args.before runs.0 runs.1).state in
     let returned = c.return_module.ensures _ left in
@@ -54,10 +48,9 @@ tick-requires-in-ModuleReturned g c =
 
 pub returns-in-Resume : goal.returns-in-Resume
 returns-in-Resume g c s stands =
-    let h = served c.args.self.now c.service-after.new.self c.service-after.new.cpu
-    c.service-after.new.guest c.service-after.new.blocks c.service-after.new.registry c.args.code
-    c.service-after.result c.service-after.ensures in
-    let taken = takes_with (serves_takes h c.args.before s stands) Stands later _ (c.tick.ensures _) in
+    let h = served c.args.self.now c.args.code c.service-after.ensures in
+    let taken = takes_with (serves_takes h c.args.before s stands) Stands later _
+    (c.tick.ensures _) in
     elim c.in-Resume.is [
       | inl resumes ↦ calls_takes h c.args.before Resume resumes s stands taken
       | inr switches ↦ calls_takes h c.args.before Switch switches s stands taken
@@ -65,9 +58,7 @@ returns-in-Resume g c s stands =
 
 pub returns-in-ModuleReturned : goal.returns-in-ModuleReturned
 returns-in-ModuleReturned g c s stands =
-    let h = served c.args.self.now c.service-after.new.self c.service-after.new.cpu
-    c.service-after.new.guest c.service-after.new.blocks c.service-after.new.registry c.args.code
-    c.service-after.result c.service-after.ensures in
+    let h = served c.args.self.now c.args.code c.service-after.ensures in
     let value = c.in-ModuleReturned.value in
     let taken = serves_takes h c.args.before s stands in
     calls_takes h c.args.before (ModuleReturned value) c.in-ModuleReturned.is s stands
@@ -76,8 +67,6 @@ returns-in-ModuleReturned g c s stands =
 
 pub returns-in-Fault : goal.returns-in-Fault
 returns-in-Fault g c =
-    let h = served c.args.self.now c.service-after.new.self c.service-after.new.cpu
-    c.service-after.new.guest c.service-after.new.blocks c.service-after.new.registry c.args.code
-    c.service-after.result c.service-after.ensures in
+    let h = served c.args.self.now c.args.code c.service-after.ensures in
     faults_takes h c.args.before c.in-Fault.kind c.in-Fault.is c.restore.new.cpu c.restore.ensures _
     c.fault.ensures

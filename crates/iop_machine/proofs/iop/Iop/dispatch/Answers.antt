@@ -1,4 +1,4 @@
-use Rattle.iop_machine.proofs.Dispatching.{dispatch_sound, dispatches_nothing, dispatches_something}
+use Rattle.iop_machine.proofs.Delivering.{dispatch_sound, dispatches_nothing, dispatches_something}
 use Rattle.iop_machine.proofs.iop.Iop.dispatch.Goals as goal
 
 pub returns-then-not-dispatch : goal.returns-then-not-dispatch
@@ -14,6 +14,6 @@ take_events-requires g c = record {
 
 pub returns : goal.returns
 returns g c = λ s budget h over none.
-    dispatches_something h c.dispatch.new.self c.dispatch.new.cpu budget _ _ over c.requires.well none
-    c.take_events.new.self c.take_events.ensures c.dispatch.result
+    dispatches_something h c.dispatch.new.self c.dispatch.new.cpu budget _ _ over c.requires.well
+    none c.take_events.new.self c.take_events.ensures c.dispatch.result
     (c.dispatch.ensures s.kernel h.kernel) c.if-not-dispatch.false

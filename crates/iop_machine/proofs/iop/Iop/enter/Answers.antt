@@ -3,8 +3,7 @@ use Rattle.iop_machine.specs.Loading.{begins, passes}
 use Rattle.iop_machine.specs.Iop.{with_state}
 use Rattle.iop_machine.specs.Standing.{Stands}
 use Rattle.iop_machine.proofs.LoadingLemmas.{stands_begun}
-use Rattle.iop_machine.proofs.StandingLemmas.{tells_takes}
-use Rattle.iop_machine.proofs.Taking.{takes_then, takes_with}
+use Rattle.iop_machine.proofs.StandingLemmas.{tells_takes, takes_then, takes_with}
 use Rattle.iop_machine.proofs.iop.Iop.enter.Goals as goal
 
 pub returns : goal.returns

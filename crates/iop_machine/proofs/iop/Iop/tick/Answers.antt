@@ -6,12 +6,14 @@ use Rattle.iop_machine.proofs.iop.Iop.tick.Goals as goal
 
 pub overflow_add-now : goal.overflow_add-now
 overflow_add-now c =
-    let now = moment_is c.args.self.now c.now-now.result c.now-now.ensures.moment c.requires.sound in
+    let now = moment_is c.args.self.now c.now-now.result c.now-now.ensures.moment
+    c.requires.sound in
     omega (arith, c.requires.time, now)
 
 pub advance-requires : goal.advance-requires
 advance-requires c =
-    let now = moment_is c.args.self.now c.now-now.result c.now-now.ensures.moment c.requires.sound in
+    let now = moment_is c.args.self.now c.now-now.result c.now-now.ensures.moment
+    c.requires.sound in
     record { later = omega (arith, now) }
 
 pub returns : goal.returns

@@ -1,10 +1,16 @@
-use Rattle.std.proofs.Common.{◌+◌, List, ◌∷◌, drop, get_or, ap, sym, ◌∙◌, subst}
+use Rattle.std.proofs.Common.{◌≡◌, ℕ, ◌+◌, ◌<◌, List, ◌∷◌, length, drop, get_or, ap, sym, ◌∙◌, subst, arith}
+use Rattle.std.proofs.lemmas.Grind.{common_steps}
 use Rattle.std.proofs.lemmas.List.{drop_all}
 use Rattle.iop_script.specs.declared.raise.Raise.{Raise}
 use Rattle.iop_machine.specs.Events.{CanCome, due_lines}
-use Rattle.iop_machine.proofs.EventLemmas.{later_lines, all_later, drop_comes, event_at}
+use Rattle.iop_machine.proofs.EventLemmas.{later_lines, all_later, drop_comes}
 use Rattle.iop_machine.proofs.LookingLemmas.{DeliversRest, delivers_now, delivers_all, delivers_none, delivers_raised_first, delivers_behind}
 use Rattle.iop_machine.proofs.iop.Iop.would_deliver.Goals as goal
+
+-- the event at a place stands before those behind it
+event_at : (events : List Raise) (i : ℕ) (none : Raise) → i < length events
+    → drop i events ≡ get_or events i none ∷ drop (i + 1) events
+event_at events i none within = grind (arith, common_steps)
 
 pub returns-then-would_deliver : goal.returns-then-would_deliver
 returns-then-would_deliver c =

@@ -10,8 +10,11 @@ use Rattle.iop_machine.proofs.machine.Machine.run.Goals as goal
 pub steps-init : goal.steps-init
 steps-init g c = record {
   time = c.requires.time;
-  reached = λ w h machine.
-      (0, reached_none w c.args.budget c.args.self.now _ _ h (gives_none _) c.new-out.ensures.failed);
+  reached = λ w h machine. (
+    0,
+    reached_none w c.args.budget c.args.self.now _ _ h (gives_none _)
+        c.new-out.ensures.failed,
+  );
 }
 
 pub advance-requires-clause-sound : goal.advance-requires-clause-sound

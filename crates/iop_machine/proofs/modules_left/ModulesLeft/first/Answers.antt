@@ -1,20 +1,23 @@
 use Rattle.std.proofs.Common.{◌+◌, ◌∙◌, ap, sym, refl}
-use Rattle.std.specs.Prelude.{option_copied}
 use Rattle.std.specs.List.{slice_get}
-use Rattle.iop_base.proofs.Lists.{option_copied-item}
 use Rattle.iop_script.specs.Scripts.{words_for}
-use Rattle.iop_machine.proofs.ModulesTaken.{next_is, has_room}
 use Rattle.iop_machine.specs.Modules.{NamedFile}
+use Rattle.iop_machine.proofs.Elements.{looked_up}
+use Rattle.iop_machine.proofs.ModulesTaken.{next_is, has_room}
 use Rattle.iop_machine.proofs.modules_left.ModulesLeft.first.Goals as goal
 
 pub returns-clause-module : goal.returns-clause-module
 returns-clause-module c =
-    let args = c.words_for.ensures ∙ ap (λ x. words_for x (c.self.inside.taken + 1)) c.deref-2.ensures.value in
+    let args = c.words_for.ensures
+    ∙ ap (λ x. words_for x (c.self.inside.taken + 1)) c.deref-2.ensures.value in
     next_is c.self.inside c.in_ok-module.module.now
-    (record { number = _; name = c.as_str.result; words = c.words_for.result; file = c.deref-3.result })
-    (ap (λ xs. slice_get xs c.self.inside.taken) (sym c.deref.ensures.value)
-    ∙ sym (option_copied-item c.deref.result.now c.self.inside.taken c.get.result c.get.ensures.lookup)
-    ∙ ap option_copied c.in_ok-module.was)
+    (record {
+      number = _;
+      name = c.as_str.result;
+      words = c.words_for.result;
+      file = c.deref-3.result;
+    })
+    (looked_up c.deref.ensures.value c.get.ensures.lookup c.in_ok-module.was)
     refl (c.as_str.ensures.value ∙ ap (λ (x : NamedFile). x.name) c.module.view_is)
     args (c.deref-3.ensures.value ∙ ap (λ (x : NamedFile). x.file) c.module.view_is)
     ∙ ap (λ x. slice_get x 0) c.self.view_is
