@@ -1,12 +1,10 @@
 -- The addresses that branches, jumps and halves make.
-use Rattle.std.proofs.Common.{◌≡◌, ℕ, ◌+◌, ◌-◌, ◌*◌, ◌/◌, ◌%◌, ◌^◌, ◌<◌, ◌≤◌, ◌⊎◌, ⊎_elim, Bool, true, false, cond, refl, ap, arith}
-use Rattle.std.specs.Prelude.{nat_lt, nat_le}
-use Rattle.std.proofs.lemmas.Bool.{cases_lt, cond_below, cond_above}
+use Rattle.std.proofs.Common.{◌≡◌, ℕ, ◌+◌, ◌%◌, ◌^◌, ◌<◌, ◌≤◌, ⊎_elim, true, arith}
+use Rattle.std.proofs.lemmas.Bool.{cases_lt}
 use Rattle.std.proofs.lemmas.Bool.Decides.{nat_tests}
-use Rattle.iop_base.specs.Numbers.{wrapped, sign_extended}
-use Rattle.iop_isa.specs.Targets.{branch_target, jump_target}
+use Rattle.iop_base.specs.Numbers.{sign_extended}
 use Rattle.iop_asm.specs.Assembly.{is_near, branch_field}
-use Rattle.iop_asm.specs.Laws.{IsSite, BranchesArrive, BranchesReachTheNear, JumpsArrive, HalvesMakeAddresses}
+use Rattle.iop_asm.specs.Laws.{BranchesArrive, BranchesReachTheNear, JumpsArrive, HalvesMakeAddresses}
 
 pub jumps_arrive : JumpsArrive
 jumps_arrive site address is_site is_address same = omega arith

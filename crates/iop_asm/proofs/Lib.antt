@@ -12,3 +12,10 @@ pub mod OperandLemmas
 pub mod AllLemmas
 pub mod FillLemmas
 pub mod AddressLaws
+pub mod OperandFields
+pub mod LabelSlots
+pub mod Placing
+pub mod FormatLaws
+pub mod RowLaws
+pub mod LinedLaws
+pub mod InstructionLaws

@@ -1,9 +1,19 @@
 -- What the laws of the definitions say: an instruction goes to, or makes, the address that was put
--- into it.
-use Rattle.std.specs.Prelude.{◌≡◌, ℕ, ◌+◌, ◌*◌, ◌/◌, ◌%◌, ◌^◌, ◌<◌, true}
+-- into it; and a line makes the instruction that it names.
+use Rattle.std.specs.Prelude.{◌≡◌, ℕ, ◌+◌, ◌*◌, ◌/◌, ◌%◌, ◌^◌, ◌<◌, true, Option, Some, None, unwrap_or, Ok, List, [], ◌∷◌, map}
 use Rattle.iop_base.specs.Numbers.{wrapped, sign_extended, high_half}
+use Rattle.iop_isa.specs.Instructions.{inst_of}
+use Rattle.iop_isa.specs.Table.{Takes, Row}
 use Rattle.iop_isa.specs.Targets.{branch_target, jump_target}
-use Rattle.iop_asm.specs.Assembly.{is_near, jump_field, low_half, branch_field}
+use Rattle.iop_isa.specs.Writing.{Named, named, row_named}
+use Rattle.iop_isa.specs.declared.instruction.Inst.{Inst}
+use Rattle.iop_isa.specs.declared.table.Operand.{Operand}
+use Rattle.iop_asm.specs.Assembly.{is_near, jump_field, low_half, branch_field, field_by, label_address, cell_word}
+use Rattle.iop_asm.specs.Cells.{Cell, Reference}
+use Rattle.iop_asm.specs.Drafts.{Draft}
+use Rattle.iop_asm.specs.Operands.{Value, operands_of, field_of, reference_by}
+use Rattle.iop_asm.specs.Statements.{Mnemonic, Statement, Fills, statement_of}
+use Rattle.iop_asm.specs.Texts.{comma_words}
 
 -- an address of an instruction
 abbrev pub IsSite : ℕ → Type 0
@@ -32,3 +42,48 @@ abbrev pub HalvesMakeAddresses : Type 0
 HalvesMakeAddresses =
     (address : ℕ) → address < 2 ^ 32
     → wrapped (65536 * high_half address + sign_extended 16 (low_half address)) ≡ address
+
+-- an instruction that takes the number of each operand, with these numbers in their order
+abbrev pub given : (operands : List Operand) → Takes operands → List ℕ → Option Inst
+given [] inst [] = Some inst
+given [] inst (n ∷ numbers) = None
+given (operand ∷ operands) inst [] = None
+given (operand ∷ operands) inst (n ∷ numbers) = given operands (inst n) numbers
+
+-- the number of an operand of a line in the word at a site: what the address of the label that
+-- decides it comes to there
+abbrev pub placed_by : Draft → (site number : ℕ) → Option Reference → ℕ
+placed_by final site number None = number
+placed_by final site number (Some r) =
+    field_by r.kind site (unwrap_or (label_address final r.label) 0)
+
+abbrev pub placed_number : Draft → (site line : ℕ) → Operand × Value → ℕ
+placed_number final site line (operand, value) =
+    placed_by final site (field_of value) (reference_by line operand value)
+
+-- a word holds the instruction of a row with these numbers of its operands, in their order
+pub record HoldsRow (row : Row) (numbers : List ℕ) (word : ℕ) : Type 0 where
+  pub inst : Inst
+  pub is_inst : given row.operands row.inst numbers ≡ Some inst
+  pub holds : inst_of word ≡ Some inst
+
+-- a line that begins with this name, with this text behind it, is one word, which holds the
+-- instruction of this name with the operands of the text, wherever it stands and its labels do
+pub record MakesInstruction (line : ℕ) (name text : List ℕ) (statement : Statement)
+    : Type 0 where
+  pub row : Row
+  pub is_row : row_named name ≡ Some row
+  pub words : List (List ℕ)
+  pub are_words : comma_words text ≡ Some words
+  pub operands : List (Operand × Value)
+  pub are_operands : operands_of row.operands words ≡ Some operands
+  pub cell : Cell
+  pub fills : statement ≡ Fills (cell ∷ [])
+  pub holds : (final : Draft) (site : ℕ)
+      → HoldsRow row (map (placed_number final site line) operands) (cell_word final site cell)
+
+abbrev pub InstructionsAreMade : Type 0
+InstructionsAreMade =
+    (line : ℕ) (name text : List ℕ) (mnemonic : Named) (statement : Statement)
+    → named name ≡ Some mnemonic → statement_of line (Mnemonic mnemonic) text ≡ Ok statement
+    → MakesInstruction line name text statement

@@ -1,7 +1,7 @@
 //! Facts about the definitions that no call computes. Each is the contract of a function that does
 //! nothing.
 
-ghost use Rattle.iop_asm.specs.Laws.{BranchesArrive, BranchesReachTheNear, JumpsArrive, HalvesMakeAddresses};
+ghost use Rattle.iop_asm.specs.Laws.{BranchesArrive, BranchesReachTheNear, JumpsArrive, HalvesMakeAddresses, InstructionsAreMade};
 
 /// A branch to a near label goes there.
 pub fn branches_arrive()
@@ -21,4 +21,10 @@ pub fn jumps_arrive()
 /// The halves of an address make it, the low one as a signed number.
 pub fn halves_make_addresses()
     ensures { HalvesMakeAddresses }
+{}
+
+/// The word that an instruction's line makes is that instruction: the row of its name with the
+/// operands of the line in their order, and what its label's address comes to, at every site.
+pub fn instructions_are_made()
+    ensures { InstructionsAreMade }
 {}

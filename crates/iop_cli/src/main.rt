@@ -5,23 +5,47 @@ use iop_front::{Status, iop_main};
 use iop_ports::{DiskFiles, StreamSink};
 use std::alloc::AllocError;
 use std::env;
+use std::env::FillError;
 use std::io::ErrorKind;
 use std::process::ExitCode;
 use std::rt::Env;
 
+/// The arguments of an environment from the second on: the first is the program's name, which may
+/// be any bytes.
+#[derive(Drop)]
+struct BehindName<'a, E>(&'a E);
+
+impl<E: Env> Env for BehindName<'_, E> {
+    fn arg(&self, i: usize, buf: &mut [u8]) -> Result<usize, FillError> {
+        match i.checked_add(1) {
+            Some(next) => self.0.arg(next, buf),
+            None => Err(FillError::NotPresent),
+        }
+    }
+
+    fn var(&self, name: &str, buf: &mut [u8]) -> Result<usize, FillError> {
+        self.0.var(name, buf)
+    }
+
+    fn var_at(&self, i: usize, buf: &mut [u8]) -> Result<usize, FillError> {
+        self.0.var_at(i, buf)
+    }
+}
+
 /// The words of the command line, without the program's name. Where one is not UTF-8 there are
 /// none: such a line is no command.
 fn words(rt: &(impl Env + AllocGlobal)) -> Result<Vec<String>, AllocError> {
-    let mut words = Vec::new(rt.alloc());
-    match env::args(rt) {
+    let alloc = rt.alloc();
+    match env::args(&(BehindName(rt), alloc)) {
         Ok(args) => {
-            for word in args.skip(1) {
+            let mut words = Vec::new(alloc);
+            for word in args {
                 words.push(word)?;
             }
             Ok(words)
         }
         Err(error) if error.kind() == ErrorKind::OutOfMemory => Err(AllocError),
-        Err(_) => Ok(words),
+        Err(_) => Ok(Vec::new(alloc)),
     }
 }
 

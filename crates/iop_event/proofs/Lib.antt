@@ -1,3 +1,3 @@
-pub mod Asking
+pub mod FewerBits
 pub mod Settling
 mod SettingBits

@@ -1,15 +1,13 @@
 -- The threads whose conditions hold, one after the other, are those of a walk over all.
-use Rattle.std.proofs.Common.{◌≡◌, ◌≢◌, ℕ, Bool, true, false, cond, not, Option, Some, None, List, [], ◌∷◌, All, refl, ap, sym, ◌∙◌, subst, arith}
-use Rattle.std.specs.Prelude.{◌==◌, if◌then◌else◌, bit_and}
-use Rattle.std.proofs.lemmas.Bool.Decides.{nat_tests}
-use Rattle.std.proofs.lemmas.List.Elements.{All-nil, All-cons, All-head, All-tail}
-use Rattle.iop_event.proofs.Asking.{AskBits-waiters_of}
-use Rattle.iop_event.specs.EventFlags.{EventFlags, AskForBits, meets_next, meets_by, meets_it, with_pattern}
-use Rattle.iop_event.specs.Laws.{FlagIsMet, AskBits, NoneOverdue, settled}
-use Rattle.iop_event.specs.WakeConditions.{Settled, settles, is_met, holds, has_bit, pattern_after, met_by, meets, stays}
+use Rattle.std.proofs.Common.{◌≡◌, ℕ, Bool, true, false, Option, Some, None, List, [], ◌∷◌, refl, ap, sym, ◌∙◌}
+use Rattle.std.specs.Prelude.{if◌then◌else◌}
+use Rattle.std.proofs.lemmas.List.Elements.{All-nil, All-cons}
+use Rattle.iop_event.proofs.FewerBits.{IsUnmet, unmet_after}
+use Rattle.iop_event.specs.EventFlags.{EventFlags, meets_next, meets_by, meets_it, with_pattern}
+use Rattle.iop_event.specs.Laws.{FlagIsMet, NoneOverdue, settled}
+use Rattle.iop_event.specs.WakeConditions.{Settled, settles, is_met, pattern_after, met_by, meets, stays}
 use Rattle.iop_event.specs.declared.event_flag.EventFlag.{EventFlag}
 use Rattle.iop_event.specs.declared.met.Met.{Met}
-use Rattle.iop_event.specs.declared.wanted.TheConstants.{EITHER, CLEAR}
 use Rattle.iop_event.specs.declared.wanted.Wanted.{Wanted}
 use Rattle.iop_objects.specs.Objects.{state_of, waiters_of, with_state, with_waiters, takes_where}
 use Rattle.iop_objects.specs.Objects as objects
@@ -21,30 +19,6 @@ use Rattle.iop_objects.proofs.Changes.{state_of-with_state, state_of-with_waiter
 abbrev pub Waiting : Type 0
 Waiting = List (Queued (Waiter Wanted))
 
-abbrev Asks : Queued (Waiter Wanted) → Type 0
-Asks x = x.item.wants.bits ≢ 0
-
--- no condition holds of the pattern 0
-is_met-zero : (x : Queued (Waiter Wanted)) → Asks x → is_met 0 x.item ≡ false
-is_met-zero x asks = either (has_bit x.item.wants.mode EITHER)
-  where
-    none_of : (0 == x.item.wants.bits) ≡ false
-    none_of = grind (arith, nat_tests, asks)
-
-    either : (b : Bool) → (if b then not (bit_and 0 x.item.wants.bits == 0)
-        else bit_and 0 x.item.wants.bits == x.item.wants.bits) ≡ false
-    either true = refl
-    either false = none_of
-
--- a condition that holds leaves the pattern, or clears it
-is_met-after : (mode pattern : ℕ) (x : Queued (Waiter Wanted)) → Asks x
-    → is_met pattern x.item ≡ false → is_met (pattern_after mode pattern) x.item ≡ false
-is_met-after mode pattern x asks unmet = either (has_bit mode CLEAR)
-  where
-    either : (b : Bool) → is_met (if b then 0 else pattern) x.item ≡ false
-    either true = is_met-zero x asks
-    either false = unmet
-
 -- one that is taken out: the others settle on the pattern that it leaves
 abbrev one_met : (pattern : ℕ) → Choice (Waiter Wanted) → Settled
 one_met pattern c =
@@ -52,11 +26,12 @@ one_met pattern c =
     (settles (pattern_after c.one.item.wants.mode pattern) c.others)
 
 -- one is taken out
-pub settles-taken : (pattern : ℕ) (waiters : Waiting) → AskBits waiters → (c : Choice (Waiter Wanted))
+pub settles-taken : (pattern : ℕ) (waiters : Waiting) (c : Choice (Waiter Wanted))
     → chooses_where (is_met pattern) waiters ≡ Some c → settles pattern waiters ≡ one_met pattern c
-settles-taken pattern [] asks = λ c e. cc
-settles-taken pattern (x ∷ xs) asks =
-    either (is_met pattern x.item) refl (chooses_where (is_met pattern) xs) (settles-taken pattern xs (All-tail Asks x xs asks))
+settles-taken pattern [] = λ c e. cc
+settles-taken pattern (x ∷ xs) =
+    either (is_met pattern x.item) refl (chooses_where (is_met pattern) xs)
+    (settles-taken pattern xs)
   where
     behind : is_met pattern x.item ≡ false → (later : Option (Choice (Waiter Wanted)))
         → ((c : Choice (Waiter Wanted)) → later ≡ Some c → settles pattern xs ≡ one_met pattern c)
@@ -65,7 +40,7 @@ settles-taken pattern (x ∷ xs) asks =
     behind unmet None same c e = cc
     behind unmet (Some later) same c e =
         let here : is_met (pattern_after later.one.item.wants.mode pattern) x.item ≡ false =
-        is_met-after later.one.item.wants.mode pattern x (All-head Asks x xs asks) unmet in
+        unmet_after later.one.item.wants.mode pattern x unmet in
         let taken : c ≡ record { one = later.one; others = x ∷ later.others } = cc in
         rw taken (rw here (ap (stays x) (same later refl)))
 
@@ -97,8 +72,7 @@ settles-none pattern (x ∷ xs) = either (is_met pattern x.item) (chooses_where 
     either false None same e = ap (stays x) (same refl)
     either false (Some later) same e = cc
 
-module _ (s : EventFlags) (asks : AskForBits s) (id : ℕ) (x : EventFlag)
-    (live : state_of s id ≡ Some x) where
+module _ (s : EventFlags) (id : ℕ) (x : EventFlag) (live : state_of s id ≡ Some x) where
   abbrev chosen : Option (Choice (Waiter Wanted))
   chosen = chooses_where (is_met x.pattern) (waiters_of s id)
 
@@ -135,7 +109,7 @@ module _ (s : EventFlags) (asks : AskForBits s) (id : ℕ) (x : EventFlag)
       let waiters_are = ap (λ r. waiters_of r.1 id) is ∙ waiters_of-with_state taken id flag
       ∙ waiters_of-with_waiters s id x live c.others in
       let rest = ap (λ f. settled (meets_next s id).1 id f) flag_is ∙ ap (settles pattern) waiters_are in
-      settles-taken x.pattern (waiters_of s id) (AskBits-waiters_of s asks id) c e
+      settles-taken x.pattern (waiters_of s id) c e
       ∙ ap (λ m. meets m (settles pattern c.others)) one_is ∙ ap (meets one) (sym rest)
 
   met_last : (c : Option (Choice (Waiter Wanted))) → chosen ≡ c → (meets_next s id).0 ≡ None
@@ -147,34 +121,33 @@ module _ (s : EventFlags) (asks : AskForBits s) (id : ℕ) (x : EventFlag)
   met_one_by_one = record { next = met_next chosen refl; last = met_last chosen refl }
 
 -- what does not hold of a pattern holds of none that is left
-is_met-settled : (pattern : ℕ) (waiters : Waiting) (x : Queued (Waiter Wanted)) → Asks x
-    → is_met pattern x.item ≡ false → is_met (settles pattern waiters).pattern x.item ≡ false
-is_met-settled pattern [] x asks unmet = unmet
-is_met-settled pattern (y ∷ ys) x asks unmet =
+unmet_settled : (pattern : ℕ) (waiters : Waiting) (x : Queued (Waiter Wanted)) → IsUnmet pattern x
+    → IsUnmet (settles pattern waiters).pattern x
+unmet_settled pattern [] x unmet = unmet
+unmet_settled pattern (y ∷ ys) x unmet =
     either (is_met pattern y.item)
-    (is_met-settled (pattern_after y.item.wants.mode pattern) ys x asks
-    (is_met-after y.item.wants.mode pattern x asks unmet))
-    (is_met-settled pattern ys x asks unmet)
+    (unmet_settled (pattern_after y.item.wants.mode pattern) ys x
+    (unmet_after y.item.wants.mode pattern x unmet))
+    (unmet_settled pattern ys x unmet)
   where
     either : (b : Bool)
-        → is_met (settles (pattern_after y.item.wants.mode pattern) ys).pattern x.item ≡ false
-        → is_met (settles pattern ys).pattern x.item ≡ false
-        → is_met (if b then meets (met_by pattern y.item)
+        → IsUnmet (settles (pattern_after y.item.wants.mode pattern) ys).pattern x
+        → IsUnmet (settles pattern ys).pattern x
+        → IsUnmet (if b then meets (met_by pattern y.item)
         (settles (pattern_after y.item.wants.mode pattern) ys)
-        else stays y (settles pattern ys)).pattern x.item ≡ false
+        else stays y (settles pattern ys)).pattern x
     either true met unmet = met
     either false met unmet = unmet
 
 abbrev IsSettled : Settled → Type 0
 IsSettled s = NoneOverdue s.pattern s.waiters
 
-pub none_overdue : (pattern : ℕ) (waiters : Waiting) → AskBits waiters
-    → IsSettled (settles pattern waiters)
-none_overdue pattern [] asks = All-nil (λ (x : Queued (Waiter Wanted)). is_met pattern x.item ≡ false)
-none_overdue pattern (x ∷ xs) asks =
+pub none_overdue : (pattern : ℕ) (waiters : Waiting) → IsSettled (settles pattern waiters)
+none_overdue pattern [] = All-nil (IsUnmet pattern)
+none_overdue pattern (x ∷ xs) =
     either (is_met pattern x.item) refl
-    (none_overdue (pattern_after x.item.wants.mode pattern) xs (All-tail Asks x xs asks))
-    (none_overdue pattern xs (All-tail Asks x xs asks))
+    (none_overdue (pattern_after x.item.wants.mode pattern) xs)
+    (none_overdue pattern xs)
   where
     either : (b : Bool) → is_met pattern x.item ≡ b
         → IsSettled (settles (pattern_after x.item.wants.mode pattern) xs)
@@ -185,5 +158,4 @@ none_overdue pattern (x ∷ xs) asks =
     either true is met unmet = met
     either false is met unmet =
         let rest = settles pattern xs in
-        All-cons (λ (y : Queued (Waiter Wanted)). is_met rest.pattern y.item ≡ false) x rest.waiters
-        (is_met-settled pattern xs x (All-head Asks x xs asks) is) unmet
+        All-cons (IsUnmet rest.pattern) x rest.waiters (unmet_settled pattern xs x is) unmet

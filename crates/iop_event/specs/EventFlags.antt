@@ -1,6 +1,6 @@
 -- Event flags (ps2sdk: thevent.h; the codes are those of its kerr.h). Which attributes are accepted, and the
 -- order of refusals, is this project's own profile.
-use Rattle.std.specs.Prelude.{◌≢◌, ℕ, ◌==◌, Bool, not, ◌&&◌, ◌||◌, if◌then◌else◌, Option, Some, None, Result, Ok, Err, List, length, All, bit_and, bit_or}
+use Rattle.std.specs.Prelude.{ℕ, ◌==◌, Bool, not, ◌&&◌, ◌||◌, if◌then◌else◌, Option, Some, None, Result, Ok, Err, length, bit_and, bit_or}
 use Rattle.iop_base.specs.declared.code.Code.{Code}
 use Rattle.iop_base.specs.declared.code.TheConstants.Code.{OK, ILLEGAL_ATTRIBUTE, UNKNOWN_EVENT_FLAG, FLAG_CONDITION, SECOND_WAITER, EMPTY_PATTERN}
 use Rattle.iop_event.specs.WakeConditions.{holds, is_met, pattern_after, met_by}
@@ -10,7 +10,6 @@ use Rattle.iop_event.specs.declared.met.Met.{Met}
 use Rattle.iop_event.specs.declared.wanted.Wanted.{Wanted}
 use Rattle.iop_objects.specs.Objects as objects
 use Rattle.iop_objects.specs.Objects.{Objects, Object, state_of, waiters_of, with_state, takes_where}
-use Rattle.iop_objects.specs.declared.queued.Queued.{Queued}
 use Rattle.iop_objects.specs.declared.waiter.Waiter.{Waiter}
 
 -- the event flags that are live
@@ -22,10 +21,6 @@ is_attribute attr = attr == 0 || attr == MANY_WAITERS
 
 abbrev pub with_pattern : EventFlag → ℕ → EventFlag
 with_pattern x pattern = record x { pattern = pattern }
-
--- every thread that waits asks for a bit at least
-abbrev pub AskForBits : EventFlags → Type 0
-AskForBits s = All (λ o. All (λ x. x.item.wants.bits ≢ 0) o.waiters) s.live
 
 module _ (s : EventFlags) where
   -- an event flag is made

@@ -1,8 +1,8 @@
 -- What the law of event flags says.
-use Rattle.std.specs.Prelude.{◌≡◌, ◌≢◌, ℕ, false, Some, None, List, [], ◌∷◌, All, bit_and}
+use Rattle.std.specs.Prelude.{◌≡◌, ℕ, false, Some, None, List, [], ◌∷◌, All, bit_and}
 use Rattle.std.specs.Int.{bit_at}
 use Rattle.iop_base.specs.declared.code.TheConstants.Code.{OK}
-use Rattle.iop_event.specs.EventFlags.{EventFlags, AskForBits, clears, meets_next, sets}
+use Rattle.iop_event.specs.EventFlags.{EventFlags, clears, meets_next, sets}
 use Rattle.iop_event.specs.WakeConditions.{Settled, settles, is_met}
 use Rattle.iop_event.specs.declared.event_flag.EventFlag.{EventFlag}
 use Rattle.iop_event.specs.declared.met.Met.{Met}
@@ -29,9 +29,6 @@ pub record FlagIsMet (s : EventFlags) (id : ℕ) (x : EventFlag) : Type 0 where
 abbrev pub NoneOverdue : (pattern : ℕ) → List (Queued (Waiter Wanted)) → Type 0
 NoneOverdue pattern waiters = All (λ x. is_met pattern x.item ≡ false) waiters
 
-abbrev pub AskBits : List (Queued (Waiter Wanted)) → Type 0
-AskBits waiters = All (λ x. x.item.wants.bits ≢ 0) waiters
-
 -- bits that are set: the pattern has them and those that it had, and no other; all threads wait on
 pub record BitsAreSet (s : EventFlags) (id : ℕ) (x : EventFlag) (bits : ℕ) : Type 0 where
   pub answer : (sets s id bits).0 ≡ OK
@@ -53,9 +50,9 @@ pub record BitsAreCleared (s : EventFlags) (id : ℕ) (x : EventFlag) (mask : �
   pub waiters : waiters_of (clears s id mask).1 id ≡ waiters_of s id
 
 pub record FlagsAreMet : Type 0 where
-  pub one_by_one : (s : EventFlags) (id : ℕ) (x : EventFlag) → AskForBits s
-      → state_of s id ≡ Some x → FlagIsMet s id x
-  pub none_overdue : (pattern : ℕ) (waiters : List (Queued (Waiter Wanted))) → AskBits waiters
+  pub one_by_one : (s : EventFlags) (id : ℕ) (x : EventFlag) → state_of s id ≡ Some x
+      → FlagIsMet s id x
+  pub none_overdue : (pattern : ℕ) (waiters : List (Queued (Waiter Wanted)))
       → NoneOverdue (settles pattern waiters).pattern (settles pattern waiters).waiters
   pub set : (s : EventFlags) (id : ℕ) (x : EventFlag) (bits : ℕ) → state_of s id ≡ Some x
       → BitsAreSet s id x bits

@@ -1,7 +1,7 @@
-ghost use Rattle.std.specs.Prelude.{◌≡◌, ◌≢◌, ◌<◌, ◌≤◌, Bool, [], IfOk, is_some, option_map, true, false, length};
+ghost use Rattle.std.specs.Prelude.{◌≡◌, ◌<◌, ◌≤◌, Bool, [], IfOk, is_some, option_map, true, false, length};
 ghost use Rattle.iop_objects.specs.Objects.{AreObjects, no_objects, object_of, state_of, waiters_of, waiting, takes_next, drops, requeues};
 ghost use Rattle.iop_objects.specs.declared.objects.TheConstants.{MOST_WAITERS};
-ghost use Rattle.iop_event.specs.EventFlags.{AskForBits, creates, deletes, sets, meets_next, clears, is_taken, tests, waits};
+ghost use Rattle.iop_event.specs.EventFlags.{creates, deletes, sets, meets_next, clears, is_taken, tests, waits};
 
 use crate::event_flag::{EventFlag, MANY_WAITERS, is_attribute};
 use crate::met::Met;
@@ -11,7 +11,7 @@ use iop_objects::{Condition, Objects, Waiter};
 use std::alloc::{AllocError, Global};
 use std::marker::Model;
 
-/// The live event flags, and the threads that wait for each, which ask for one bit at least.
+/// The live event flags, and the threads that wait for each.
 #[derive(Drop)]
 pub struct EventFlags {
     objects: Objects<EventFlag, Wanted>,
@@ -24,11 +24,7 @@ impl Model for EventFlags {
 
     ghost Value = { Objects EventFlag Wanted };
 
-    ghost use Rattle.iop_event.specs.EventFlags.{AskForBits};
-
     ghost view = { λ s. s.objects };
-
-    ghost invariant = { λ s. AskForBits s.objects };
 }
 
 /// A pattern of bits, as a condition on the threads that wait.
@@ -58,7 +54,6 @@ impl EventFlags {
     /// Reads what is known of an event flag. None exactly where none of this id is live.
     pub fn get(&self, id: u32) -> Option<EventFlag>
         ensures flag { result ≡ state_of self.now id }
-        ensures sound { AskForBits self.now }
         ensures objects { AreObjects self.now }
     {
         self.objects.state(id)
@@ -179,7 +174,6 @@ impl EventFlags {
     pub fn wait(&mut self, id: u32, thread: u32, priority: u8, wanted: Wanted)
         requires live { is_some (object_of self.old.live id) ≡ true }
         requires room { waiting self.old < MOST_WAITERS }
-        requires asks { wanted.bits ≢ 0 }
         ensures { self.new ≡ waits self.old id thread priority wanted }
     {
         self.objects.wait(

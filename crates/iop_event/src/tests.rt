@@ -65,9 +65,7 @@ fn two_wait(alloc: Global, attr: u32) -> Result<EventFlags, AllocError>
 }
 
 /// Makes the condition for which a thread waits.
-fn wanted(bits: u32, mode: u32) -> Wanted
-    ensures { result.bits ≡ bits }
-{
+fn wanted(bits: u32, mode: u32) -> Wanted {
     Wanted {
         bits,
         mode,

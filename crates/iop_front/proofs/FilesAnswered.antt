@@ -15,7 +15,7 @@ use Rattle.iop_front.specs.Reading.{file_named}
 use Rattle.iop_front.specs.Statuses.{status_code, IsRunCode, IsRanCode}
 use Rattle.iop_front.specs.declared.status.Status.{Status}
 use Rattle.iop_front.proofs.Endings.{IsRun, Shows, ended, shows, IsBadScript}
-use Rattle.iop_front.proofs.OpeningLemmas.{is_named, long_read, names_of, name_asked, whole_front}
+use Rattle.iop_front.proofs.OpeningLemmas.{is_named, long_read, names_of, name_asked, short_whole, whole_front}
 
 -- behind a bad script no file was opened
 alone : {faults : ℕ} {name : List ℕ} {names : List (List ℕ)} {old new : FilesTold} (number : ℕ)
@@ -30,6 +30,7 @@ alone number (more first on (more second later rest)) bad =
 record IsBadIn (name : List ℕ) (number faults : ℕ) (old new : Option FilesTold) : Type 0 where
   read : FilesRead AsScript (name ∷ []) faults old new
   bad : IfSome old (λ files. script_of (file_named files name) ≡ Err number)
+  short : IfSome old (λ files. length (file_named files name) ≤ LONGEST_FILE)
 
 -- of the first file that was read
 bad_in : (named : NamedFile) (number : ℕ) (names : List (List ℕ)) (files : List NamedFile)
@@ -38,16 +39,16 @@ bad_in : (named : NamedFile) (number : ℕ) (names : List (List ℕ)) (files : L
     → FilesRead AsScript (named.name ∷ names) faults old new
     → IsBadIn named.name number faults old new
 bad_in named number names files faults None new short bad are read =
-    record { read = read; bad = tt }
+    record { read = read; bad = tt; short = tt }
 bad_in named number names files faults (Some told) None short bad are read = absurd read
 bad_in named number names files faults (Some told) (Some after) short bad are read =
     let file = file_named told named.name in
     let front : named ≡ record { name = named.name; file = take read_limit file } = cc in
     let same : named.file ≡ take read_limit file = ap (λ (f : NamedFile). f.file) front in
-    let whole : named.file ≡ file =
-    same ∙ whole_front file (subst (λ t. length t ≤ LONGEST_FILE) same short) in
+    let fits = subst (λ t. length t ≤ LONGEST_FILE) same short in
+    let whole : named.file ≡ file = same ∙ whole_front file fits in
     let is : script_of file ≡ Err number = sym (ap script_of whole) ∙ bad in
-    record { read = alone number read is; bad = is }
+    record { read = alone number read is; bad = is; short = short_whole file fits }
 
 -- what 21 tells
 pub record IsBadOf (command : Command) (name : List ℕ) (number faults : ℕ)
@@ -56,6 +57,7 @@ pub record IsBadOf (command : Command) (name : List ℕ) (number faults : ℕ)
   pub read : FilesRead AsScript (name ∷ []) faults old new
   pub asked : IfSome new (IsNameAsked name faults)
   pub bad : IfSome old (λ files. script_of (file_named files name) ≡ Err number)
+  pub short : IfSome old (λ files. length (file_named files name) ≤ LONGEST_FILE)
 
 -- the first of the names is the script's
 first_name : (script : Option (List ℕ)) (modules : List (List ℕ)) (name : List ℕ)
@@ -89,6 +91,7 @@ bad_first command names left files named number faults old new short bad are_nam
       read = h.read;
       asked = name_asked faults AsScript [] named.name old new h.read;
       bad = h.bad;
+      short = h.short;
     }
 
 -- of the script of a command
@@ -175,6 +178,7 @@ module _ {command : Command} {names left : List (List ℕ)} {script : Option Nam
         read = bad.read;
         asked = bad.asked;
         bad = bad.bad;
+        short = bad.short;
       }
 
   -- 23, and its line

@@ -27,7 +27,7 @@ same_content : {faults : ℕ} {kind : FileKind} {names : List (List ℕ)} {old n
 same_content none = refl
 same_content (more first fits rest) = same_content rest ∙ content_then first
 
-short_whole : (file : List ℕ) → length (take read_limit file) ≤ LONGEST_FILE
+pub short_whole : (file : List ℕ) → length (take read_limit file) ≤ LONGEST_FILE
     → length file ≤ LONGEST_FILE
 short_whole file h = omega (arith, length-take read_limit file, h)
 

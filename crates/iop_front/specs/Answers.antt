@@ -119,7 +119,7 @@ pub record HasRun (command : Command) (code : ℕ) (before after : Outside) : Ty
   pub outcome : MeetsCode (outcome_of_inputs command script modules) code before.sinks after.sinks
 
 -- 21: the script has a bad line, whose line was written, and no file but the script's was opened.
--- Where the files tell, it is the first bad line of that file
+-- Where the files tell, it is the first bad line of that file, which is not too long
 pub record HasBadScript (command : Command) (before after : Outside) : Type 0 where
   pub name : List ℕ
   pub named : command.script ≡ Some name
@@ -128,6 +128,7 @@ pub record HasBadScript (command : Command) (before after : Outside) : Type 0 wh
   pub read : FilesRead AsScript (name ∷ []) before.faults before.told after.told
   pub asked : IfSome after.told (IsNameAsked name before.faults)
   pub bad : IfSome before.told (λ files. script_of (file_named files name) ≡ Err number)
+  pub short : IfSome before.told (λ files. length (file_named files name) ≤ LONGEST_FILE)
 
 -- 22: a file that is named was not read. Its line was written, and where the files tell, its name is
 -- the one last asked for, or there is no such file; and before its opening no call had failed

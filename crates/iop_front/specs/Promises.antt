@@ -37,7 +37,8 @@ module _ (named : Option Command) (code : ℕ) (before after : Outside) where
     pub bad_words : code ≡ 20 → named ≡ None
     pub bad_words_show : named ≡ None → (code ≡ 20) ⊎ (code ≡ 30)
     pub bad_words_line : code ≡ 20 → Refuses bad_words_line before.sinks after.sinks
-    -- 21: the line of a script with a bad line. No module's file is opened then.
+    -- 21: the line of a script with a bad line, which is not too long. No module's file is opened
+    -- then.
     pub bad_script_line : OfCommand (λ command. code ≡ 21 → HasBadScript command before after)
     -- 22: only where a call of the files failed, and always there.
     pub unread : code ≡ 22 → FilesFailed

@@ -15,7 +15,7 @@ use std::alloc::Global;
 ///
 /// The words are without the program's name. The first file that cannot be read, or is too long, or
 /// a bad line of the script, decides, and no later file is opened. At most 4,194,305 bytes of each
-/// are read. Memory for the machine is taken only after the last.
+/// are read.
 pub fn iop_main<F: Files, C: Sink, T: Sink>(
     alloc: Global,
     words: &[String],

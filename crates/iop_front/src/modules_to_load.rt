@@ -24,7 +24,7 @@ fn generated_module(alloc: Global, workers: u32) -> Result<Module, AllocError>
 }
 
 /// Gives the modules that the machine is to load: those that were read, or the generated one.
-/// `AllocError` comes only where there is no memory for that one.
+/// `AllocError` stands for want of memory for that one.
 pub(crate) fn modules_to_load(
     alloc: Global,
     workers: Option<u32>,

@@ -22,7 +22,7 @@ pub enum Status {
     TooLong,
     /// 24: a write to the console or the trace failed.
     SinkFault,
-    /// 30: no memory was left. Nothing was written.
+    /// 30: stands for want of memory. Nothing was written.
     NoMemory,
 }
 

@@ -192,6 +192,35 @@ handler:
     addiu $v0, $0, 1
 ";
 
+/// A module that prints `one`, nothing, and `two`.
+pub const PRINTS_THREE: &str = r#"
+    .name t
+    .import sysmem 1 1
+    .fn Kprintf 14
+    .endi
+    .entry main
+main:
+    addu $s0, $ra, $0
+    lui $a0, %hi(one)
+    jal Kprintf
+    addiu $a0, $a0, %lo(one)
+    lui $a0, %hi(none)
+    jal Kprintf
+    addiu $a0, $a0, %lo(none)
+    lui $a0, %hi(two)
+    jal Kprintf
+    addiu $a0, $a0, %lo(two)
+    jr $s0
+    addu $v0, $0, $0
+    .data
+one:
+    .asciz "one\n"
+none:
+    .asciz ""
+two:
+    .asciz "two\n"
+"#;
+
 /// Makes the source of a module that registers the library `shouts`, whose function prints `hi`,
 /// and whose last instruction is `last`.
 pub fn exports(alloc: Global, last: &str) -> Result<String, AllocError> {

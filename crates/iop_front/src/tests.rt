@@ -1,8 +1,8 @@
 ghost use Rattle.std.specs.Prelude.{◌≢◌};
 
 use crate::test_files::{
-    OVERFLOWS, PLAIN, RESERVED_WORD, RETURNS_65538, RETURNS_MINUS_ONE, STORES_OVER_ITS_STUB,
-    UNKNOWN_SERVICE, UNPAIRED, file_of, hello,
+    OVERFLOWS, PLAIN, PRINTS_THREE, RESERVED_WORD, RETURNS_65538, RETURNS_MINUS_ONE,
+    STORES_OVER_ITS_STUB, UNKNOWN_SERVICE, UNPAIRED, file_of, hello,
 };
 use crate::{Status, iop_main};
 use iop_base::{Kept, Width, laws};
@@ -184,6 +184,43 @@ fn stops_where_a_write_fails(rt: HostRuntime) -> Result<(), Fail> {
         (0, 0, 2),
         (Status::SinkFault, "hi", started),
     )
+}
+
+/// Runs the module that prints three texts, one of them empty, where a write to the console fails,
+/// 0 where none does. Compares the status, the console and the trace, and how many writes each got.
+fn prints_three(
+    rt: &impl Abort,
+    alloc: Global,
+    write: u64,
+    (status, text, trace): (Status, &str, &str),
+    (texts, lines): (u64, u64),
+) -> Result<(), Fail> {
+    let mut files = MemFiles::new(alloc, Vec::new(alloc));
+    files.add("t.irx", file_of(alloc, PRINTS_THREE)?)?;
+    let mut console = MemSink::new(alloc, 100, vec![in alloc; write]?)?;
+    let mut sink = MemSink::new(alloc, 200, Vec::new(alloc))?;
+    let words = words(alloc, "t.irx")?;
+    let code = iop_main(alloc, &words, &mut files, &mut console, &mut sink);
+    assert_eq!(rt; sink.bytes(), trace.as_bytes());
+    assert_eq!(rt; code, status.code());
+    assert_eq!(rt; console.bytes(), text.as_bytes());
+    assert_eq!(rt; console.calls(), texts);
+    assert_eq!(rt; sink.calls(), lines);
+    Ok(())
+}
+
+#[test]
+fn writes_each_text_and_line_at_once(rt: HostRuntime) -> Result<(), Fail> {
+    let trace = "0 load 1 ok 00010000 00000068
+0 run 1
+27 result 1 0 resident
+28 end quiet
+";
+    let whole = (Status::Quiet, "one\ntwo\n", trace);
+    prints_three(&rt, rt.alloc(), 0, whole, (2, 4))?;
+    let started = "0 load 1 ok 00010000 00000068\n0 run 1\n";
+    let cut = (Status::SinkFault, "one\n", started);
+    prints_three(&rt, rt.alloc(), 2, cut, (2, 2))
 }
 
 /// Over files and sinks that cannot fail no fault is answered: that follows from the clauses of

@@ -1,4 +1,4 @@
 pub mod Names
-mod Formats
+pub mod Formats
 mod Rows
 mod Decimal

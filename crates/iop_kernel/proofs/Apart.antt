@@ -7,6 +7,7 @@ use Rattle.iop_base.specs.declared.code.TheConstants.Code.{WAIT_RELEASED}
 use Rattle.iop_intr.specs.InterruptLines.{IrqLine}
 use Rattle.iop_registry.specs.declared.registry.Entry.{Entry}
 use Rattle.iop_services.specs.declared.codes.TheConstants.{INTRMAN, THBASE}
+use Rattle.iop_base.specs.declared.guest_fault.GuestFault.TheVariants as faults_of
 use Rattle.iop_services.specs.declared.service.Service.{Service}
 use Rattle.iop_services.proofs.Rows.{home}
 use Rattle.iop_thread.specs.ThreadTable.{ThreadTable}
@@ -24,6 +25,7 @@ use Rattle.iop_kernel.specs.declared.after.After.{After}
 use Rattle.iop_kernel.proofs.Bodies.KindTables.{each_table}
 use Rattle.iop_kernel.proofs.Placing.ObjectsKept.{same_objects, drops_keep, requeues_keep}
 use Rattle.iop_kernel.proofs.Walk.Moves.{Moves}
+use Rattle.iop_kernel.proofs.Walk.Moves.{each_of}
 use Rattle.iop_kernel.proofs.Walk.Services.{serves_goes, library_goes, asked_not}
 use Rattle.iop_kernel.proofs.Walk.Threads.{exits_go}
 
@@ -228,7 +230,10 @@ serves_apart s x = serves_goes x (apart s (home x)) (λ asked. tt)
 -- so does the thread that ends
 pub exits_apart : (s : System)
     → Stays s THBASE (exit_thread s.core).state.kernel s.libraries
-exits_apart s = exits_go (apart s THBASE).each ((apart s THBASE).threads refl) (caller s.core) refl
+exits_apart s =
+    let m = apart s THBASE in
+    exits_go (each_of _ _ _ s m.each) (m.threads refl) (λ none. m.each.faults faults_of.Service)
+    (caller s.core) refl
 
 -- a call of a library stays apart
 pub libraries_stay_apart : LibrariesStayApart

@@ -1,7 +1,9 @@
 pub mod Blocks
 pub mod Core
+pub mod Faulting
 pub mod Goes
 pub mod Handlers
+pub mod Leaving
 pub mod Meetings
 pub mod Memory
 pub mod Moves

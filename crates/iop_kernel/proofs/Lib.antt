@@ -1,5 +1,6 @@
 pub mod Apart
 pub mod Bodies
+pub mod Codes
 pub mod Deletions
 pub mod Histories
 pub mod Keeping
@@ -7,4 +8,6 @@ pub mod Order
 pub mod Overdue
 pub mod Placing
 pub mod Readings
+pub mod Switching
+pub mod WaitsEnd
 pub mod Walk

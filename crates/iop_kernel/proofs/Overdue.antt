@@ -1,4 +1,3 @@
-pub mod Conditions
 pub mod Kernels
 pub mod Kinds
 pub mod Objects

@@ -1,10 +1,13 @@
 pub mod Basics
+pub mod KeptPriorities
 pub mod Kinds
 pub mod Live
 pub mod Moves
 pub mod Objects
 pub mod ObjectsKept
 pub mod Opening
+pub mod Priorities
+pub mod QueuedPriorities
 pub mod Queues
 pub mod Rooms
 pub mod Services

@@ -1,3 +1,5 @@
+pub mod Patterns
 pub mod Statuses
 pub mod Times
 pub mod WordBytes
+pub mod Words

@@ -5,6 +5,7 @@ pub mod EventFlags
 pub mod Interrupts
 pub mod Libraries
 pub mod Mailboxes
+pub mod Listed
 pub mod Moves
 pub mod Objects
 pub mod Semaphores

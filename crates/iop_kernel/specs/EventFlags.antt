@@ -1,7 +1,7 @@
 -- The services of thevent (ps2sdk: thevent.h; the codes are those of its kerr.h). The conditions
 -- and the order of the refusals, and the words that ReferEventFlagStatus writes, are this project's
 -- own profile.
-use Rattle.std.specs.Prelude.{ℕ, ◌==◌, if◌then◌else◌, Option, Some, None, Result, Ok, Err, List, [], ◌∷◌, ◌++◌, length, bit_or}
+use Rattle.std.specs.Prelude.{ℕ, if◌then◌else◌, Option, Some, None, Result, Ok, Err, List, [], ◌∷◌, ◌++◌, length, bit_or}
 use Rattle.iop_base.specs.Piece.{Piece}
 use Rattle.iop_base.specs.declared.code.Code.{Code}
 use Rattle.iop_base.specs.declared.code.TheConstants.Code.{OK, UNKNOWN_EVENT_FLAG, FLAG_CONDITION, CANNOT_WAIT}

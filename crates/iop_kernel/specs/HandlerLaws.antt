@@ -1,15 +1,27 @@
--- What the laws of handlers say: what a result does to the line or the alarm that it is for.
+-- What the laws of handlers say: with which registers one begins, and what a result does to the
+-- line or the alarm that it is for.
 use Rattle.std.specs.Prelude.{◌≡◌, ◌≢◌, ℕ, true, false, Some, None, IsSome, List, All}
 use Rattle.iop_exec.specs.Row.{reg}
 use Rattle.iop_intr.specs.InterruptLines.{IrqLine, line_of}
+use Rattle.iop_intr.specs.declared.handler.Handler.{Handler}
+use Rattle.iop_thread.specs.FirstRegisters.{BeginsWith}
 use Rattle.iop_time.specs.Laws.{AlarmsAreGone, IsSetAgain}
 use Rattle.iop_time.specs.Timers.{Timers}
-use Rattle.iop_kernel.specs.Handlers.{return_handler}
+use Rattle.iop_kernel.specs.Handlers.{begins_handler, return_handler}
 use Rattle.iop_kernel.specs.Placing.{IsPlaced}
 use Rattle.iop_kernel.specs.System.{Kernel, Core}
 use Rattle.iop_kernel.specs.declared.active_handler.ActiveHandler.{ActiveHandler}
 use Rattle.iop_kernel.specs.declared.active_handler.Cause.{Cause}
 use Rattle.iop_kernel.specs.declared.active_handler.Cause.TheVariants.{Line, Alarm}
+use Rattle.iop_kernel.specs.declared.active_handler.TheConstants.{HANDLER_RETURN, HANDLER_STACK}
+
+-- a handler begins with its argument, the `$gp` of who registered it, the handlers' stack, and the
+-- place where a handler returns to
+abbrev pub HandlersBeginWith : Type 0
+HandlersBeginWith =
+    (c : Core) (cause : Cause) (handler : Handler)
+    → BeginsWith (begins_handler c cause handler).cpu handler.address handler.arg 0 handler.gp
+    HANDLER_STACK HANDLER_RETURN
 
 -- 0 disables a line, also where it was enabled meanwhile; another result enables it where it still
 -- has a handler, and changes nothing where it has none. It stays raised or not and keeps its

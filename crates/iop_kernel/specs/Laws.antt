@@ -3,8 +3,11 @@
 use Rattle.std.specs.Prelude.{◌≡◌, ◌≢◌, ℕ, ◌+◌, ◌<◌, ◌≤◌, nat_le, ◌&&◌, Bool, true, false, Some, None, IfSome, List, [], ◌∷◌, ◌++◌, length, map, All, Contains}
 use Rattle.iop_base.specs.Piece.{Piece, Traced}
 use Rattle.iop_base.specs.Text.{line_bytes}
+use Rattle.iop_base.specs.declared.guest_fault.GuestFault.{GuestFault}
+use Rattle.iop_base.specs.declared.guest_fault.GuestFault.TheVariants.{Address}
 use Rattle.iop_base.specs.declared.line.Line.TheVariants.{Run}
 use Rattle.iop_exec.specs.Laws.{IsSteady}
+use Rattle.iop_kernel.specs.Callers.{HasLeft, HasAnswer}
 use Rattle.iop_kernel.specs.Dispatching.{Dispatched, dispatches}
 use Rattle.iop_kernel.specs.Kinds.{library_of, table}
 use Rattle.iop_kernel.specs.Overdue.{NoneOverdue}
@@ -76,7 +79,8 @@ pub record AreKept (old new : BlockMap) : Type 0 where
 -- what has become of the thread that called, by what is answered
 abbrev pub Follows : After → System → (id : ℕ) → System → List Piece → Type 0
 Follows Resume s id left pieces = left.core.kernel.threads.running ≡ Some id
-Follows Switch s id left pieces = left.core.kernel.threads.running ≡ None
+Follows Switch s id left pieces =
+    (left.core.kernel.threads.running ≡ None) × HasLeft left.core.kernel.threads id
 Follows (ModuleReturned word) s id left pieces =
     (id ≡ LOADER) × (left ≡ record s { core = opened s.core }) × (pieces ≡ [])
 Follows (Fault kind) s id left pieces = (left ≡ s) × (pieces ≡ [])
@@ -108,6 +112,8 @@ pub record ServiceKeeps (s : System) (d : Served) : Type 0 where
       → Follows d.left.after s id d.left.state d.pieces
   pub handler_follows : (handler : ActiveHandler) → s.core.kernel.handler ≡ Some handler
       → HandlerFollows d.left.after s handler d.left.state d.pieces
+  -- who goes on has a word in `$v0`, and nothing else of its processor changes
+  pub answers : d.left.after ≡ Resume → HasAnswer s.core.cpu d.left.state.core.cpu
   -- it takes one number at most for an alarm or a delay
   pub numbers : d.left.state.core.kernel.timers.next ≤ s.core.kernel.timers.next + 1
   pub core : IsCore s.core → IsCore d.left.state.core
@@ -156,6 +162,13 @@ abbrev pub LibrariesStayApart : Type 0
 LibrariesStayApart =
     (s : System) (library number : ℕ) → let left = (calls_library library number s).left.state in
     ServicesStayApart s library left.core.kernel left.libraries
+
+-- a call of a library that a thread or a handler makes faults at an address that is no place alone:
+-- no listed service faults since it has none
+abbrev pub LibrariesFaultAtAddresses : Type 0
+LibrariesFaultAtAddresses =
+    (s : System) (library number : ℕ) (kind : GuestFault) → is_active s.core.kernel ≡ true
+    → (calls_library library number s).left.after ≡ Fault kind → kind ≡ Address
 
 -- a dispatch takes the first ready thread of the best priority, and tells its id; nothing else is
 -- dispatched after it

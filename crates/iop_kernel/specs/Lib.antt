@@ -16,12 +16,16 @@ pub mod Deliveries
 pub mod Serving
 pub mod Dispatching
 pub mod Standing
+pub mod Callers
 pub mod Laws
 pub mod DeliveryLaws
 pub mod HandlerLaws
 pub mod StatusLaws
 pub mod TimeLaws
+pub mod WordLaws
 pub mod WakingLaws
+pub mod SwitchLaws
+pub mod CodeLaws
 pub mod Boards
 pub mod EventFlags
 pub mod Mailboxes

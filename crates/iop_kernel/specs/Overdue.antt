@@ -1,6 +1,5 @@
 -- That no wait is overdue, at all times: a law of the services.
 use Rattle.std.specs.Prelude.{◌≡◌, ℕ, Some, List, [], ◌⊎◌}
-use Rattle.iop_event.specs.EventFlags.{AskForBits}
 use Rattle.iop_event.specs.Laws as flags
 use Rattle.iop_objects.specs.Objects.{state_of, waiters_of}
 use Rattle.iop_objects.specs.declared.queued.Queued.{Queued}
@@ -32,5 +31,3 @@ pub record NoneOverdue (k : Kernel) : Type 0 where
   pub objects : (kind : Kind) → AreIdle kind (table kind k)
   -- a thread that sleeps has no wakeups
   pub sleepers : SleepersAreUnwoken k.threads
-  -- and each thread that waits for bits asks for one at least
-  pub asks : AskForBits k.event_flags

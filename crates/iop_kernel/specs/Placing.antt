@@ -2,9 +2,11 @@
 use Rattle.std.specs.Prelude.{◌≡◌, ◌≢◌, ℕ, ◌<◌, ◌≤◌, ◌==◌, ◌&&◌, Bool, true, false, Option, Some, length, map, All, AllPairs}
 use Rattle.iop_base.specs.Numbers.{one_if}
 use Rattle.iop_objects.specs.Objects.{waiters_of}
+use Rattle.iop_objects.specs.declared.queued.Queued.{Queued}
+use Rattle.iop_objects.specs.declared.waiter.Waiter.{Waiter}
 use Rattle.iop_thread.specs.Placing as threads
 use Rattle.iop_thread.specs.Placing.{times}
-use Rattle.iop_thread.specs.ThreadTable.{ThreadTable}
+use Rattle.iop_thread.specs.ThreadTable.{ThreadTable, priority_of}
 use Rattle.iop_thread.specs.Waits.{wait_of}
 use Rattle.iop_thread.specs.declared.kind.Kind.{Kind}
 use Rattle.iop_thread.specs.declared.wait.Wait.{Wait}
@@ -25,11 +27,17 @@ abbrev pub is_for : Kind → ℕ → Option Wait → Bool
 is_for kind id (Some (Object other one)) = is_kind kind other && one == id
 is_for kind id other = false
 
--- the threads that wait for the objects of a kind are those whose waits say so, each once
+-- a thread that waits stands in its queue with its priority
+abbrev pub HasItsPriority : {W : Type 0} → ThreadTable → Queued (Waiter W) → Type 0
+HasItsPriority threads x = x.priority ≡ priority_of threads.live x.item.thread
+
+-- the threads that wait for the objects of a kind are those whose waits say so, each once, with its
+-- priority
 pub record AreWaited (kind : Kind) (s : Table kind) (threads : ThreadTable) : Type 0 where
   pub waiters : (id thread : ℕ)
       → times thread (threads_of (waiters_of s id))
       ≡ one_if (is_for kind id (wait_of threads thread))
+  pub priorities : (id : ℕ) → All (HasItsPriority threads) (waiters_of s id)
   -- no two live objects have one id, and none has one that is still to be given
   pub ids : AllPairs (λ a b. a.id ≢ b.id) s.live
   pub given : All (λ o. o.id < s.next) s.live

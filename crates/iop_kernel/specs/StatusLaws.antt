@@ -1,18 +1,19 @@
--- What the laws of statuses say: the words that a service writes are read where it wrote them.
-use Rattle.std.specs.Prelude.{◌≡◌, ℕ, ◌+◌, ◌^◌, ◌<◌, Some, option_map, unwrap_or, List, length, All}
-use Rattle.iop_base.specs.Numbers.{number_at}
+-- What the laws of statuses say: the words that a service writes are read where it wrote them. Each
+-- is told as the word that it leaves, so that nothing has to be known of what is written.
+use Rattle.std.specs.Prelude.{◌≡◌, ℕ, ◌+◌, Some, option_map, unwrap_or, List, length}
+use Rattle.iop_base.specs.Numbers.{number_at, wrapped}
 use Rattle.iop_mbx.specs.Mailboxes.{next_message}
 use Rattle.iop_objects.specs.Objects as objects
 use Rattle.iop_thread.specs.States.{state_number, wait_in, kind_number, object_of}
 use Rattle.iop_thread.specs.ThreadTable.{thread_of}
 use Rattle.iop_thread.specs.declared.thread.Thread.{Thread}
 use Rattle.iop_kernel.specs.Boards.{Board}
-use Rattle.iop_kernel.specs.EventFlags.{LiveFlag, flag_words, refer_event_flag_status}
-use Rattle.iop_kernel.specs.Mailboxes.{LiveMailbox, mailbox_words, refer_mbx_status}
+use Rattle.iop_kernel.specs.EventFlags.{LiveFlag, refer_event_flag_status}
+use Rattle.iop_kernel.specs.Mailboxes.{LiveMailbox, refer_mbx_status}
 use Rattle.iop_kernel.specs.NamedThreads.{named}
-use Rattle.iop_kernel.specs.Semaphores.{LiveSemaphore, semaphore_words, refer_sema_status}
+use Rattle.iop_kernel.specs.Semaphores.{LiveSemaphore, refer_sema_status}
 use Rattle.iop_kernel.specs.System.{System, caller, words_place}
-use Rattle.iop_kernel.specs.ThreadStatus.{status_words, refer_thread_status}
+use Rattle.iop_kernel.specs.ThreadStatus.{refer_thread_status}
 use Rattle.iop_kernel.specs.declared.event_flags.TheConstants.{FLAG_STATUS_WORDS}
 use Rattle.iop_kernel.specs.declared.mailboxes.TheConstants.{MAILBOX_STATUS_WORDS}
 use Rattle.iop_kernel.specs.declared.semaphores.TheConstants.{SEMAPHORE_STATUS_WORDS}
@@ -21,18 +22,19 @@ use Rattle.iop_kernel.specs.declared.thread_status.TheConstants.{STATUS_WORDS}
 -- the words of a thread's status stand at a place: with these names ReferThreadStatus of ps2sdk's
 -- thbase.h has them
 pub record HasStatus (ram : List ℕ) (place : ℕ) (t : Thread) : Type 0 where
-  pub attr : number_at ram place 4 ≡ t.param.attr
-  pub option : number_at ram (place + 4) 4 ≡ t.param.option
+  pub attr : number_at ram place 4 ≡ wrapped t.param.attr
+  pub option : number_at ram (place + 4) 4 ≡ wrapped t.param.option
   pub status : number_at ram (place + 8) 4 ≡ state_number t.state
-  pub entry : number_at ram (place + 12) 4 ≡ t.param.entry
-  pub stack : number_at ram (place + 16) 4 ≡ t.stack
-  pub stack_size : number_at ram (place + 20) 4 ≡ t.param.stack_size
-  pub gp : number_at ram (place + 24) 4 ≡ t.gp
-  pub first_priority : number_at ram (place + 28) 4 ≡ t.param.priority
-  pub priority : number_at ram (place + 32) 4 ≡ t.priority
+  pub entry : number_at ram (place + 12) 4 ≡ wrapped t.param.entry
+  pub stack : number_at ram (place + 16) 4 ≡ wrapped t.stack
+  pub stack_size : number_at ram (place + 20) 4 ≡ wrapped t.param.stack_size
+  pub gp : number_at ram (place + 24) 4 ≡ wrapped t.gp
+  pub first_priority : number_at ram (place + 28) 4 ≡ wrapped t.param.priority
+  pub priority : number_at ram (place + 32) 4 ≡ wrapped t.priority
   pub wait_kind : number_at ram (place + 36) 4 ≡ unwrap_or (option_map kind_number (wait_in t.state)) 0
-  pub wait_id : number_at ram (place + 40) 4 ≡ unwrap_or (option_map object_of (wait_in t.state)) 0
-  pub wakeups : number_at ram (place + 44) 4 ≡ t.wakeups
+  pub wait_id : number_at ram (place + 40) 4
+      ≡ wrapped (unwrap_or (option_map object_of (wait_in t.state)) 0)
+  pub wakeups : number_at ram (place + 44) 4 ≡ wrapped t.wakeups
 
 -- the status of the thread that is named is read where it was written
 abbrev pub StatusIsRead : Type 0
@@ -40,19 +42,18 @@ StatusIsRead =
     (s : System) (id at place named_id : ℕ) (t : Thread)
     → words_place s.memory at STATUS_WORDS ≡ Some place → named (caller s.core) id ≡ Some named_id
     → thread_of s.core.kernel.threads.live named_id ≡ Some t
-    → All (λ word. word < 2 ^ 32) (status_words t)
     → HasStatus (refer_thread_status s id at).left.state.memory.ram place t
 
 -- the words of a semaphore's status stand at a place: with these names ReferSemaStatus of ps2sdk's
 -- thsemap.h has them
 pub record HasSemaphoreStatus (ram : List ℕ) (place : ℕ) (o : LiveSemaphore) : Type 0 where
-  pub attr : number_at ram place 4 ≡ o.state.attr
-  pub option : number_at ram (place + 4) 4 ≡ o.state.option
-  pub initial : number_at ram (place + 8) 4 ≡ o.state.initial
-  pub max : number_at ram (place + 12) 4 ≡ o.state.max
-  pub current : number_at ram (place + 16) 4 ≡ o.state.count
+  pub attr : number_at ram place 4 ≡ wrapped o.state.attr
+  pub option : number_at ram (place + 4) 4 ≡ wrapped o.state.option
+  pub initial : number_at ram (place + 8) 4 ≡ wrapped o.state.initial
+  pub max : number_at ram (place + 12) 4 ≡ wrapped o.state.max
+  pub current : number_at ram (place + 16) 4 ≡ wrapped o.state.count
   -- how many threads wait
-  pub waiting : number_at ram (place + 20) 4 ≡ length o.waiters
+  pub waiting : number_at ram (place + 20) 4 ≡ wrapped (length o.waiters)
 
 -- the status of a live semaphore is read where it was written
 abbrev pub SemaphoreStatusIsRead : Type 0
@@ -60,18 +61,17 @@ SemaphoreStatusIsRead =
     (b : Board) (id at place : ℕ) (o : LiveSemaphore)
     → words_place b.memory at SEMAPHORE_STATUS_WORDS ≡ Some place
     → objects.object_of b.core.kernel.semaphores.live id ≡ Some o
-    → All (λ word. word < 2 ^ 32) (semaphore_words o)
     → HasSemaphoreStatus (refer_sema_status b id at).left.state.memory.ram place o
 
 -- the words of an event flag's status stand at a place: with these names ReferEventFlagStatus of
 -- ps2sdk's thevent.h has them
 pub record HasFlagStatus (ram : List ℕ) (place : ℕ) (o : LiveFlag) : Type 0 where
-  pub attr : number_at ram place 4 ≡ o.state.attr
-  pub option : number_at ram (place + 4) 4 ≡ o.state.option
-  pub first_bits : number_at ram (place + 8) 4 ≡ o.state.first
-  pub current_bits : number_at ram (place + 12) 4 ≡ o.state.pattern
+  pub attr : number_at ram place 4 ≡ wrapped o.state.attr
+  pub option : number_at ram (place + 4) 4 ≡ wrapped o.state.option
+  pub first_bits : number_at ram (place + 8) 4 ≡ wrapped o.state.first
+  pub current_bits : number_at ram (place + 12) 4 ≡ wrapped o.state.pattern
   -- how many threads wait
-  pub waiting : number_at ram (place + 16) 4 ≡ length o.waiters
+  pub waiting : number_at ram (place + 16) 4 ≡ wrapped (length o.waiters)
 
 -- the status of a live event flag is read where it was written
 abbrev pub FlagStatusIsRead : Type 0
@@ -79,20 +79,19 @@ FlagStatusIsRead =
     (b : Board) (id at place : ℕ) (o : LiveFlag)
     → words_place b.memory at FLAG_STATUS_WORDS ≡ Some place
     → objects.object_of b.core.kernel.event_flags.live id ≡ Some o
-    → All (λ word. word < 2 ^ 32) (flag_words o)
     → HasFlagStatus (refer_event_flag_status b id at).left.state.memory.ram place o
 
 -- the words of a mailbox's status stand at a place: with these names ReferMbxStatus of ps2sdk's
 -- thmsgbx.h has them
 pub record HasMailboxStatus (ram : List ℕ) (place : ℕ) (o : LiveMailbox) : Type 0 where
-  pub attr : number_at ram place 4 ≡ o.state.attr
-  pub option : number_at ram (place + 4) 4 ≡ o.state.option
+  pub attr : number_at ram place 4 ≡ wrapped o.state.attr
+  pub option : number_at ram (place + 4) 4 ≡ wrapped o.state.option
   -- how many threads wait
-  pub waiting : number_at ram (place + 8) 4 ≡ length o.waiters
-  pub messages : number_at ram (place + 12) 4 ≡ length o.state.messages
+  pub waiting : number_at ram (place + 8) 4 ≡ wrapped (length o.waiters)
+  pub messages : number_at ram (place + 12) 4 ≡ wrapped (length o.state.messages)
   -- the message that is received next, 0 where there is none
   pub next : number_at ram (place + 16) 4
-      ≡ unwrap_or (option_map (λ choice. choice.one.item) (next_message o.state)) 0
+      ≡ wrapped (unwrap_or (option_map (λ choice. choice.one.item) (next_message o.state)) 0)
 
 -- the status of a live mailbox is read where it was written
 abbrev pub MailboxStatusIsRead : Type 0
@@ -100,5 +99,4 @@ MailboxStatusIsRead =
     (b : Board) (id at place : ℕ) (o : LiveMailbox)
     → words_place b.memory at MAILBOX_STATUS_WORDS ≡ Some place
     → objects.object_of b.core.kernel.mailboxes.live id ≡ Some o
-    → All (λ word. word < 2 ^ 32) (mailbox_words o)
     → HasMailboxStatus (refer_mbx_status b id at).left.state.memory.ram place o

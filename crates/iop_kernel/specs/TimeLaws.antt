@@ -1,6 +1,6 @@
 -- What the laws of times say: the words of a time are read where a service wrote them.
 use Rattle.std.specs.Prelude.{◌≡◌, ◌≢◌, ℕ, ◌+◌, ◌*◌, ◌/◌, ◌%◌, ◌^◌, ◌<◌, Some, List}
-use Rattle.iop_base.specs.Numbers.{IsWord, number_at, wrapped}
+use Rattle.iop_base.specs.Numbers.{number_at, wrapped}
 use Rattle.iop_stubs.specs.Stubs.{Memory}
 use Rattle.iop_time.specs.ClockTime.{ticks_of, micros_of}
 use Rattle.iop_kernel.specs.Boards.{Board}
@@ -9,25 +9,25 @@ use Rattle.iop_kernel.specs.SystemClock.{ticks_in, get_system_time, usec_to_cloc
 use Rattle.iop_kernel.specs.declared.system_clock.TheConstants.{TIME_WORDS, MICROS_OF_SECOND}
 
 -- the words of a time stand at a place, the lower one first, as in the iop_sys_clock_t of ps2sdk's
--- thbase.h
+-- thbase.h: each is the word that is left, whatever the ticks are
 pub record HasTimeWords (memory : Memory) (place ticks : ℕ) : Type 0 where
-  pub low : number_at memory.ram place 4 ≡ ticks % 2 ^ 32
-  pub high : number_at memory.ram (place + 4) 4 ≡ ticks / 2 ^ 32
-  -- a service that reads a time there reads these ticks
-  pub both : ticks_in memory place ≡ ticks
+  pub low : number_at memory.ram place 4 ≡ wrapped ticks
+  pub high : number_at memory.ram (place + 4) 4 ≡ wrapped (ticks / 2 ^ 32)
+  -- a service that reads a time there reads these ticks, as two words have them
+  pub both : ticks_in memory place ≡ ticks % 2 ^ 64
 
 -- the moment is read where it was written
 abbrev pub SystemTimeIsRead : Type 0
 SystemTimeIsRead =
     (b : Board) (at place : ℕ)
-    → words_place b.memory at TIME_WORDS ≡ Some place → b.core.kernel.clock < 2 ^ 64
+    → words_place b.memory at TIME_WORDS ≡ Some place
     → HasTimeWords (get_system_time b at).left.state.memory place b.core.kernel.clock
 
 -- so are the ticks of so many microseconds
 abbrev pub TicksAreRead : Type 0
 TicksAreRead =
     (b : Board) (us at place : ℕ)
-    → IsWord us → words_place b.memory at TIME_WORDS ≡ Some place
+    → words_place b.memory at TIME_WORDS ≡ Some place
     → HasTimeWords (usec_to_clock b us at).left.state.memory place (ticks_of us)
 
 -- so many microseconds stand at two places: the whole seconds at the first, unless it is the second

@@ -1,6 +1,6 @@
 //! The services of `thevent`.
 
-ghost use Rattle.std.specs.Prelude.{◌≡◌, ◌≢◌, ◌<◌, None, is_some, true};
+ghost use Rattle.std.specs.Prelude.{◌≡◌, ◌<◌, None, is_some, true};
 ghost use Rattle.iop_base.specs.Output.{Gives};
 ghost use Rattle.iop_exec.specs.declared.cpu.Cpu.{Cpu as Processor};
 ghost use Rattle.iop_objects.specs.Objects.{object_of, waiting};
@@ -118,7 +118,6 @@ impl<R: Ready> Kernel<R> {
         requires sound { IsHeld R.stands self.old }
         requires live { is_some (object_of self.old.event_flags.live id) ≡ true }
         requires room { self.old.handler ≡ None → waiting self.old.event_flags < MOST_WAITERS }
-        requires asks { wanted.bits ≢ 0 }
         ensures { (k : State) → Holds R.stands self.old k
             → TakesCore R.stands (waits_for_bits (core k cpu.now) id wanted (caller_in k))
             result self.new cpu.now }

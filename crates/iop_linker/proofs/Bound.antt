@@ -1,5 +1,5 @@
 -- One stub that is bound, and those of a table one after another.
-use Rattle.std.proofs.Common.{◌≡◌, ℕ, suc, ◌+◌, ◌-◌, ◌*◌, ◌/◌, ◌%◌, ◌^◌, ◌<◌, ◌≤◌, min, max, true, false, Option, Some, None, List, [], ◌∷◌, ◌++◌, length, take, map, get_or, refl, ap, sym, ◌∙◌, arith, subst}
+use Rattle.std.proofs.Common.{◌≡◌, ℕ, suc, ◌+◌, ◌-◌, ◌*◌, ◌/◌, ◌%◌, ◌^◌, ◌<◌, ◌≤◌, min, max, true, false, Option, Some, None, List, [], ◌∷◌, ◌++◌, length, take, drop, map, get_or, refl, ap, sym, ◌∙◌, arith, subst}
 use Rattle.std.specs.List.{filter_map, cons_option, slice_get}
 use Rattle.std.proofs.lemmas.Bool.{ltb-false, le-ltb}
 use Rattle.std.proofs.lemmas.List.{length-append, length-take-le}
@@ -54,6 +54,7 @@ module _ (from len : ℕ) (memory : Memory) (stub : Stub)
         inside = omega (arith, h.before, h.inside);
         jump_back = words.jump;
         index = omega (arith, words.low, words.high, index);
+        index_small = omega (arith, words.low, words.high, index);
         target_aligned = target_aligned;
         target_near = target_near;
         apart = λ k d below.
@@ -71,21 +72,29 @@ module _ (from len : ℕ) (memory : Memory) (stub : Stub)
     jump = (stub_words memory.ram stub.at h.stands).jump;
   }
 
-  bind_readable : StaysReadable from len (stub.at + SIZE) memory (after_bind memory stub)
-  bind_readable =
+  pub bind_size : length (after_bind memory stub).ram ≡ length memory.ram
+  bind_size =
+      length-with_bytes memory.ram stub.at (bytes_of 4 (jump_word stub.target)) is_unbound.inside
+
+  pub bind_ahead : drop (stub.at + SIZE) (after_bind memory stub).ram
+      ≡ drop (stub.at + SIZE) memory.ram
+  bind_ahead =
       let bytes = bytes_of 4 (jump_word stub.target) in
       let front : length (take stub.at memory.ram ++ bytes) ≡ stub.at + length bytes =
       length-append (take stub.at memory.ram) bytes
       ∙ ap (λ n. n + length bytes)
       (length-take-le stub.at memory.ram (omega (arith, is_unbound.inside))) in
-      record {
-        size = length-with_bytes memory.ram stub.at bytes is_unbound.inside;
-        ahead = drop-append-drop (stub.at + length bytes) memory.ram
-            (take stub.at memory.ram ++ bytes) (stub.at + SIZE) (omega arith) front;
-        former = former_functions_stay from len memory stub is_unbound;
-      }
+      drop-append-drop (stub.at + length bytes) memory.ram (take stub.at memory.ram ++ bytes)
+      (stub.at + SIZE) (omega arith) front
 
-  bind_free : IsRestFree from len (stub.at + SIZE) (after_bind memory stub)
+  bind_readable : StaysReadable from len (stub.at + SIZE) memory (after_bind memory stub)
+  bind_readable = record {
+    size = bind_size;
+    ahead = bind_ahead;
+    former = former_functions_stay from len memory stub is_unbound;
+  }
+
+  pub bind_free : IsRestFree from len (stub.at + SIZE) (after_bind memory stub)
   bind_free =
       All-with_stub stub
       (λ other. meets (stub.at + SIZE) (from + len - (stub.at + SIZE)) other ≡ false)

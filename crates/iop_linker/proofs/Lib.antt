@@ -5,4 +5,5 @@ pub mod Tables
 pub mod Counted
 pub mod Linked
 pub mod Living
+pub mod Standing
 pub mod Soundness

@@ -1,5 +1,6 @@
 ghost use Rattle.std.specs.Prelude.{◌≡◌, ◌+◌, ◌%◌, ◌≤◌, length};
 ghost use Rattle.iop_stubs.specs.Binding.{IsSound};
+ghost use Rattle.iop_stubs.specs.Layers.{base_of};
 ghost use Rattle.iop_linker.specs.Linking.{linking, answer_of, after_linking, HasNoLiveStub};
 
 use crate::binding::bind_tables;
@@ -20,12 +21,15 @@ use iop_stubs::Guest;
 /// The refusals, in this order: `Table` exactly where a table is bad, `NoLibrary` exactly where a
 /// table's library is not registered, at the first such table, and `Room` exactly where more than
 /// `Stub::MOST_LIVE` stubs would be live. Nothing changes then.
+///
+/// Memory without the jumps of live stubs stays as it was.
 pub fn link(guest: &mut Guest, registry: &Registry, from: u32, len: u32) -> Result<(), LinkFault>
     requires aligned { from % 4 ≡ 0 }
     requires inside { from + len ≤ length guest.old.ram }
     requires apart { HasNoLiveStub guest.old from len }
     ensures result { result ≡ answer_of (linking guest.old registry.now from len) }
     ensures memory { guest.new ≡ after_linking guest.old (linking guest.old registry.now from len) }
+    ensures base { base_of guest.new ≡ base_of guest.old }
     ensures sound { IsSound guest.new }
 {
     let ram = guest.ram();

@@ -1,11 +1,11 @@
 -- What holds in each state that a machine reaches.
-use Rattle.std.proofs.Common.{◌⊎◌, inl, inr, ℕ, zero, suc, List, Contains, arith}
-use Rattle.std.proofs.lemmas.List.Elements.{Contains-append_left, Contains-append_right}
+use Rattle.std.proofs.Common.{◌⊎◌, inl, inr, ℕ, zero, suc, List, ◌++◌, Contains, arith}
+use Rattle.std.proofs.lemmas.List.Elements.{Contains-append_cases, Contains-append_left, Contains-append_right}
 use Rattle.iop_base.specs.Places.{IsRamSize}
 use Rattle.iop_script.specs.declared.raise.Raise.{Raise}
 use Rattle.iop_stubs.specs.declared.live_stub.Stub.{Stub}
 use Rattle.iop_machine.specs.Iop.{Transition, and_then}
-use Rattle.iop_machine.specs.Laws.{StaysSound, RunsStaySound, RunsKeepStubs, StubsLeaveWithTheirLine}
+use Rattle.iop_machine.specs.Laws.{IsTold, StaysSound, RunsStaySound, RunsKeepStubs, RunsTellStubs, StubsLeaveWithTheirLine}
 use Rattle.iop_machine.specs.Modules.{Module}
 use Rattle.iop_machine.specs.Stepping.{step, steps}
 use Rattle.iop_machine.specs.World.{World, beginning}
@@ -20,6 +20,41 @@ record Descends (w : World) (t : Transition World) : Type 0 where
   holds : Holds t.state
   live : (stub : Stub) → Contains t.state.iop.memory.live stub
       → Contains w.iop.memory.live stub ⊎ Contains t.bound stub
+  told : (stub : Stub) → Contains w.iop.memory.live stub ⊎ Contains t.bound stub
+      → Contains t.state.iop.memory.live stub ⊎ IsTold stub t.pieces
+
+-- a stub that was live after some steps, or is bound in the next, is live after it, or is told
+module _ (w : World) (t : Transition World) (h : Descends w t) (stub : Stub) where
+  abbrev after : Transition World
+  after = step t.state
+
+  abbrev IsLiveOrTold : Type 0
+  IsLiveOrTold =
+      Contains after.state.iop.memory.live stub ⊎ IsTold stub (t.pieces ++ after.pieces)
+
+  told_next : Contains t.state.iop.memory.live stub ⊎ Contains after.bound stub → IsLiveOrTold
+  told_next x = elim ((step_keeps t.state h.holds).stays.line stub x) [
+    | inl live ↦ inl live
+    | inr line ↦ inr (record {
+      moment = t.state.iop.kernel.clock;
+      line = Contains-append_right t.pieces after.pieces _ line;
+    })
+  ]
+
+  told_before : Contains w.iop.memory.live stub ⊎ Contains t.bound stub → IsLiveOrTold
+  told_before x = elim (h.told stub x) [
+    | inl live ↦ told_next (inl live)
+    | inr told ↦ inr (record {
+      moment = told.moment;
+      line = Contains-append_left t.pieces after.pieces _ told.line;
+    })
+  ]
+
+  told_then : Contains w.iop.memory.live stub ⊎ Contains (t.bound ++ after.bound) stub
+      → IsLiveOrTold
+  told_then (inl old) = told_before (inl old)
+  told_then (inr bound) = elim (Contains-append_cases t.bound after.bound stub bound)
+      [ inl one ↦ told_before (inr one) | inr one ↦ told_next (inr one) ]
 
 next_descends : (w : World) (t : Transition World) → Descends w t → Descends w (and_then t step)
 next_descends w t h =
@@ -34,15 +69,23 @@ next_descends w t h =
         ]
         | inr one ↦ inr (Contains-append_right t.bound after.bound stub one)
       ];
+      told = λ stub x. told_then w t h stub x;
     }
 
 descends : (w : World) (k : ℕ) → Holds w → Descends w (steps k w)
 unfolding steps
-descends w zero holds = record { holds = holds; live = λ stub x. inl x }
+descends w zero holds = record {
+  holds = holds;
+  live = λ stub x. inl x;
+  told = λ stub x. elim x [ inl old ↦ inl old | inr none ↦ absurd (omega (arith, none.1)) ];
+}
 descends w (suc k) holds = next_descends w (steps k w) (descends w k holds)
 
 pub runs_keep_stubs : RunsKeepStubs
 runs_keep_stubs = λ w k stub machine. (descends w k (holds_of machine)).live stub
+
+pub runs_tell_stubs : RunsTellStubs
+runs_tell_stubs = λ w k stub machine. (descends w k (holds_of machine)).told stub
 
 -- what holds of all states that it reaches
 reached : (size : ℕ) (modules : List Module) (events : List Raise) (k : ℕ) → IsRamSize size

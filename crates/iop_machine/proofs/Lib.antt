@@ -8,6 +8,7 @@ mod Stepping
 pub mod Reaching
 mod CallsLeft
 mod LoadingLands
+mod LoadingLines
 mod Keeping
 mod Moving
 pub mod KeepingMachine
@@ -30,6 +31,8 @@ mod Stubs
 mod LoadingLemmas
 pub mod Landing
 mod Strict
+mod Switching
+mod ObjectsLeft
 mod EventsTaken
 mod EventsRaised
 mod Histories

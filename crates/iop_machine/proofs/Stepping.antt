@@ -211,3 +211,13 @@ executes_only _ e = absurd (cc e)
 -- and so where a step executes one
 pub executes_so : (w : World) → executes w ≡ true → IsToExecute w.iop
 executes_so w e = executes_only (turn_is w) (sym (executes_are w) ∙ e)
+
+-- which was booted
+booted_only : {w : World} {t : Turn} → IsTurn w t → is_execution t ≡ true → w.is_new ≡ false
+booted_only (execution goes looks) e = goes.booted
+booted_only _ e = absurd (cc e)
+
+pub executes_booted : (w : World) → executes w ≡ true → booted w.iop ≡ w
+executes_booted w e =
+    ap (λ new. record { is_new = new; iop = w.iop })
+    (sym (booted_only (turn_is w) (sym (executes_are w) ∙ e)))

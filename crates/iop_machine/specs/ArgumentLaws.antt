@@ -1,13 +1,23 @@
--- What the argument block says to the module that reads it, as C's `main` is handed its arguments: the
--- words' addresses, of which a word 0 is the end, and each word as a string, of which a zero byte is the end.
--- Where they stand is this project's own profile.
+-- With which registers a module begins, and what the argument block says to the module that reads it, as
+-- C's `main` is handed its arguments: the words' addresses, of which a word 0 is the end, and each word as a
+-- string, of which a zero byte is the end. Where they stand is this project's own profile.
 use Rattle.std.specs.Prelude.{◌≡◌, ℕ, ◌+◌, ◌*◌, ◌<◌, ◌≤◌, Some, List, [], ◌∷◌, ◌++◌, slice_get, slice_index, length, take, drop}
-use Rattle.iop_base.specs.Numbers.{number_at}
+use Rattle.iop_base.specs.Numbers.{number_at, wrapped}
 use Rattle.iop_base.specs.Places.{IsRamSize}
-use Rattle.iop_machine.specs.declared.arguments.TheConstants.{ARGUMENTS, ARGUMENTS_LEN, MOST_WORDS, MOST_WORD_BYTES}
+use Rattle.iop_thread.specs.FirstRegisters.{BeginsWith}
+use Rattle.iop_modload.specs.declared.loaded.Loaded.{Loaded}
+use Rattle.iop_machine.specs.declared.arguments.TheConstants.{ARGUMENTS, ARGUMENTS_LEN, LOADER_STACK_TOP, MODULE_RETURN, MOST_WORDS, MOST_WORD_BYTES}
 use Rattle.iop_machine.specs.Iop.{Iop}
 use Rattle.iop_machine.specs.Loading.{passes}
-use Rattle.iop_machine.specs.Modules.{argument_block, strings}
+use Rattle.iop_machine.specs.Modules.{argument_block, strings, module_start}
+
+-- a module begins at its entry with the number of its words, the place of their addresses, its `$gp`, the
+-- loader's stack, and the place where a module returns to
+abbrev pub ModulesBeginWith : Type 0
+ModulesBeginWith =
+    (m : Loaded) (words : ℕ)
+    → BeginsWith (module_start m words) (wrapped (m.base + m.entry)) words ARGUMENTS
+    (wrapped (m.base + m.gp)) LOADER_STACK_TOP MODULE_RETURN
 
 -- a word and the zero byte that ends it stand at an address of the argument block
 pub record HasString (ram : List ℕ) (at : ℕ) (word : List ℕ) : Type 0 where

@@ -7,7 +7,7 @@ use Rattle.iop_base.specs.declared.guest_fault.GuestFault.TheVariants.{BranchInS
 use Rattle.iop_base.specs.declared.stop.Stop.{Stop}
 use Rattle.iop_base.specs.declared.stop.Stop.TheVariants.{Quiet}
 use Rattle.iop_exec.specs.declared.cpu.Cpu.{Cpu}
-use Rattle.iop_exec.specs.Row.{Row, Goes, Faults, Storing, row}
+use Rattle.iop_exec.specs.Row.{Row, Goes, Faults, row}
 use Rattle.iop_script.specs.declared.raise.Raise.{Raise}
 use Rattle.iop_stubs.specs.Binding.{IsSound}
 use Rattle.iop_stubs.specs.Stubs.{Memory, stub_line}
@@ -17,6 +17,7 @@ use Rattle.iop_machine.specs.Histories.{calls_in}
 use Rattle.iop_machine.specs.Events.{CanCome}
 use Rattle.iop_machine.specs.Looking.{takes_events, next_coming, at_moment}
 use Rattle.iop_machine.specs.Running.{Ends}
+use Rattle.iop_machine.specs.Services.{faults_with}
 use Rattle.iop_machine.specs.Stepping.{step, steps, executes, most_steps, run_of}
 use Rattle.iop_machine.specs.World.{World, booted, beginning}
 use Rattle.iop_kernel.specs.Histories.{AreCounted, AreDelivered}
@@ -144,6 +145,19 @@ RunsKeepStubs =
     → Contains (steps k w).state.iop.memory.live stub
     → Contains w.iop.memory.live stub ⊎ Contains (steps k w).bound stub
 
+-- the line of a stub is one of these pieces, at some moment
+pub record IsTold (stub : Stub) (pieces : List Piece) : Type 0 where
+  pub moment : ℕ
+  pub line : Contains pieces (stub_line moment stub)
+
+-- a stub that was live before some steps, or that they bind, is live after them, or they have told
+-- that it was stored into
+abbrev pub RunsTellStubs : Type 0
+RunsTellStubs =
+    (w : World) (k : ℕ) (stub : Stub) → IsMachine w
+    → Contains w.iop.memory.live stub ⊎ Contains (steps k w).bound stub
+    → Contains (steps k w).state.iop.memory.live stub ⊎ IsTold stub (steps k w).pieces
+
 -- after a live stub, which is not executed in a delay slot, the instruction behind it is executed
 abbrev pub behind_stub : Iop → Stub → Iop
 behind_stub s stub = record s {
@@ -151,19 +165,33 @@ behind_stub s stub = record s {
   cpu = record s.cpu { pc = s.cpu.next; next = stub_target s.cpu.pc stub; in_slot = true };
 }
 
--- first that one, and after it, if it goes on, the one at the target of the stub's function: no
--- delivery and no dispatch comes between them
-pub record IsFollowed (s : Iop) (stub : Stub) : Type 0 where
-  pub slot : (step (booted s)).state ≡ booted (behind_stub (takes_events s) stub)
-  pub target : (after : Cpu) (storing : Option Storing)
-      → row s.memory.ram (behind_stub s stub).cpu ≡ Goes after storing
-      → (steps 2 (booted s)).state.iop.cpu.pc ≡ stub_target s.cpu.pc stub
+-- the processor at a stub's function, with the registers that it had at the stub
+abbrev pub at_function : Cpu → Stub → Cpu
+at_function c stub =
+    let target = stub_target c.pc stub in
+    record c { pc = target; next = wrapped (target + 4); in_slot = false }
 
+-- first the stub's second word, which changes nothing, and after it the one at the target of its
+-- function: no service is called, and no delivery and no dispatch comes between them
+pub record IsFollowed (w : World) (stub : Stub) : Type 0 where
+  pub slot : (step w).state ≡ booted (behind_stub (takes_events w.iop) stub)
+  pub target : (steps 2 w).state.iop.cpu ≡ at_function w.iop.cpu stub
+  pub memory : (steps 2 w).state.iop.memory ≡ w.iop.memory
+
+-- what the next step does where it executes a live stub
+pub record ExecutesStub (w : World) (stub : Stub) : Type 0 where
+  pub goes : w.iop.cpu.in_slot ≡ false → IsFollowed w stub
+  -- in a delay slot it faults, and nothing else changes
+  pub faults : w.iop.cpu.in_slot ≡ true
+      → step w ≡ silent (booted (faults_with (takes_events w.iop) BranchInSlot))
+
+-- in each state that a run reaches, and for each stub that is live in it
 abbrev pub StubsAreFollowed : Type 0
 StubsAreFollowed =
-    (s : Iop) (stub : Stub) → executes (booted s) ≡ true → IsSound s.memory
-    → Contains s.memory.live stub → phys (length s.memory.ram) s.cpu.pc ≡ Some stub.at
-    → s.cpu.in_slot ≡ false → IsFollowed s stub
+    (size : ℕ) (modules : List Module) (events : List Raise) (k : ℕ) (stub : Stub) → IsRamSize size
+    → let w = (steps k (beginning size modules events)).state in
+    executes w ≡ true → Contains w.iop.memory.live stub
+    → phys (length w.iop.memory.ram) w.iop.cpu.pc ≡ Some stub.at → ExecutesStub w stub
 
 -- the step leaves the kernel and the processor so, and all else as the script's events that are due
 -- left it; it tells this line alone, and binds no stub

@@ -17,3 +17,5 @@ pub mod Standing
 pub mod ArgumentLaws
 pub mod AreaLaws
 pub mod ModulesLeft
+pub mod SwitchLaws
+pub mod ObjectLaws

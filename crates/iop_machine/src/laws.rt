@@ -1,10 +1,12 @@
 //! Facts about the definitions that no call computes. Each is the contract of a function that does
 //! nothing.
 
-ghost use Rattle.iop_machine.specs.ArgumentLaws.{ArgumentsAreRead};
+ghost use Rattle.iop_machine.specs.ArgumentLaws.{ArgumentsAreRead, ModulesBeginWith};
 ghost use Rattle.iop_machine.specs.AreaLaws.{KernelAreaIsRead, BootingKeepsKernel};
 ghost use Rattle.iop_machine.specs.EventLaws.{StepsTakeTheirEvents, EventsRaiseTheirLines, NextComingIsLeast};
-ghost use Rattle.iop_machine.specs.Laws.{StepsCompose, RunsCompose, RunsAreDetermined, OverStays, RunsBeginAsMachines, RunsStayMachines, RunsEnd, RunsAreComputed, StubsReachTheirFunctions, RunsStaySound, StubsLeaveWithTheirLine, RunsKeepStubs, StubsAreFollowed, RunsAreStrict, RunsAreOnTime, RunsAreAwake, RunsKeepEvents, RunsAreCounted, RunsAreDelivered};
+ghost use Rattle.iop_machine.specs.ObjectLaws.{StepsKeepObjects};
+ghost use Rattle.iop_machine.specs.SwitchLaws.{RunsSwitchByDispatch, RunningThreadsWereTaken};
+ghost use Rattle.iop_machine.specs.Laws.{StepsCompose, RunsCompose, RunsAreDetermined, OverStays, RunsBeginAsMachines, RunsStayMachines, RunsEnd, RunsAreComputed, StubsReachTheirFunctions, RunsStaySound, StubsLeaveWithTheirLine, RunsKeepStubs, RunsTellStubs, StubsAreFollowed, RunsAreStrict, RunsAreOnTime, RunsAreAwake, RunsKeepEvents, RunsAreCounted, RunsAreDelivered};
 
 /// The steps of a run are those of its first part, and then those of the rest.
 pub fn steps_compose()
@@ -75,6 +77,13 @@ pub fn arguments_are_read()
     ensures { ArgumentsAreRead }
 {}
 
+/// A module begins at its entry with the number of its words in `$a0`, where their addresses stand
+/// in `$a1`, its `$gp`, the loader's stack in `$sp`, the module's return in `$ra`, and zero in all
+/// other registers.
+pub fn modules_begin_with()
+    ensures { ModulesBeginWith }
+{}
+
 /// In each state that the machine reaches from its beginning memory is sound, the blocks are those
 /// of that memory, each live stub is one that a linking has bound on the way, threads stand where
 /// their states say, no wait is overdue, and outside a delay slot the next instruction of each is
@@ -89,13 +98,21 @@ pub fn stubs_leave_with_their_line()
     ensures { StubsLeaveWithTheirLine }
 {}
 
+/// A stub that was live before some steps, or was bound in them, is live after them, or the pieces
+/// of these steps have its line.
+pub fn runs_tell_stubs()
+    ensures { RunsTellStubs }
+{}
+
 /// A stub that is live after some steps was live before them, or was bound in them.
 pub fn runs_keep_stubs()
     ensures { RunsKeepStubs }
 {}
 
-/// After a live stub that a thread or a handler executes, the instruction behind it is executed,
-/// and then the one at the target of the stub's function: nothing is delivered in between.
+/// In each state that a run reaches, a live stub that a thread or a handler executes goes to its
+/// function: its second word is executed, which changes nothing, and then the instruction at the
+/// function, with the registers and the memory of before. No service is called and nothing is
+/// delivered or dispatched in between. In a delay slot the stub faults.
 pub fn stubs_are_followed()
     ensures { StubsAreFollowed }
 {}
@@ -106,6 +123,18 @@ pub fn stubs_are_followed()
 /// executes an instruction while a better one is ready and may run.
 pub fn runs_are_strict()
     ensures { RunsAreStrict }
+{}
+
+/// In each state that a run reaches, a thread that runs behind the next step ran before it, or the
+/// step dispatches it and tells its `run` line; and a step that dispatches none gives no such line.
+pub fn runs_switch_by_dispatch()
+    ensures { RunsSwitchByDispatch }
+{}
+
+/// Each thread that runs in a state of a run was dispatched by one of the steps before it, and has
+/// run since then.
+pub fn running_threads_were_taken()
+    ensures { RunningThreadsWereTaken }
 {}
 
 /// Where a thread executes an instruction, outside a delay slot and while interrupts are on, no
@@ -144,6 +173,12 @@ pub fn next_coming_is_least()
     ensures { NextComingIsLeast }
 {}
 
+/// A step that calls no service of a kind's library leaves what is known of each object of that
+/// kind, and makes and deletes none: of the threads that wait, it takes some out or moves them.
+pub fn steps_keep_objects()
+    ensures { StepsKeepObjects }
+{}
+
 /// In each state that a run reaches, the count of each live semaphore is its first count, and one
 /// more for each call so far that signalled it where no thread waited, and one less for each that
 /// took one; and it is at most the semaphore's most.
@@ -153,7 +188,9 @@ pub fn runs_are_counted()
 
 /// In each state that a run reaches, what the calls so far have sent to a live mailbox was received
 /// from it or is queued in it, each message as often. Where messages are taken in order of their
-/// arrival, those that were received are the first that were sent, in that order.
+/// arrival, those that were received are the first that were sent, in that order. A message was
+/// received where memory got it: it is the word that stands, after the call, at the place of the
+/// caller or of the thread that the call woke.
 pub fn runs_are_delivered()
     ensures { RunsAreDelivered }
 {}

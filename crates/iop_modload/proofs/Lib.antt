@@ -5,5 +5,6 @@ pub mod Keeping
 pub mod Lending
 pub mod Placed
 pub mod LoadingLemmas
+pub mod Lines
 pub mod Standing
 pub mod FinishingLemmas

@@ -4,4 +4,12 @@ pub mod WordLemmas
 pub mod Fields
 pub mod LineLemmas
 pub mod StatementLaws
+pub mod Decimals
+pub mod LinesWritten
 pub mod ScriptLaws
+pub mod PartsJoined
+pub mod BadLines
+pub mod FirstBad
+pub mod EventWriting
+pub mod ArgsWriting
+pub mod Written

@@ -121,6 +121,7 @@ bind_sound old ram live stub ram_is live_is may h =
       inside = omega (arith, may.inside, length-with_bytes old.ram stub.at bytes fits);
       jump = bytes_inside old.ram stub.at bytes fits;
       index = number_at_behind old.ram stub.at bytes fits (stub.at + 4) 4 (omega arith) ∙ may.index;
+      index_small = may.index_small;
       target_aligned = may.target_aligned;
       target_near = may.target_near;
     } in

@@ -47,6 +47,7 @@ module _ (memory : Memory) (h : IsSound memory) where
           inside = omega (arith, b.inside, same);
           jump_back = word k d below;
           index = index k d below ∙ b.index;
+          index_small = b.index_small;
           target_aligned = b.target_aligned;
           target_near = b.target_near;
         };
@@ -143,6 +144,7 @@ module _ (layers : Layers) (h : AreSound layers) where
           inside = omega (arith, b.inside, same);
           jump = word k d below;
           index = index k d below ∙ b.index;
+          index_small = b.index_small;
           target_aligned = b.target_aligned;
           target_near = b.target_near;
         };

@@ -57,6 +57,7 @@ module _ (memory : List ℕ) (p : ℕ) (bytes : List ℕ) (inside : p + length b
       inside = omega (arith, h.inside, length-with_bytes memory p bytes inside);
       jump = first_word_stays stub.at e ∙ h.jump;
       index = word_stays stub.at (stub.at + 4) (omega arith) (omega arith) e ∙ h.index;
+      index_small = h.index_small;
       target_aligned = h.target_aligned;
       target_near = h.target_near;
     }

@@ -31,6 +31,7 @@ pub record MayBind (memory : Memory) (stub : Stub) : Type 0 where
   pub inside : stub.at + SIZE ≤ length memory.ram
   pub jump_back : number_at memory.ram stub.at 4 ≡ JUMP_BACK
   pub index : number_at memory.ram (stub.at + 4) 4 ≡ STUB_INDEX + stub.index
+  pub index_small : stub.index < 2 ^ 16
   pub target_aligned : stub.target % 4 ≡ 0
   pub target_near : stub.target < 2 ^ 28
   -- no live stub overlaps it
@@ -43,6 +44,7 @@ pub record IsBound (ram : List ℕ) (stub : Stub) : Type 0 where
   pub inside : stub.at + SIZE ≤ length ram
   pub jump : take 4 (drop stub.at ram) ≡ bytes_of 4 (jump_word stub.target)
   pub index : number_at ram (stub.at + 4) 4 ≡ STUB_INDEX + stub.index
+  pub index_small : stub.index < 2 ^ 16
   pub target_aligned : stub.target % 4 ≡ 0
   pub target_near : stub.target < 2 ^ 28
 

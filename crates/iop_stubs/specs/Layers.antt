@@ -43,6 +43,7 @@ pub record IsUnpatched (base : List ℕ) (stub : Stub) : Type 0 where
   pub inside : stub.at + SIZE ≤ length base
   pub jump_back : take 4 (drop stub.at base) ≡ bytes_of 4 JUMP_BACK
   pub index : number_at base (stub.at + 4) 4 ≡ STUB_INDEX + stub.index
+  pub index_small : stub.index < 2 ^ 16
   pub target_aligned : stub.target % 4 ≡ 0
   pub target_near : stub.target < 2 ^ 28
 

@@ -1,10 +1,15 @@
 pub mod BestReady
+pub mod Changes
+pub mod ChangesStarting
+pub mod ChangesWaking
+pub mod Changing
 pub mod ChoosingThreads
 pub mod Coming
 pub mod DispatchSettling
 pub mod Dispatching
 pub mod EachThread
 pub mod FindingThreads
+pub mod FirstRegisters
 pub mod Handling
 pub mod Holding
 pub mod KeptRegisters
@@ -23,3 +28,5 @@ pub mod WaitingOn
 pub mod Waits
 pub mod WaitsStarting
 pub mod Waking
+pub mod Woken
+pub mod WokenInTurn

@@ -14,7 +14,7 @@ use Rattle.iop_thread.proofs.Moving.{goes_aside, goes_last, placed_in_same_state
 use Rattle.iop_thread.proofs.FindingThreads.{Finds, finds_by_id, running_thread_runs, either_way}
 
 -- a suspended thread is neither ready nor running
-suspended_not_ready : (registers : Cpu) (state : State)
+pub suspended_not_ready : (registers : Cpu) (state : State)
     → is_ready (suspended_state registers state) ≡ false
 suspended_not_ready registers Dormant = refl
 suspended_not_ready registers Running = refl

@@ -1,3 +1,5 @@
+pub mod Changes
+pub mod FirstRegisters
 pub mod Laws
 pub mod Moves
 pub mod Operations
@@ -7,3 +9,4 @@ pub mod States
 pub mod ThreadPlaces
 pub mod ThreadTable
 pub mod Waits
+pub mod Waking

@@ -3,6 +3,9 @@
 
 ghost use Rattle.iop_thread.specs.Laws.{OperationsKeepPlaces, OperationsKeepStraight, OperationsKeepSteady, OperationsKeepSleepers, DispatchIsStrict};
 ghost use Rattle.iop_thread.specs.Waits.{OperationsMoveWaits};
+ghost use Rattle.iop_thread.specs.Changes.{OperationsChangeOne};
+ghost use Rattle.iop_thread.specs.Waking.{WakingEndsOneWait};
+ghost use Rattle.iop_thread.specs.FirstRegisters.{FirstRegistersAreRead};
 
 /// Each thread that is ready is once in the ready list, which has no other, the one that runs is in
 /// the state of running, and no two threads have one id: at first, and after each operation.
@@ -32,6 +35,26 @@ pub fn operations_keep_sleepers()
 /// from the call that blocks it until it is woken or terminated; a wakeup ends sleep alone.
 pub fn operations_move_waits()
     ensures { OperationsMoveWaits }
+{}
+
+/// Each operation changes one thread, or none: what it becomes, where it stands among the ready
+/// ones, and that all others, the rest of the ready list and the next id stay. A creation takes the
+/// next id; no id is given again.
+pub fn operations_change_one()
+    ensures { OperationsChangeOne }
+{}
+
+/// A wait that ends: the thread is ready behind all others, or suspended alone, with the answer in
+/// `$v0`; all others, which one runs and the next id stay. A wakeup ends sleep so, with the answer
+/// 0.
+pub fn waking_ends_one_wait()
+    ensures { WakingEndsOneWait }
+{}
+
+/// A thread that is started begins at its entry with its argument in `$a0`, its `$gp`, `$sp` 16
+/// bytes below its stack's end, the thread's return in `$ra`, and zero in all other registers.
+pub fn first_registers_are_read()
+    ensures { FirstRegistersAreRead }
 {}
 
 /// The thread that is dispatched is the first of the best priority, and better than the one that ran.

@@ -1,2 +1,3 @@
 pub mod Sending
 pub mod Leaving
+pub mod Digits

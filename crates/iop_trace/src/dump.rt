@@ -7,7 +7,8 @@ ghost use Rattle.iop_base.specs.Text.{hex_digits};
 ghost use Rattle.iop_trace.specs.Dumps.{dump_line};
 
 use arrayvec::ArrayVec;
-use iop_text::{append, append_hex, append_hex_digits};
+use hex::encode_to_slice;
+use iop_text::{append, append_hex};
 
 /// How many bytes of memory a line of a dump has at most.
 pub const BYTES_IN_LINE: usize = 16;
@@ -17,13 +18,15 @@ pub const DUMP_ROOM: usize = 64;
 
 /// Appends the two digits of each byte, lower-case and hexadecimal.
 fn append_byte_digits(text: &mut ArrayVec<u8, DUMP_ROOM>, bytes: &[u8])
-    requires { array_vec_len text.old + 2 * length bytes.now ≤ DUMP_ROOM }
+    requires few { length bytes.now ≤ BYTES_IN_LINE }
+    requires room { array_vec_len text.old + 2 * length bytes.now ≤ DUMP_ROOM }
     ensures bytes { text.new.items ≡ text.old.items ++ flat_map (hex_digits 2) bytes.now }
     ensures long { array_vec_len text.new ≡ array_vec_len text.old + 2 * length bytes.now }
 {
-    for byte in bytes {
-        append_hex_digits(text, u32::from(*byte), 2);
-    }
+    let mut room = [0; 2 * BYTES_IN_LINE];
+    let digits = &mut room[..2 * bytes.len()];
+    let _ = encode_to_slice(bytes, digits);
+    append(text, digits);
 }
 
 /// The line of a dump for bytes of memory that begin at an address, at most 16. It has the address

@@ -47,6 +47,39 @@ impl Sink for Page {
     }
 }
 
+/// Takes whole pieces, and counts the writes.
+#[derive(Drop)]
+struct Counter {
+    bytes: Vec<u8>,
+    writes: u32,
+    faults: u64,
+}
+
+impl Counter {
+    fn new(alloc: Global) -> Self {
+        Counter {
+            bytes: Vec::new(alloc),
+            writes: 0,
+            faults: 0,
+        }
+    }
+}
+
+impl Sink for Counter {
+    ghost use Rattle.std.specs.Prelude.{Some};
+
+    ghost told = { λ sink. record { taken = Some sink.bytes.items; faults = sink.faults } };
+
+    fn write(&mut self, piece: &[u8]) -> Result<usize, Failed> {
+        self.writes = self.writes.saturating_add(1);
+        if piece.is_empty() || self.bytes.extend_from_slice(piece).is_ok() {
+            return Ok(piece.len());
+        }
+        self.faults = self.faults.saturating_add(1);
+        Err(Failed)
+    }
+}
+
 /// Gives a line to whatever takes lines.
 fn give_line<L: Lines>(lines: &mut L, t: u64, line: Line)
     ensures { Gives (L.output lines.old) (L.output lines.new) (Traced (line_bytes t line) ∷ []) }
@@ -136,6 +169,43 @@ fn stops_at_a_failing_write(rt: HostRuntime) -> Result<(), Fail> {
     assert_eq!(rt; console.bytes.as_slice(), b"boot".as_slice());
     assert_eq!(rt; trace.bytes.as_slice(), b"0 run 1\n42 l".as_slice());
     assert_eq!(rt; trace.faults, 1);
+    Ok(())
+}
+
+#[test]
+fn writes_each_text_and_line_once(rt: HostRuntime) -> Result<(), Fail> {
+    let mut console = Counter::new(rt.alloc());
+    let mut trace = Counter::new(rt.alloc());
+    let mut out = Out::new(&mut console, &mut trace);
+    out.text(b"boot ");
+    out.line(0, Line::Run(1));
+    out.text(b"");
+    out.text(b"done");
+    out.line(42, Line::Irq(0));
+    out.line(43, Line::End(Stop::Quiet));
+    assert!(rt; !out.failed());
+    assert_eq!(rt; console.bytes.as_slice(), b"boot done".as_slice());
+    assert_eq!(rt; console.writes, 2);
+    let lines = b"0 run 1\n42 line 0\n43 end quiet\n";
+    assert_eq!(rt; trace.bytes.as_slice(), lines.as_slice());
+    assert_eq!(rt; trace.writes, 3);
+    Ok(())
+}
+
+#[test]
+fn stops_at_a_failing_second_text(rt: HostRuntime) -> Result<(), Fail> {
+    let mut console = Page::new(rt.alloc(), 6);
+    let mut trace = Page::new(rt.alloc(), 100);
+    let mut out = Out::new(&mut console, &mut trace);
+    out.text(b"boot");
+    out.line(0, Line::Run(1));
+    out.text(b"more");
+    assert!(rt; out.failed());
+    out.line(1, Line::Run(2));
+    out.text(b"last");
+    assert_eq!(rt; console.bytes.as_slice(), b"bootmo".as_slice());
+    assert_eq!(rt; console.faults, 1);
+    assert_eq!(rt; trace.bytes.as_slice(), b"0 run 1\n".as_slice());
     Ok(())
 }
 

@@ -37,7 +37,7 @@ pub(crate) fn text_of(alloc: Global, irx: &Irx<'_>) -> Result<Text, AllocError>
 
 /// Finds the place of the bad import table of a module's text, as it stands in the file: that at
 /// which the linker's search stops. The loader links the text once it is relocated, so it refuses
-/// such a module, unless a relocation entry changes these words.
+/// such a module, unless a relocation entry changes a word of the table, or one in front of it.
 pub fn bad_import(alloc: Global, irx: &Irx<'_>) -> Result<Option<u32>, AllocError>
     requires { length irx.now.image ≤ MOST_IMAGE }
     ensures { IfOk result (λ place. place ≡ bad_import irx.now) }

@@ -1,13 +1,11 @@
 -- An event flag while the threads whose conditions hold are taken out, one after the other.
-use Rattle.std.proofs.Common.{◌≡◌, ℕ, Option, Some, None, [], option_map, refl, ap, subst, ◌∙◌}
+use Rattle.std.proofs.Common.{◌≡◌, ℕ, Option, Some, None, [], option_map, refl, ap, ◌∙◌}
 use Rattle.std.specs.Prelude.{bit_or}
-use Rattle.iop_event.specs.EventFlags.{EventFlags, AskForBits, meets_by, meets_it, meets_next, sets, sets_it, with_pattern}
-use Rattle.iop_event.specs.Laws.{AskBits}
+use Rattle.iop_event.specs.EventFlags.{EventFlags, meets_by, meets_it, meets_next, sets, sets_it, with_pattern}
 use Rattle.iop_event.specs.WakeConditions.{settles, meets, met_by, is_met, pattern_after}
 use Rattle.iop_event.specs.declared.event_flag.EventFlag.{EventFlag}
 use Rattle.iop_event.specs.declared.met.Met.{Met}
 use Rattle.iop_event.specs.declared.wanted.Wanted.{Wanted}
-use Rattle.iop_event.proofs.Asking.{AskBits-waiters_of, others_ask}
 use Rattle.iop_event.proofs.Settling.{Waiting, settles-taken, settles-none}
 use Rattle.iop_objects.specs.Objects.{object_of, state_of, waiters_in, waiters_of, changes, takes, with_state}
 use Rattle.iop_objects.specs.Queue.{Choice, chooses_where}
@@ -61,7 +59,6 @@ module _ (s : EventFlags) (id : ℕ) (o : LiveFlag) where
       pub pattern_then : ℕ
       pub waiters_then : Waiting
       pub left : t ≡ left_with pattern_then waiters_then
-      pub asks : AskBits waiters_then
       pub settled : settles pattern waiters ≡ meets one (settles pattern_then waiters_then)
 
     module _ (u : EventFlags) (pattern : ℕ) (waiters : Waiting)
@@ -94,13 +91,13 @@ module _ (s : EventFlags) (id : ℕ) (o : LiveFlag) where
           (λ u. record u { state = now }) (λ u. refl) s
 
       -- by what is chosen: one is met
-      met_by_choice : AskBits waiters → (c : Option (Choice (Waiter Wanted)))
+      met_by_choice : (c : Option (Choice (Waiter Wanted)))
           → chooses_where (is_met pattern) waiters ≡ c → (t : EventFlags) (one : Met)
           → Some one ≡ (meets_next u id).0 → t ≡ (meets_next u id).1
           → IsMetNext t pattern waiters one
-      met_by_choice asks None chosen t one answer is =
+      met_by_choice None chosen t one answer is =
           let told = ap (λ r. r.0) (next_is None chosen) in cc
-      met_by_choice asks (Some c) chosen t one answer is =
+      met_by_choice (Some c) chosen t one answer is =
           let did = next_is (Some c) chosen in
           let told = answer ∙ ap (λ r. r.0) did in
           let taken : met_by pattern c.one.item ≡ one = cc in
@@ -109,8 +106,7 @@ module _ (s : EventFlags) (id : ℕ) (o : LiveFlag) where
             pattern_then = pattern_then;
             waiters_then = c.others;
             left = is ∙ ap (λ r. r.1) did ∙ chosen_left c;
-            asks = others_ask (is_met pattern) waiters asks c chosen;
-            settled = settles-taken pattern waiters asks c chosen
+            settled = settles-taken pattern waiters c chosen
                 ∙ ap (λ m. meets m (settles pattern_then c.others)) taken;
           }
 
@@ -125,19 +121,13 @@ module _ (s : EventFlags) (id : ℕ) (o : LiveFlag) where
           let told = answer ∙ ap (λ r. r.0) (next_is (Some c) chosen) in absurd (cc told)
 
       -- one is met
-      pub flag_met : AskBits waiters → (t : EventFlags) (one : Met)
+      pub flag_met : (t : EventFlags) (one : Met)
           → Some one ≡ (meets_next u id).0 → t ≡ (meets_next u id).1
           → IsMetNext t pattern waiters one
-      flag_met asks = met_by_choice asks (chooses_where (is_met pattern) waiters) refl
+      flag_met = met_by_choice (chooses_where (is_met pattern) waiters) refl
 
       -- none is: all have settled
       pub flag_settled : (t : EventFlags) → None ≡ (meets_next u id).0 → t ≡ (meets_next u id).1
           → (t ≡ here)
           × (settles pattern waiters ≡ record { met = []; waiters = waiters; pattern = pattern })
       flag_settled = none_by_choice (chooses_where (is_met pattern) waiters) refl
-
-    -- those that wait for it ask for bits
-    pub waiters_ask : AskForBits s → AskBits o.waiters
-    waiters_ask asks =
-        subst (λ (found : Option LiveFlag). AskBits (waiters_in found)) live
-        (AskBits-waiters_of s asks id)

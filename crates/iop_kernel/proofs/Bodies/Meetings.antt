@@ -7,7 +7,6 @@ use Rattle.iop_base.specs.Piece.{Piece}
 use Rattle.iop_base.specs.declared.code.TheConstants.Code.{OK}
 use Rattle.iop_base.proofs.Giving.{gives_none, gives_then}
 use Rattle.iop_event.specs.EventFlags.{EventFlags, meets_next, sets, sets_it, with_pattern}
-use Rattle.iop_event.specs.Laws.{AskBits}
 use Rattle.iop_event.specs.WakeConditions.{Settled, settles}
 use Rattle.iop_event.specs.declared.event_flag.EventFlag.{EventFlag}
 use Rattle.iop_event.specs.declared.met.Met.{Met}
@@ -74,7 +73,6 @@ module _ {R : Type 0} (stands_for : R → List Entry → Type 0) (b : Board) (id
     pub pattern : ℕ
     pub waiters : Waiting
     pub left : p.event_flags ≡ left_with flags id object pattern waiters
-    pub asks : AskBits waiters
     pub kernel : Kernel
     pub holds : Holds stands_for p kernel
     -- what was given
@@ -88,9 +86,9 @@ module _ {R : Type 0} (stands_for : R → List Entry → Type 0) (b : Board) (id
   pub meeting_begins : (o : LiveFlag) → object_of flags.live id ≡ Some o
       → HaveOwnIds flags.live → (p : Program R)
       → Holds stands_for p (record b.core.kernel { event_flags = p.event_flags })
-      → p.event_flags ≡ (sets flags id bits).1 → AskBits o.waiters → (a : Output)
+      → p.event_flags ≡ (sets flags id bits).1 → (a : Output)
       → IsMeeting p b.memory a a
-  meeting_begins o live ids p h is asks a =
+  meeting_begins o live ids p h is a =
       let done = settles (bit_or o.state.pattern bits) o.waiters in
       let last : left_with flags id o done.pattern done.waiters
       ≡ changes flags o.id (settled_to done) =
@@ -103,7 +101,6 @@ module _ {R : Type 0} (stands_for : R → List Entry → Type 0) (b : Board) (id
         pattern = bit_or o.state.pattern bits;
         waiters = o.waiters;
         left = is ∙ flag_set flags id o live ids bits;
-        asks = asks;
         kernel = record b.core.kernel { event_flags = p.event_flags };
         holds = h;
         pieces = [];
@@ -134,7 +131,7 @@ module _ {R : Type 0} {stands_for : R → List Entry → Type 0} {b : Board} {id
     next_met : IsMetNext b.core.kernel.event_flags id h.object h.live t h.pattern h.waiters one
     next_met =
         flag_met b.core.kernel.event_flags id h.object h.live p.event_flags h.pattern h.waiters
-        h.left h.asks t one answer is
+        h.left t one answer is
 
     -- one more is
     pub meeting_goes_on : (now : Program R) (later : Memory) (more : Output)
@@ -154,7 +151,6 @@ module _ {R : Type 0} {stands_for : R → List Entry → Type 0} {b : Board} {id
           pattern = next_met.pattern_then;
           waiters = next_met.waiters_then;
           left = sym woken.event_flags ∙ next_met.left;
-          asks = next_met.asks;
           kernel = kernel;
           holds = woken;
           pieces = h.pieces ++ lines;

@@ -25,12 +25,12 @@ use Rattle.iop_thread.specs.declared.kind.Kind.TheVariants.{Semaphore, EventFlag
 use Rattle.iop_thread.specs.declared.thread.TheConstants.{LOADER}
 use Rattle.iop_kernel.specs.Boards.{Board}
 use Rattle.iop_kernel.specs.Handlers.{gives_result, returns_handler}
-use Rattle.iop_kernel.specs.Histories.{Called, succeeds, has_waiter, received_by, answer_of, called_by, called_of, called}
+use Rattle.iop_kernel.specs.Histories.{Called, answer_of, succeeds_by, call_with, message_by, called_by, called_of, called}
 use Rattle.iop_kernel.specs.Kinds.{State, Wants, Live, Table, table, library_of}
 use Rattle.iop_kernel.specs.Laws.{KeepsObjects}
 use Rattle.iop_kernel.specs.ObjectServices.{unknown, waits_for, deletes_object, refers_to, refers_at}
 use Rattle.iop_kernel.specs.Serving.{call_of, serves, calls_row, calls_library, calls, services}
-use Rattle.iop_kernel.specs.System.{Core, Left, System, Done, Served, argument, answered, answers, faults, caller, code_word, in_handler}
+use Rattle.iop_kernel.specs.System.{Core, Left, System, Done, Served, answered, answers, faults, caller, code_word, in_handler}
 use Rattle.iop_kernel.specs.ThreadStarts.{returns_by}
 use Rattle.iop_kernel.specs.declared.active_handler.ActiveHandler.{ActiveHandler}
 use Rattle.iop_kernel.specs.declared.active_handler.Cause.{Cause}
@@ -44,17 +44,6 @@ use Rattle.iop_kernel.proofs.Placing.Objects.{waiters_leave_states}
 use Rattle.iop_kernel.proofs.Placing.ObjectsKept.{same_objects}
 use Rattle.iop_kernel.proofs.Placing.Queues.{none_chosen, all_chosen}
 
--- a call of a service, in the history
-abbrev pub call_to : Core → Service → Left Core → Called
-call_to c service left = record {
-  service = service;
-  first = argument c 0;
-  second = argument c 1;
-  had_waiter = has_waiter c service;
-  answer = answer_of left.after left.state;
-  message = received_by c service;
-}
-
 -- what a service leaves of the kernel and its processor
 abbrev pub core_of : Served → Left Core
 core_of d = record { state = d.left.state.core; after = d.left.after }
@@ -62,6 +51,12 @@ core_of d = record { state = d.left.state.core; after = d.left.after }
 -- so what one on the board does
 abbrev pub board_core : Done Board → Left Core
 board_core d = record { state = d.left.state.core; after = d.left.after }
+
+-- a call of a service that served this, in the history
+abbrev pub call_to : System → Service → Served → Called
+call_to s x d =
+    call_with s.core x (core_of d)
+    (message_by s.core s.memory d.left.state.memory x (core_of d))
 
 -- a call succeeds where the word that is answered is 0
 pub word_tells : (c : Core) → 2 < length c.cpu.regs → (word : ℕ)
@@ -84,18 +79,24 @@ module _ (kind : Kind) (t : Tells (State kind)) (c : Core) where
   abbrev objects : Table kind
   objects = table kind c.kernel
 
-  -- by what a service leaves
+  -- by what a service leaves, and the message that memory got by it
+  abbrev pub TellsOf : Service → Left Core → (message : ℕ) → Type 0
+  TellsOf x left message =
+      TellsBy t objects (table kind left.state.kernel) (Some (call_with c x left message))
+
+  -- whatever that is
   abbrev pub CoreTells : Service → Left Core → Type 0
-  CoreTells x left = TellsBy t objects (table kind left.state.kernel) (Some (call_to c x left))
+  CoreTells x left = (message : ℕ) → TellsOf x left message
 
   module _ (x : Service) where
     -- nothing is told, and no object changes, where the call does not succeed
-    unsuccessful : (left : Left Core) → succeeds (call_to c x left) ≡ false
+    unsuccessful : (left : Left Core) → succeeds_by (answer_of left.after left.state) ≡ false
         → ((n : ℕ) → state_of (table kind left.state.kernel) n ≡ state_of objects n)
         → objects.next ≤ (table kind left.state.kernel).next → CoreTells x left
-    unsuccessful left fails =
-        none_changes t objects (Some (call_to c x left)) (table kind left.state.kernel)
-        (λ n. t.fails n (call_to c x left) fails)
+    unsuccessful left fails same rises message =
+        let call = call_with c x left message in
+        none_changes t objects (Some call) (table kind left.state.kernel)
+        (λ n. t.fails n call fails) same rises
 
     -- a code other than 0 is answered
     pub refused : 2 < length c.cpu.regs → (code : Code) → (code_word code == 0) ≡ false
@@ -126,15 +127,17 @@ module _ (kind : Kind) (t : Tells (State kind)) (c : Core) where
     -- leaves the objects as they were
     pub nothing_told : (left : Left Core) → KeepsObjects objects (table kind left.state.kernel)
         → CoreTells x left
-    nothing_told left keeps =
-        none_changes t objects (Some (call_to c x left)) (table kind left.state.kernel)
-        (λ n. t.silent n (call_to c x left) silent) keeps.states (omega (arith, keeps.next))
+    nothing_told left keeps message =
+        let call = call_with c x left message in
+        none_changes t objects (Some call) (table kind left.state.kernel)
+        (λ n. t.silent n call silent) keeps.states (omega (arith, keeps.next))
 
     -- or deletes one, if it is found
     pub deletes_tell : (o : Option (Live kind)) → CoreTells x (deletes_object kind c o)
-    deletes_tell None = nothing_told (answers c (unknown kind)) (same_objects objects)
-    deletes_tell (Some o) =
-        let call = call_to c x (deletes_object kind c (Some o)) in
+    deletes_tell None message =
+        nothing_told (answers c (unknown kind)) (same_objects objects) message
+    deletes_tell (Some o) message =
+        let call = call_with c x (deletes_object kind c (Some o)) message in
         subst (λ left. TellsBy t objects left (Some call))
         (sym (own_table kind c.kernel (deletes objects o.id)))
         (deletes_told t objects (Some call) (λ n. t.silent n call silent) o.id)
@@ -162,9 +165,14 @@ module _ (kind : Kind) (t : Tells (State kind)) (s : System) where
   abbrev before : Table kind
   before = table kind s.core.kernel
 
-  -- what is served, as a call of a service
+  -- what is served, as a call of a service, whatever message memory got by it
   abbrev pub ServiceTells : Service → Served → Type 0
   ServiceTells x d = CoreTells kind t s.core x (core_of d)
+
+  -- as the call that it is
+  abbrev pub ItTells : Service → Served → Type 0
+  ItTells x d =
+      TellsBy t before (table kind d.left.state.core.kernel) (Some (call_to s x d))
 
   -- a silent service of another library tells nothing
   pub others_tell : (x : Service) → t.Silent x → home x ≢ library_of kind
@@ -174,7 +182,7 @@ module _ (kind : Kind) (t : Tells (State kind)) (s : System) where
       ((serves_apart s x).objects kind other)
 
   module _ (registers : 2 < length s.core.cpu.regs)
-      (each : (x : Service) → ServiceTells x (serves s x)) where
+      (each : (x : Service) → ItTells x (serves s x)) where
     -- what is served, and the call that it is in the history
     abbrev CallTells : Option Call → Served → Type 0
     CallTells o d = TellsBy t before (table kind d.left.state.core.kernel) (called_of s d o)
@@ -193,7 +201,7 @@ module _ (kind : Kind) (t : Tells (State kind)) (s : System) where
         (λ (d : Served).
         TellsBy t before (table kind d.left.state.core.kernel) (called_by s d (Some row)))
         (λ allowed. each row.service)
-        (λ elsewhere. refused kind t s.core row.service registers ILLEGAL_CONTEXT refl)
+        (λ elsewhere. refused kind t s.core row.service registers ILLEGAL_CONTEXT refl _)
 
     -- a service of a library
     library_tells : (library number : ℕ)

@@ -19,12 +19,12 @@ use Rattle.iop_services.specs.declared.thsemap_service.ThsemapService.TheVariant
 use Rattle.iop_stubs.specs.Stubs.{Memory}
 use Rattle.iop_thread.specs.declared.kind.Kind.TheVariants.{Semaphore as SemaphoreOf}
 use Rattle.iop_kernel.specs.Boards.{word_in}
-use Rattle.iop_kernel.specs.Histories.{is_signal, is_take, signals_in, takes_in, has_waiter, called}
+use Rattle.iop_kernel.specs.Histories.{is_signal, is_take, signals_in, takes_in, has_waiter, call_with, called}
 use Rattle.iop_kernel.specs.Semaphores.{creates_sema_at, signals_by, takes_or_waits, wait_sema, poll_sema, leaves_semaphores, semaphore_words, serves_thsemap}
 use Rattle.iop_kernel.specs.Serving.{serves, services}
 use Rattle.iop_kernel.specs.System.{Core, Left, System, argument, caller, may_switch, answers, code_word, words_place}
 use Rattle.iop_kernel.specs.declared.semaphores.TheConstants.{SEMAPHORE_WORDS, SEMAPHORE_STATUS_WORDS}
-use Rattle.iop_kernel.proofs.Histories.Calls.{call_to, word_tells, one_waits, none_waits, CoreTells, waits_tell, deletes_tell, status_tells, ServiceTells, others_tell, services_tell}
+use Rattle.iop_kernel.proofs.Histories.Calls.{word_tells, one_waits, none_waits, CoreTells, waits_tell, deletes_tell, status_tells, ServiceTells, others_tell, services_tell}
 use Rattle.iop_kernel.proofs.Histories.Calls as telling
 use Rattle.iop_kernel.proofs.Histories.CountedHistories.{counts, elsewhere_counts, waited_counts}
 use Rattle.iop_kernel.proofs.Histories.Telling.{TellsBy, none_changes, one_changes, creates_told, unless}
@@ -60,9 +60,9 @@ module _ (c : Core) (registers : 2 < length c.cpu.regs) where
   signal_grows : (x : Semaphore) → state_of s id ≡ Some x → nat_le x.max x.count ≡ false
       → has_waiter c Signal ≡ false
       → Counts Signal (signals_by c (Ok None, with_state s id (with_count x (x.count + 1))))
-  signal_grows x live below free =
+  signal_grows x live below free message =
       let y = with_count x (x.count + 1) in
-      let call = call_to c Signal (signals_by c (Ok None, with_state s id y)) in
+      let call = call_with c Signal (signals_by c (Ok None, with_state s id y)) message in
       let counted : signals_in id call ≡ 1 =
       rw (eq-eqb id id refl, word_tells c registers 0, free) refl in
       one_changes counts s (Some call) id x y live
@@ -73,17 +73,18 @@ module _ (c : Core) (registers : 2 < length c.cpu.regs) where
   signals_chosen : (x : Semaphore) → state_of s id ≡ Some x → (o : Option (Choice (Waiter ⊤)))
       → chooses (by_priority x) (waiters_of s id) ≡ o
       → Counts Signal (signals_by c (semaphores.signals_by s id x (objects.takes s id o)))
-  signals_chosen x live None is =
+  signals_chosen x live None is message =
       cond_both (nat_le x.max x.count) (Err SEMAPHORE_OVERFLOW, s)
       (Ok None, with_state s id (with_count x (x.count + 1)))
       (λ (r : Result (Option ℕ) Code × Semaphores). Counts Signal (signals_by c r))
       (λ full. refused Signal SEMAPHORE_OVERFLOW refl)
-      (λ below. signal_grows x live below (none_waits (by_priority x) (waiters_of s id) is))
-  signals_chosen x live (Some one) is =
+      (λ below. signal_grows x live below (none_waits (by_priority x) (waiters_of s id) is)) message
+  signals_chosen x live (Some one) is message =
       let left = signals_by c (semaphores.signals_by s id x (objects.takes s id (Some one))) in
+      let call = call_with c Signal left message in
       let waited = one_waits (by_priority x) (waiters_of s id) one is in
-      none_changes counts s (Some (call_to c Signal left)) left.state.kernel.semaphores
-      (λ n. waited_counts n (call_to c Signal left) waited refl)
+      none_changes counts s (Some call) left.state.kernel.semaphores
+      (λ n. waited_counts n call waited refl)
       (waiters_leave_states id one.others s) (omega arith)
 
   -- by what is known of the semaphore
@@ -97,9 +98,9 @@ module _ (c : Core) (registers : 2 < length c.cpu.regs) where
   take_lowers : (called : Service) → is_take called ≡ true → is_signal called ≡ false
       → (x : Semaphore) → state_of s id ≡ Some x → (x.count == 0) ≡ false
       → Counts called (leaves_semaphores c (OK, with_state s id (with_count x (x.count - 1))))
-  take_lowers called takes no_signal x live some =
+  take_lowers called takes no_signal x live some message =
       let y = with_count x (x.count - 1) in
-      let call = call_to c called (leaves_semaphores c (OK, with_state s id y)) in
+      let call = call_with c called (leaves_semaphores c (OK, with_state s id y)) message in
       let counted : takes_in id call ≡ 1 =
       rw (takes, eq-eqb id id refl, word_tells c registers 0) refl in
       let none : signals_in id call ≡ 0 = rw no_signal refl in
@@ -138,11 +139,11 @@ module _ (c : Core) (registers : 2 < length c.cpu.regs) where
   -- one is made, by the place of the words
   creates_sema_counts : (memory : Memory) (o : Option ℕ)
       → Counts (Thsemap CreateSema) (creates_sema_at c memory o)
-  creates_sema_counts memory None =
-      telling.faulted SemaphoreOf counts c (Thsemap CreateSema) Address
-  creates_sema_counts memory (Some place) =
+  creates_sema_counts memory None message =
+      telling.faulted SemaphoreOf counts c (Thsemap CreateSema) Address message
+  creates_sema_counts memory (Some place) message =
       let word : ℕ → ℕ = word_in memory place in
-      let made = call_to c (Thsemap CreateSema) (creates_sema_at c memory (Some place)) in
+      let made = call_with c (Thsemap CreateSema) (creates_sema_at c memory (Some place)) message in
       let call = Some made in
       let nothing : (n : ℕ) → counts.Nothing n call = λ n. counts.silent n made (refl, refl) in
       unless counts s call nothing (not (semaphores.is_attribute (word 0))) _ _
@@ -180,4 +181,4 @@ pub services_count : (s : System) (code : ℕ) → 2 < length s.core.cpu.regs
     → TellsBy counts s.core.kernel.semaphores (services s code).left.state.core.kernel.semaphores
     (called s code)
 services_count s code registers =
-    services_tell SemaphoreOf counts s registers (each s registers) code
+    services_tell SemaphoreOf counts s registers (λ x. each s registers x _) code

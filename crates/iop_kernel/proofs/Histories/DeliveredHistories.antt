@@ -5,6 +5,7 @@ use Rattle.std.proofs.lemmas.Bool.{and_left, and_right}
 use Rattle.std.proofs.lemmas.Bool.Decides.{nat_tests}
 use Rattle.std.proofs.lemmas.Grind.{flat_map-append}
 use Rattle.std.proofs.lemmas.List.{map-append}
+use Rattle.iop_base.specs.Numbers.{wrapped}
 use Rattle.iop_mbx.specs.Mailboxes.{Mailbox, Mailboxes, messages_by_priority, next_message, with_messages}
 use Rattle.iop_objects.specs.Objects.{state_of}
 use Rattle.iop_objects.specs.Queue.{Choice, chooses}
@@ -82,36 +83,38 @@ delivers = record {
 module _ (m : ℕ) where
   -- how often a message is in a queue
   abbrev often : List (Queued ℕ) → ℕ
-  often queue = times m (map (λ x. x.item) queue)
+  often queue = times m (map (λ x. wrapped x.item) queue)
 
   -- one is taken from among others
   taken_often : (before behind : List (Queued ℕ)) (one : Queued ℕ)
-      → often (before ++ one ∷ behind) ≡ times m (one.item ∷ []) + often (before ++ behind)
-  taken_often [] behind one = times_append m (one.item ∷ []) (map (λ x. x.item) behind)
+      → often (before ++ one ∷ behind) ≡ times m (wrapped one.item ∷ []) + often (before ++ behind)
+  taken_often [] behind one =
+      times_append m (wrapped one.item ∷ []) (map (λ x. wrapped x.item) behind)
   taken_often (x ∷ before) behind one =
       grind (arith, nat_tests, taken_often before behind one)
 
   -- so one that is chosen, by priority or by arrival
   chosen_often : (by_priority : Bool) (queue : List (Queued ℕ)) (c : Choice ℕ)
       → chooses by_priority queue ≡ Some c
-      → often queue ≡ times m (c.one.item ∷ []) + often c.others
+      → often queue ≡ times m (wrapped c.one.item ∷ []) + often c.others
   chosen_often true queue c is =
       let h = (queues_chosen.by_priority queue c is).taken in
       ap often h.queue_is ∙ taken_often h.before h.behind c.one
-      ∙ ap (λ others. times m (c.one.item ∷ []) + often others) (sym h.others_are)
+      ∙ ap (λ others. times m (wrapped c.one.item ∷ []) + often others) (sym h.others_are)
   chosen_often false queue c is =
       ap often (queues_chosen.order false queue c is) ∙ taken_often [] c.others c.one
 
 module _ (id : ℕ) (call : Option Called) (x : Mailbox) where
   -- a message that was sent is queued behind all others
-  pub put_keeps : (m : Queued ℕ) → sent_of id call ≡ m.item ∷ [] → received_of id call ≡ []
+  pub put_keeps : (m : Queued ℕ) → sent_of id call ≡ wrapped m.item ∷ []
+      → received_of id call ≡ []
       → Keeps id call x (with_messages x (x.messages ++ m ∷ []))
   put_keeps m sent none =
-      let more : queued (with_messages x (x.messages ++ m ∷ [])) ≡ queued x ++ m.item ∷ [] =
-      map-append (λ (m : Queued ℕ). m.item) x.messages (m ∷ []) in (
+      let more : queued (with_messages x (x.messages ++ m ∷ [])) ≡ queued x ++ wrapped m.item ∷ [] =
+      map-append (λ (m : Queued ℕ). wrapped m.item) x.messages (m ∷ []) in (
         refl,
         λ n. rw (sent, none, more)
-            (omega (arith, times_append n (queued x) (m.item ∷ []))),
+            (omega (arith, times_append n (queued x) (wrapped m.item ∷ []))),
         λ first. rw (sent, none) (sym more),
       )
 
@@ -126,13 +129,14 @@ module _ (id : ℕ) (call : Option Called) (x : Mailbox) where
 
   -- the next one is received
   pub got_keeps : (one : Choice ℕ) → next_message x ≡ Some one → sent_of id call ≡ []
-      → received_of id call ≡ one.one.item ∷ [] → Keeps id call x (with_messages x one.others)
+      → received_of id call ≡ wrapped one.one.item ∷ []
+      → Keeps id call x (with_messages x one.others)
   got_keeps one next none received = (
     refl,
     λ n. rw (none, received)
         (omega (arith, chosen_often n (messages_by_priority x.attr) x.messages one next)),
     λ first. rw (none, received)
-        (append-nil (queued x) ∙ ap (map (λ m. m.item))
+        (append-nil (queued x) ∙ ap (map (λ m. wrapped m.item))
         (queues_chosen.order false x.messages one
         (subst (λ (b : Bool). chooses b x.messages ≡ Some one) first next))),
   )

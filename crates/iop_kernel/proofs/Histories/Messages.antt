@@ -1,6 +1,7 @@
 -- Each service of the kernel does to the messages of mailboxes what the history of calls tells.
 use Rattle.std.proofs.Common.{◌≡◌, ℕ, ◌<◌, ◌==◌, not, true, false, inl, inr, Option, Some, None, Result, Ok, Err, [], ◌∷◌, ◌++◌, length, refl, ap, ◌∙◌, subst, arith}
 use Rattle.std.proofs.lemmas.Bool.{and_left, and_right, cond_both, eq-eqb}
+use Rattle.iop_base.specs.Numbers.{wrapped}
 use Rattle.iop_base.specs.declared.code.Code.{Code}
 use Rattle.iop_base.specs.declared.code.TheConstants.Code.{OK, NO_MEMORY, UNKNOWN_MAILBOX, NO_MESSAGE, CANNOT_WAIT}
 use Rattle.iop_base.specs.declared.guest_fault.GuestFault.TheVariants.{Address}
@@ -14,20 +15,23 @@ use Rattle.iop_objects.specs.declared.waiter.Waiter.{Waiter}
 use Rattle.iop_services.specs.declared.service.Service.{Service}
 use Rattle.iop_services.specs.declared.service.Service.TheVariants.{Thmsgbx}
 use Rattle.iop_services.specs.declared.thmsgbx_service.ThmsgbxService.TheVariants.{CreateMbx, DeleteMbx, SendMbx, ReceiveMbx, PollMbx, ReferMbxStatus}
+use Rattle.iop_stubs.specs.Stubs.{Memory, after_store}
 use Rattle.iop_thread.specs.declared.kind.Kind.TheVariants.{Mailbox as MailboxOf}
-use Rattle.iop_kernel.specs.Boards.{Board, board_of, word_in}
-use Rattle.iop_kernel.specs.Histories.{is_send, is_receive, has_waiter, received_by, message_in, called}
+use Rattle.iop_kernel.specs.Boards.{Board, board_of, word_in, bytes_of_words}
+use Rattle.iop_kernel.specs.Histories.{is_send, is_receive, has_waiter, word_or, received_by, message_by, call_with, called}
 use Rattle.iop_kernel.specs.Mailboxes.{creates_mbx_at, leaves_mailboxes, message_priority, queues_by, queues_message, sends_by, receives_by, receives_or_waits, waits_mbx_at, polls_mbx_at, mailbox_words, serves_thmsgbx}
 use Rattle.iop_kernel.specs.Overdue.{AreIdle, NoneOverdue}
 use Rattle.iop_kernel.specs.Serving.{serves, services}
 use Rattle.iop_kernel.specs.System.{Core, Left, System, Done, argument, answers, faults, caller, may_switch, code_word, words_place}
 use Rattle.iop_kernel.specs.declared.mailboxes.TheConstants.{MAILBOX_WORDS, MAILBOX_STATUS_WORDS}
-use Rattle.iop_kernel.proofs.Histories.Calls.{call_to, board_core, word_tells, one_waits, none_waits, CoreTells, waits_tell, deletes_tell, status_tells, ServiceTells, others_tell, services_tell}
+use Rattle.iop_kernel.proofs.Histories.Calls.{board_core, word_tells, one_waits, none_waits, TellsOf, CoreTells, waits_tell, deletes_tell, status_tells, ItTells, others_tell, services_tell}
 use Rattle.iop_kernel.proofs.Histories.Calls as telling
 use Rattle.iop_kernel.proofs.Histories.DeliveredHistories.{delivers, elsewhere_delivers, sent_of, received_of, put_keeps, handed_keeps, got_keeps}
 use Rattle.iop_kernel.proofs.Histories.Telling.{TellsBy, one_becomes, one_changes, creates_told, unless}
+use Rattle.iop_kernel.proofs.Keeping.Memory.{words_inside}
 use Rattle.iop_kernel.proofs.Placing.Objects.{waiters_leave_states}
 use Rattle.iop_kernel.proofs.Placing.Queues.{none_chosen}
+use Rattle.iop_kernel.proofs.Readings.WordBytes.{first_at}
 
 -- the service that sends, and those that receive
 abbrev Send : Service
@@ -46,12 +50,24 @@ module _ (b : Board) (registers : 2 < length b.core.cpu.regs) where
   abbrev boxes : Mailboxes
   boxes = c.kernel.mailboxes
 
-  -- by what a call leaves of the kernel, and of memory
+  -- by what a call leaves of the kernel, whatever message memory got by it
   abbrev Delivers : Service → Left Core → Type 0
   Delivers = CoreTells MailboxOf delivers c
 
+  -- the message that memory got, by what a call leaves of both
+  abbrev message_in : Service → Done Board → ℕ
+  message_in x d = message_by c b.memory d.left.state.memory x (board_core d)
+
   abbrev BoardDelivers : Service → Done Board → Type 0
-  BoardDelivers x d = Delivers x (board_core d)
+  BoardDelivers x d = TellsOf MailboxOf delivers c x (board_core d) (message_in x d)
+
+  -- a word that was written at a place, if there is one, stands there
+  word_there : (at word : ℕ) (o : Option ℕ) → words_place b.memory at 1 ≡ o
+      → word_or (after_store b.memory o (bytes_of_words (word ∷ []))) o (wrapped word)
+      ≡ wrapped word
+  word_there at word None is = refl
+  word_there at word (Some place) is =
+      first_at b.memory.ram place (word ∷ []) (words_inside b.memory at 1 place is) (omega arith)
 
   -- a call that answers a code other than 0 delivers nothing, nor does one that faults
   refused : (x : Service) (code : Code) → (code_word code == 0) ≡ false
@@ -63,10 +79,10 @@ module _ (b : Board) (registers : 2 < length b.core.cpu.regs) where
 
   -- a mailbox is made, by the place of the words
   creates_mbx_delivers : (o : Option ℕ) → Delivers (Thmsgbx CreateMbx) (creates_mbx_at c b.memory o)
-  creates_mbx_delivers None = faulted (Thmsgbx CreateMbx)
-  creates_mbx_delivers (Some place) =
+  creates_mbx_delivers None got = faulted (Thmsgbx CreateMbx) got
+  creates_mbx_delivers (Some place) got =
       let word : ℕ → ℕ = word_in b.memory place in
-      let made = call_to c (Thmsgbx CreateMbx) (creates_mbx_at c b.memory (Some place)) in
+      let made = call_with c (Thmsgbx CreateMbx) (creates_mbx_at c b.memory (Some place)) got in
       let call = Some made in
       let nothing : (n : ℕ) → delivers.Nothing n call = λ n. delivers.silent n made (refl, refl) in
       unless delivers boxes call nothing (not (mailboxes.is_attribute (word 0))) _ _
@@ -86,21 +102,21 @@ module _ (b : Board) (registers : 2 < length b.core.cpu.regs) where
     put_delivers : (priority : ℕ) (o : Option Mailbox) → state_of boxes to_id ≡ o
         → Delivers Send (leaves_mailboxes c
         (mailboxes.puts_it boxes to_id (record { priority = priority; item = message }) o))
-    put_delivers priority None live = refused Send UNKNOWN_MAILBOX refl
-    put_delivers priority (Some x) live =
+    put_delivers priority None live got = refused Send UNKNOWN_MAILBOX refl got
+    put_delivers priority (Some x) live got =
         let m : Queued ℕ = record { priority = priority; item = message } in
         let z = with_messages x (x.messages ++ m ∷ []) in
-        let call = call_to c Send (leaves_mailboxes c (OK, with_state boxes to_id z)) in
+        let call = call_with c Send (leaves_mailboxes c (OK, with_state boxes to_id z)) got in
         let own = eq-eqb to_id to_id refl in
         let did = word_tells c registers 0 in
-        let sent : sent_of to_id (Some call) ≡ message ∷ [] = rw (own, did) refl in
+        let sent : sent_of to_id (Some call) ≡ wrapped message ∷ [] = rw (own, did) refl in
         let none : received_of to_id (Some call) ≡ [] = rw (own, did, free) refl in
         cond_both (mailboxes.has_room boxes) (OK, with_state boxes to_id z) (NO_MEMORY, boxes)
-        (λ (r : Code × Mailboxes). Delivers Send (leaves_mailboxes c r))
+        (λ (r : Code × Mailboxes). TellsOf MailboxOf delivers c Send (leaves_mailboxes c r) got)
         (λ room. one_changes delivers boxes (Some call) to_id x z live
         (put_keeps to_id (Some call) x m sent none)
         (λ n apart. elsewhere_delivers n call apart refl))
-        (λ full. refused Send NO_MEMORY refl)
+        (λ full. refused Send NO_MEMORY refl got)
 
     -- by its priority
     queues_delivers : (o : Option ℕ) → Delivers Send (queues_by c to_id message o)
@@ -137,17 +153,24 @@ module _ (b : Board) (registers : 2 < length b.core.cpu.regs) where
     sends_chosen x live None is =
         queues_message_delivers
         (none_waits (is_by_priority boxes to_id) (waiters_of boxes to_id) is) (state_of boxes to_id)
+        _
     sends_chosen x live (Some one) is =
         let d = sends_by b to_id message
         (mailboxes.waiter_for boxes (Some x) (objects.takes boxes to_id (Some one))) in
-        let call = call_to c Send (board_core d) in
+        let at = one.one.item.wants in
+        let call = call_with c Send (board_core d) (message_in Send d) in
         let own = eq-eqb to_id to_id refl in
         let did = word_tells c registers 0 in
         let waited = one_waits (is_by_priority boxes to_id) (waiters_of boxes to_id) one is in
-        let sent : sent_of to_id (Some call) ≡ message ∷ [] = rw (own, did) refl in
-        let received : received_of to_id (Some call) ≡ message ∷ [] = rw (own, did, waited) refl in
+        let its : message_in Send d ≡ wrapped message =
+        rw (did, is) (word_there at message (words_place b.memory at 1) refl) in
+        let sent : sent_of to_id (Some call) ≡ wrapped message ∷ [] = rw (own, did) refl in
+        let received : received_of to_id (Some call) ≡ wrapped message ∷ [] =
+        ap (λ (m : ℕ). received_of to_id (Some (call_with c Send (board_core d) m))) its
+        ∙ rw (own, did, waited) refl in
         one_becomes delivers boxes (Some call) to_id x x live
-        (handed_keeps to_id (Some call) x message sent received (no_message x live one is))
+        (handed_keeps to_id (Some call) x (wrapped message) sent received
+        (no_message x live one is))
         (λ n apart. elsewhere_delivers n call apart refl) (with_waiters boxes to_id one.others)
         (waiters_leave_states to_id one.others boxes to_id ∙ live)
         (λ n apart. waiters_leave_states to_id one.others boxes n) (omega arith)
@@ -156,7 +179,7 @@ module _ (b : Board) (registers : 2 < length b.core.cpu.regs) where
     sends_delivered : (o : Option Mailbox) → state_of boxes to_id ≡ o
         → BoardDelivers Send (sends_by b to_id message
         (mailboxes.waiter_for boxes o (mailboxes.takes_waiter boxes to_id)))
-    sends_delivered None live = refused Send UNKNOWN_MAILBOX refl
+    sends_delivered None live = refused Send UNKNOWN_MAILBOX refl _
     sends_delivered (Some x) live =
         sends_chosen x live (chooses (is_by_priority boxes to_id) (waiters_of boxes to_id)) refl
 
@@ -164,28 +187,35 @@ module _ (b : Board) (registers : 2 < length b.core.cpu.regs) where
   abbrev from_id : ℕ
   from_id = argument c 1
 
+  -- the place of the message
+  abbrev place_of : Option ℕ
+  place_of = words_place b.memory (argument c 0) 1
+
   -- a message is received
-  got_delivers : (x : Service) → is_send x ≡ false → is_receive x ≡ true
-      → received_by c x ≡ message_in (mailboxes.gets boxes from_id).0
-      → (place : ℕ) (box : Mailbox) → state_of boxes from_id ≡ Some box → (one : Choice ℕ)
-      → next_message box ≡ Some one → BoardDelivers x (receives_by b place
-      (Ok one.one.item, with_state boxes from_id (with_messages box one.others)))
-  got_delivers x no_send receipt tells place box live one next =
-      let z = with_messages box one.others in
-      let d = receives_by b place (Ok one.one.item, with_state boxes from_id z) in
-      let call = call_to c x (board_core d) in
-      let own = eq-eqb from_id from_id refl in
-      let did = word_tells c registers 0 in
-      let its : received_by c x ≡ one.one.item = tells
-      ∙ ap (λ o. message_in (mailboxes.gets_it boxes from_id o).0) live
-      ∙ ap (λ o. message_in (mailboxes.gets_by boxes from_id box o).0) next in
-      let none : sent_of from_id (Some call) ≡ [] = rw no_send refl in
-      let received : received_of from_id (Some call) ≡ one.one.item ∷ [] =
-      rw (no_send, receipt, own, did, its) refl in
-      one_changes delivers boxes (Some call) from_id box z live
-      (got_keeps from_id (Some call) box one next none received)
-      (λ n apart. elsewhere_delivers n call (and_left _ (to_id == n) no_send)
-      (and_right (is_receive x) (from_id == n) apart))
+  module _ (x : Service) (no_send : is_send x ≡ false) (receipt : is_receive x ≡ true)
+      (reads : (after : Memory) → received_by c b.memory after x ≡ word_or after place_of 0) where
+    got_delivers : (place : ℕ) → place_of ≡ Some place → (box : Mailbox)
+        → state_of boxes from_id ≡ Some box → (one : Choice ℕ)
+        → next_message box ≡ Some one → BoardDelivers x (receives_by b place
+        (Ok one.one.item, with_state boxes from_id (with_messages box one.others)))
+    got_delivers place stands box live one next =
+        let z = with_messages box one.others in
+        let item = one.one.item in
+        let d = receives_by b place (Ok item, with_state boxes from_id z) in
+        let call = call_with c x (board_core d) (message_in x d) in
+        let own = eq-eqb from_id from_id refl in
+        let did = word_tells c registers 0 in
+        let its : message_in x d ≡ wrapped item =
+        rw did (reads d.left.state.memory ∙ ap (λ o. word_or d.left.state.memory o 0) stands
+        ∙ word_there (argument c 0) item (Some place) stands) in
+        let none : sent_of from_id (Some call) ≡ [] = rw no_send refl in
+        let received : received_of from_id (Some call) ≡ wrapped item ∷ [] =
+        ap (λ (m : ℕ). received_of from_id (Some (call_with c x (board_core d) m))) its
+        ∙ rw (no_send, receipt, own, did) refl in
+        one_changes delivers boxes (Some call) from_id box z live
+        (got_keeps from_id (Some call) box one next none received)
+        (λ n apart. elsewhere_delivers n call (and_left _ (to_id == n) no_send)
+        (and_right (is_receive x) (from_id == n) apart))
 
   -- by what is known of the mailbox, and whether there is one
   gets_by : (C : Result ℕ Code × Mailboxes → Type 0) → C (Err UNKNOWN_MAILBOX, boxes)
@@ -202,49 +232,50 @@ module _ (b : Board) (registers : 2 < length b.core.cpu.regs) where
       by (Some one) next = got x live one next
 
   -- where there is none it is refused
-  polls_mbx_delivers : (o : Option ℕ) → BoardDelivers Poll (polls_mbx_at b from_id o)
-  polls_mbx_delivers None = faulted Poll
-  polls_mbx_delivers (Some place) =
+  polls_mbx_delivers : (o : Option ℕ) → place_of ≡ o → BoardDelivers Poll (polls_mbx_at b from_id o)
+  polls_mbx_delivers None stands = faulted Poll _
+  polls_mbx_delivers (Some place) stands =
       gets_by (λ (r : Result ℕ Code × Mailboxes). BoardDelivers Poll (receives_by b place r))
-      (refused Poll UNKNOWN_MAILBOX refl) (refused Poll NO_MESSAGE refl)
-      (got_delivers Poll refl refl refl place) (state_of boxes from_id) refl
+      (refused Poll UNKNOWN_MAILBOX refl _) (refused Poll NO_MESSAGE refl _)
+      (got_delivers Poll refl refl (λ after. refl) place stands) (state_of boxes from_id) refl
 
   -- or the thread that calls waits, where another one may run
-  waits_mbx_delivers : (at : ℕ) (o : Option ℕ) → BoardDelivers Receive (waits_mbx_at b at from_id o)
-  waits_mbx_delivers at None = faulted Receive
-  waits_mbx_delivers at (Some place) =
+  waits_mbx_delivers : (at : ℕ) (o : Option ℕ) → place_of ≡ o
+      → BoardDelivers Receive (waits_mbx_at b at from_id o)
+  waits_mbx_delivers at None stands = faulted Receive _
+  waits_mbx_delivers at (Some place) stands =
       cond_both (may_switch c.kernel) _ _ (BoardDelivers Receive) (λ may.
       gets_by (λ (r : Result ℕ Code × Mailboxes).
       BoardDelivers Receive (receives_or_waits b at from_id place r))
-      (refused Receive UNKNOWN_MAILBOX refl)
-      (waits_tell MailboxOf delivers c Receive from_id at (caller c))
-      (got_delivers Receive refl refl refl place) (state_of boxes from_id) refl)
-      (λ cannot. refused Receive CANNOT_WAIT refl)
+      (refused Receive UNKNOWN_MAILBOX refl _)
+      (waits_tell MailboxOf delivers c Receive from_id at (caller c) _)
+      (got_delivers Receive refl refl (λ after. refl) place stands) (state_of boxes from_id) refl)
+      (λ cannot. refused Receive CANNOT_WAIT refl _)
 
 module _ (s : System) (registers : 2 < length s.core.cpu.regs)
     (overdue : NoneOverdue s.core.kernel) where
   -- each service
-  each : (x : Service) → ServiceTells MailboxOf delivers s x (serves s x)
+  each : (x : Service) → ItTells MailboxOf delivers s x (serves s x)
   unfolding serves serves_thmsgbx
   each (Thmsgbx CreateMbx) =
       creates_mbx_delivers (board_of s) registers
-      (words_place s.memory (argument s.core 0) MAILBOX_WORDS)
+      (words_place s.memory (argument s.core 0) MAILBOX_WORDS) _
   each (Thmsgbx DeleteMbx) =
       deletes_tell MailboxOf delivers s.core (Thmsgbx DeleteMbx) (refl, refl)
-      (object_of s.core.kernel.mailboxes.live (argument s.core 0))
+      (object_of s.core.kernel.mailboxes.live (argument s.core 0)) _
   each (Thmsgbx SendMbx) =
       sends_delivered (board_of s) registers (overdue.objects MailboxOf)
       (state_of s.core.kernel.mailboxes (argument s.core 0)) refl
   each (Thmsgbx ReceiveMbx) =
       let at = argument s.core 0 in
-      waits_mbx_delivers (board_of s) registers at (words_place s.memory at 1)
+      waits_mbx_delivers (board_of s) registers at (words_place s.memory at 1) refl
   each (Thmsgbx PollMbx) =
-      polls_mbx_delivers (board_of s) registers (words_place s.memory (argument s.core 0) 1)
+      polls_mbx_delivers (board_of s) registers (words_place s.memory (argument s.core 0) 1) refl
   each (Thmsgbx ReferMbxStatus) =
       status_tells MailboxOf delivers s.core (Thmsgbx ReferMbxStatus) (refl, refl) s.memory
       mailbox_words (argument s.core 0)
-      (words_place s.memory (argument s.core 1) MAILBOX_STATUS_WORDS)
-  each other = others_tell MailboxOf delivers s other (refl, refl) (λ is. absurd (cc is))
+      (words_place s.memory (argument s.core 1) MAILBOX_STATUS_WORDS) _
+  each other = others_tell MailboxOf delivers s other (refl, refl) (λ is. absurd (cc is)) _
 
 -- each service delivers as it is called, where the processor has its registers
 pub services_deliver : (s : System) (code : ℕ) → 2 < length s.core.cpu.regs

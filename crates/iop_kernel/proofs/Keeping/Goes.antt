@@ -14,14 +14,16 @@ use Rattle.iop_thread.specs.declared.wait.Wait.TheVariants.{Delay, Object}
 use Rattle.iop_thread.proofs.KeptRegisters.{keeps_steady}
 use Rattle.iop_thread.proofs.Placed.{keeps_places}
 use Rattle.iop_thread.proofs.Waits.{moves_waits}
+use Rattle.iop_kernel.specs.Callers.{HasLeft, HasAnswer}
 use Rattle.iop_kernel.specs.Laws.{Follows, HandlerFollows}
 use Rattle.iop_kernel.specs.System.{Core, System, may_switch, caller, caller_beside, running_registers, with_threads, answered}
 use Rattle.iop_kernel.specs.ThreadWaits.{waits}
 use Rattle.iop_kernel.specs.Waits.{wakes_all, core_leaves, core_requeues}
 use Rattle.iop_kernel.specs.declared.active_handler.ActiveHandler.{ActiveHandler}
 use Rattle.iop_kernel.specs.declared.after.After.{After}
-use Rattle.iop_kernel.specs.declared.after.After.TheVariants.{Switch}
+use Rattle.iop_kernel.specs.declared.after.After.TheVariants.{Resume, Switch}
 use Rattle.iop_kernel.proofs.Keeping.Core.{HoldsAlone, Alone, WouldSwitch, would_switch, with_them, running_steady}
+use Rattle.iop_kernel.proofs.Keeping.Leaving.{blocked_waits}
 use Rattle.iop_kernel.proofs.Keeping.RunningThread.{RunsOn, running_suspends, caller_runs, no_caller}
 
 -- by the thread and the handler that run, one does
@@ -50,7 +52,7 @@ woken_steady (id ∷ ids) t word steady =
     woken_steady ids (threads.wakes t id word) word ((keeps_steady t steady).wakes id word)
 
 -- and the same one runs
-woken_running : (ids : List ℕ) (t : ThreadTable) (word : ℕ) → IsPlaced t
+pub woken_running : (ids : List ℕ) (t : ThreadTable) (word : ℕ) → IsPlaced t
     → RunsOn t (wakes_all t ids word)
 woken_running [] t word placed = refl
 woken_running (id ∷ ids) t word placed =
@@ -82,6 +84,7 @@ module _ (s : System) where
       (cpu : Cpu) (next : ℕ) : Type 0 where
     pub alone : IsPlaced table → Alone now → HoldsAlone t on enabled active cpu
     pub handler : active ≡ now.kernel.handler
+    pub processor : cpu ≡ now.cpu
     pub numbers : next ≤ now.kernel.timers.next + 1
     pub runs : (id : ℕ) → IsPlaced table → caller now ≡ Some id → RunsOn table t
 
@@ -93,6 +96,7 @@ module _ (s : System) where
   -- what holds in the end, and what has become of the caller
   pub record Went (after : After) (left : System) (pieces : List Piece) : Type 0 where
     pub alone : IsPlaced table → Alone now → Alone left.core
+    pub answers : after ≡ Resume → HasAnswer now.cpu left.core.cpu
     pub numbers : left.core.kernel.timers.next ≤ now.kernel.timers.next + 1
     pub follows : (id : ℕ) → IsPlaced table → caller now ≡ Some id → Follows after s id left pieces
     pub handler_follows : (handler : ActiveHandler) → now.kernel.handler ≡ Some handler
@@ -104,6 +108,7 @@ module _ (s : System) where
   numbered next few = record {
     alone = λ placed h. h;
     handler = refl;
+    processor = refl;
     numbers = few;
     runs = λ id placed is. refl;
   }
@@ -118,6 +123,7 @@ module _ (s : System) where
     alone = λ placed h.
         with_them now h t (steady h.threads) (λ none. h.awake (cc (on placed, none)));
     handler = refl;
+    processor = refl;
     numbers = omega arith;
     runs = λ id placed is. on placed;
   }
@@ -154,11 +160,14 @@ module _ (s : System) where
   -- the thread that called has left the processor
   pub leaves : (d : System) → Called → (IsPlaced table → Alone now → Alone d.core)
       → d.core.kernel.timers.next ≤ now.kernel.timers.next + 1
-      → (IsPlaced table → d.core.kernel.threads.running ≡ None) → Went Switch d []
-  leaves d called alone numbers none = record {
+      → (IsPlaced table → d.core.kernel.threads.running ≡ None)
+      → ((id : ℕ) → IsPlaced table → caller now ≡ Some id → HasLeft d.core.kernel.threads id)
+      → Went Switch d []
+  leaves d called alone numbers none left = record {
     alone = alone;
+    answers = λ resumes. absurd (cc resumes);
     numbers = numbers;
-    follows = λ id placed is. none placed;
+    follows = λ id placed is. (none placed, left id placed is);
     handler_follows = λ handler is. absurd (cc (called, no_caller now handler is));
   }
 
@@ -176,6 +185,9 @@ module _ (s : System) where
       g.numbers
       (λ placed. ((moves_waits c.kernel.threads (subst IsPlaced (sym same) placed)).blocks wait
       registers).running)
+      (λ id placed is.
+      blocked_waits c.kernel.threads (subst IsPlaced (sym same) placed) id
+      (ap (λ (t : ThreadTable). t.running) same ∙ caller_runs now id is) wait registers)
 
   -- a thread that does not call does not run, where one calls
   pub runs_not : (at id : ℕ) → caller now ≡ Some id → is_it (caller now) at ≡ false

@@ -1,22 +1,26 @@
 -- What each small change of a service keeps of what executes, and what has then become of the
 -- thread or the handler that called.
-use Rattle.std.proofs.Common.{◌≡◌, ℕ, ◌+◌, ◌≤◌, nat_lt, Bool, true, false, Some, Result, List, length, refl, ap, sym, ◌∙◌, subst, arith}
+use Rattle.std.proofs.Common.{◌≡◌, ◌≢◌, ℕ, ◌+◌, ◌≤◌, ◌==◌, nat_lt, Bool, true, false, Some, Result, List, length, refl, ap, sym, ◌∙◌, subst, arith}
 use Rattle.std.specs.List.{list_any}
 use Rattle.std.proofs.lemmas.Bool.{cond_both}
 use Rattle.std.proofs.lemmas.Bool.Decides.{nat_tests}
 use Rattle.iop_base.specs.Piece.{Piece}
 use Rattle.iop_base.specs.declared.code.Code.{Code}
 use Rattle.iop_base.specs.declared.code.TheConstants.Code.{OK, OBJECT_DELETED, WAIT_RELEASED}
-use Rattle.iop_exec.specs.Row.{reg}
+use Rattle.iop_exec.specs.Row.{reg, with_reg}
+use Rattle.iop_exec.specs.declared.cpu.Cpu.{Cpu}
 use Rattle.iop_thread.specs.Laws.{AreSteady}
 use Rattle.iop_thread.specs.Operations as threads
 use Rattle.iop_thread.specs.ThreadTable.{ThreadTable, is_it}
+use Rattle.iop_thread.specs.Waits.{is_live}
+use Rattle.iop_thread.specs.declared.thread.TheConstants.{LOADER}
 use Rattle.iop_thread.specs.declared.wait.Wait.TheVariants.{Sleep, Delay, Object}
 use Rattle.iop_thread.proofs.KeptRegisters.{keeps_steady}
 use Rattle.iop_thread.proofs.Placed.{keeps_places}
 use Rattle.iop_thread.proofs.Waits.{moves_waits}
 use Rattle.iop_time.specs.Timers.{Timers, is_alarm_of, sets_alarm, cancels}
 use Rattle.iop_time.specs.declared.clock.TheConstants.{MOST_ALARMS}
+use Rattle.iop_kernel.specs.Callers.HasLeft.{ends, goes}
 use Rattle.iop_kernel.specs.Handlers.{handler_returned}
 use Rattle.iop_kernel.specs.Laws.{HasReturned}
 use Rattle.iop_kernel.specs.ObjectServices.{threads_in_order}
@@ -27,6 +31,7 @@ use Rattle.iop_kernel.specs.declared.active_handler.ActiveHandler.{ActiveHandler
 use Rattle.iop_kernel.proofs.Keeping.Core.{would_switch, with_them, ended_alone, running_steady}
 use Rattle.iop_kernel.proofs.Keeping.Goes.{Called, Goes, Went, one_runs, is_there, caller_runs_by, answered_alone, numbered, still, threads_go, made, woken, wakes_go, leaving_goes, requeueing_goes, leaves, waits_go, runs_not, suspended_awake, rotated, rotated_alone}
 use Rattle.iop_kernel.proofs.Keeping.Handlers.{gives_to, returned_alone, kept_steady, returns_handler_follows}
+use Rattle.iop_kernel.proofs.Keeping.Leaving.{ended_dormant, rotated_ready, deleted_gone}
 use Rattle.iop_kernel.proofs.Keeping.Meetings.{met_of, threads_met}
 use Rattle.iop_kernel.proofs.Keeping.RunningThread.{running_rotates, none_rotates, running_terminates, running_suspends, caller_runs, no_caller}
 use Rattle.iop_kernel.proofs.Walk.Moves.{Moves, CallMoves}
@@ -64,6 +69,13 @@ module _ (s : System) (active : is_active s.core.kernel ≡ true) where
   abbrev deleted : ℕ
   deleted = code_word OBJECT_DELETED
 
+  -- the thread that calls is not the loader's, where it is not that one
+  no_loader : (at id : ℕ) → caller now ≡ Some id → caller now ≡ Some at → (id == LOADER) ≡ false
+      → at ≢ LOADER
+  no_loader at id is calls other loader =
+      let same : id ≡ at = cc (is, calls) in
+      grind (arith, nat_tests, same, other, loader)
+
   -- what has become of a handler where this one has returned
   abbrev HasReturnedFrom : ActiveHandler → ActiveHandler → Type 0
   HasReturnedFrom handler one =
@@ -76,12 +88,14 @@ module _ (s : System) (active : is_active s.core.kernel ≡ true) where
       stores = λ d given place bytes inside h. h;
       goes_on = λ d given word h. record {
         alone = λ placed alone. answered_alone d.core word (h.alone placed alone);
+        answers = λ resumes. (word, ap (λ (cpu : Cpu). with_reg cpu 2 word) h.processor);
         numbers = h.numbers;
         follows = λ id placed is. h.runs id placed is ∙ caller_runs now id is;
         handler_follows = λ handler is. h.handler ∙ is;
       };
       faults = λ kind. record {
         alone = λ placed h. h;
+        answers = λ resumes. absurd (cc resumes);
         numbers = omega arith;
         follows = λ id placed is. (refl, refl);
         handler_follows = λ handler is. (refl, refl);
@@ -103,6 +117,7 @@ module _ (s : System) (active : is_active s.core.kernel ≡ true) where
           handler = h.handler;
         };
         handler = refl;
+        processor = refl;
         numbers = omega arith;
         runs = λ id placed is. refl;
       };
@@ -125,6 +140,7 @@ module _ (s : System) (active : is_active s.core.kernel ≡ true) where
           handler = h.handler;
         };
         handler = refl;
+        processor = refl;
         numbers = omega arith;
         runs = λ id placed is. refl;
       };
@@ -137,7 +153,9 @@ module _ (s : System) (active : is_active s.core.kernel ≡ true) where
       starts = λ id argument. threads_go s _ (λ h. (keeps_steady table h).starts id argument)
           (λ h. ((moves_waits table h).starts id argument).running);
       ends = λ id is other. leaves s _ (is_there _ id is) (λ placed. ended_alone now) (omega arith)
-          (λ h. (moves_waits table h).ends_running.running);
+          (λ h. (moves_waits table h).ends_running.running)
+          (λ at h calls. ends (no_loader at id is calls other)
+          (ended_dormant table h at (caller_runs now at calls)));
       ends_deleted = λ id stack left is other did.
           let ended_table = (ended now).kernel.threads in
           leaves s _ (is_there _ id is) (λ placed h. let alone = ended_alone now h in
@@ -146,7 +164,12 @@ module _ (s : System) (active : is_active s.core.kernel ≡ true) where
           (omega arith)
           (λ h. ap (λ (r : Result ℕ Code × ThreadTable). r.1.running) (sym did)
           ∙ ((moves_waits ended_table (keeps_places table h).ends_running).deletes id).running
-          ∙ (moves_waits table h).ends_running.running);
+          ∙ (moves_waits table h).ends_running.running)
+          (λ at h calls.
+          let same : id ≡ at = cc (is, calls) in
+          let gone = deleted_gone ended_table (keeps_places table h).ends_running id stack left did in
+          goes (no_loader at id is calls other)
+          (subst (λ (n : ℕ). is_live left n ≡ false) same gone));
       returns = λ id word is loader. record {
         alone = λ placed h. record {
           awake = λ none. (refl, λ outside. refl);
@@ -154,6 +177,7 @@ module _ (s : System) (active : is_active s.core.kernel ≡ true) where
           threads = h.threads;
           handler = h.handler;
         };
+        answers = λ resumes. absurd (cc resumes);
         numbers = omega arith;
         follows = λ at placed calls.
             let same : id ≡ at = cc (is, calls) in
@@ -175,6 +199,7 @@ module _ (s : System) (active : is_active s.core.kernel ≡ true) where
               handler = h.handler;
             };
             handler = refl;
+            processor = refl;
             numbers = omega arith;
             runs = λ at placed calls.
                 absurd (cc (runs, runs_not s id at calls (grind (arith, nat_tests, other))));
@@ -188,12 +213,14 @@ module _ (s : System) (active : is_active s.core.kernel ≡ true) where
         alone = λ placed h. rotated_alone s priority h
             (λ none. h.awake (cc (running_rotates table placed priority _ other, none)));
         handler = refl;
+        processor = refl;
         numbers = omega arith;
         runs = λ at placed calls. running_rotates table placed priority _ other;
       };
       rotates_beside = λ priority own may is. record {
         alone = λ placed h. rotated_alone s priority h (λ none. would_switch _ _ _ may);
         handler = refl;
+        processor = refl;
         numbers = omega arith;
         runs = λ at placed calls. absurd (cc (is, calls));
       };
@@ -201,7 +228,9 @@ module _ (s : System) (active : is_active s.core.kernel ≡ true) where
           leaves s _ (is_there _ id is) (λ placed h.
           answered_alone (with_threads now (rotated s priority)) 0
           (rotated_alone s priority h (λ none. would_switch _ _ _ may)))
-          (omega arith) (λ placed. none_rotates table placed priority _ own);
+          (omega arith) (λ placed. none_rotates table placed priority _ own)
+          (λ at placed calls.
+          rotated_ready table placed at (caller_runs now at calls) priority _ own);
       releases = λ id t wait found is.
           leaving_goes s (wakes_with now t.id WAIT_RELEASED) t.id (Some wait)
           (wakes_go s t.id (code_word WAIT_RELEASED));
@@ -220,6 +249,7 @@ module _ (s : System) (active : is_active s.core.kernel ≡ true) where
                 registers (running_steady now h)) (suspended_awake s id now.kernel.handler
                 (is_it table.running id) refl refl may it placed h);
             handler = refl;
+            processor = refl;
             numbers = omega arith;
             runs = λ at placed calls.
                 running_suspends table placed id registers (runs_not s id at calls it);
@@ -250,6 +280,7 @@ module _ (s : System) (active : is_active s.core.kernel ≡ true) where
         record {
           alone = λ placed h. returned_alone now _ handler.kept gives
               (kept_steady now.kernel.handler handler h.handler is) h;
+          answers = λ resumes. absurd (cc resumes);
           numbers = omega (arith, gives.next);
           follows = λ id placed calls. absurd (cc (calls, no_caller now handler is));
           handler_follows = λ one runs.

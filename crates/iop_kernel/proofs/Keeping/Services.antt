@@ -27,6 +27,7 @@ services_keep s code active =
     record {
       follows = λ one placed is. h.follows one placed.threads is;
       handler_follows = h.handler_follows;
+      answers = h.answers;
       numbers = h.numbers;
       core = λ core.
           holds_whole (services_place s code core.placed) (services_overdue s code core.overdue)

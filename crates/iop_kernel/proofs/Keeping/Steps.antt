@@ -2,15 +2,10 @@
 -- its services.
 use Rattle.std.proofs.Common.{◌≡◌, ℕ, Option, None, refl}
 use Rattle.std.specs.Prelude.{⊤}
-use Rattle.std.proofs.lemmas.List.Elements.{All-nil}
 use Rattle.iop_base.specs.declared.code.TheConstants.Code.{OK}
-use Rattle.iop_event.specs.Laws.{AskBits}
-use Rattle.iop_event.specs.declared.event_flag.EventFlag.{EventFlag}
-use Rattle.iop_event.specs.declared.wanted.Wanted.{Wanted}
 use Rattle.iop_exec.specs.Laws.{IsSteady}
 use Rattle.iop_exec.specs.declared.cpu.Cpu.{Cpu}
 use Rattle.iop_intr.specs.declared.handler.Handler.{Handler}
-use Rattle.iop_objects.specs.Objects.{Object}
 use Rattle.iop_thread.specs.Laws.{KeepsSteady}
 use Rattle.iop_thread.specs.Waits.{MovesWaits}
 use Rattle.iop_thread.specs.declared.kind.Kind.TheVariants as kinds
@@ -39,7 +34,6 @@ opening_overdue = record {
     | kinds.Mailbox ↦ λ id x is. cc
   ];
   sleepers = operations_keep_sleepers.opening;
-  asks = All-nil (λ (o : Object EventFlag Wanted). AskBits o.waiters);
 }
 
 -- at first, whatever the registers are

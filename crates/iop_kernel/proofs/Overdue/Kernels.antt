@@ -6,7 +6,6 @@ use Rattle.iop_thread.specs.Laws.{SleepersAreUnwoken, KeepsSleepers}
 use Rattle.iop_thread.specs.Operations as threads
 use Rattle.iop_thread.specs.ThreadTable.{ThreadTable}
 use Rattle.iop_thread.specs.declared.kind.Kind.{Kind}
-use Rattle.iop_thread.specs.declared.kind.Kind.TheVariants as kinds
 use Rattle.iop_thread.specs.declared.wait.Wait.{Wait}
 use Rattle.iop_thread.specs.declared.wait.Wait.TheVariants as waits
 use Rattle.iop_thread.proofs.Sleepers.{keeps_sleepers}
@@ -17,7 +16,7 @@ use Rattle.iop_kernel.specs.System.{Kernel}
 use Rattle.iop_kernel.specs.Waits.{wakes_all, leaves_object, requeues_at}
 use Rattle.iop_kernel.specs.declared.active_handler.ActiveHandler.{ActiveHandler}
 use Rattle.iop_kernel.proofs.Bodies.KindTables.{each_table}
-use Rattle.iop_kernel.proofs.Overdue.Kinds.{InTime, AllAsk, asks_of, drops_in_time, requeues_in_time as requeues_in_time_of}
+use Rattle.iop_kernel.proofs.Overdue.Kinds.{InTime, drops_in_time, requeues_in_time as requeues_in_time_of}
 use Rattle.iop_kernel.proofs.Placing.Basics.{second}
 
 -- threads that are woken one after the other sleep as before
@@ -34,11 +33,7 @@ module _ (k : Kernel) (h : NoneOverdue k) where
 
   -- its objects of a kind
   pub in_time_of : (kind : Kind) → InTime kind (table kind k)
-  in_time_of kind = record { none = h.objects kind; asks = by kind }
-    where
-      by : (kind : Kind) → AllAsk kind (table kind k)
-      by kinds.EventFlag = h.asks
-      by kind = tt
+  in_time_of kind = record { idle = h.objects kind }
 
   -- other threads
   pub with_other_threads : (left : ThreadTable) → SleepersAreUnwoken left
@@ -46,7 +41,6 @@ module _ (k : Kernel) (h : NoneOverdue k) where
   with_other_threads left so = record {
     objects = h.objects;
     sleepers = so;
-    asks = h.asks;
   }
 
   -- those that an operation answers
@@ -69,9 +63,8 @@ module _ (k : Kernel) (h : NoneOverdue k) where
   pub with_other_objects : (kind : Kind) (left : Table kind) → InTime kind left
       → NoneOverdue (with_table kind k left)
   with_other_objects kind left so = record {
-    objects = each_table AreIdle kind k left so.none (λ other apart. h.objects other);
+    objects = each_table AreIdle kind k left so.idle (λ other apart. h.objects other);
     sleepers = h.sleepers;
-    asks = asks_of kind left k.event_flags h.asks so;
   }
 
   -- no object and no thread changes
@@ -88,7 +81,6 @@ module _ (k : Kernel) (h : NoneOverdue k) where
   beside_in_time clock interrupts dispatching handler timers irqs = record {
     objects = h.objects;
     sleepers = h.sleepers;
-    asks = h.asks;
   }
 
   -- interrupts are on and dispatch is enabled

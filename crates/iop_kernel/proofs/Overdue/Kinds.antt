@@ -1,26 +1,23 @@
 -- No wait for an object of any kind is overdue, when one changes, comes or goes.
-use Rattle.std.proofs.Common.{◌≡◌, ◌≢◌, ℕ, ◌==◌, Bool, false, if◌then◌else◌, ◌⊎◌, inl, inr, Some, Result, List, [], ◌∷◌, ◌++◌, refl, sym, ap, ◌∙◌, subst}
-use Rattle.std.specs.Prelude.{bit_and, ⊤}
-use Rattle.std.proofs.lemmas.Bool.{cond_both, eqb-false, eqb-true}
-use Rattle.std.proofs.lemmas.List.Elements.{All-map, All-nil, All-push, All-weaker}
+use Rattle.std.proofs.Common.{◌≡◌, ℕ, Bool, false, ◌⊎◌, inl, inr, Some, List, [], ◌∷◌, ◌++◌, refl, sym, ap, ◌∙◌, subst}
+use Rattle.std.specs.Prelude.{bit_and}
+use Rattle.std.proofs.lemmas.Bool.{eqb-false, eqb-true}
+use Rattle.std.proofs.lemmas.List.Elements.{All-nil, All-push, All-weaker}
 use Rattle.std.proofs.lemmas.Option.{same_Some}
-use Rattle.iop_base.specs.declared.code.Code.{Code}
-use Rattle.iop_event.specs.EventFlags.{EventFlags, AskForBits}
-use Rattle.iop_event.specs.Laws.{AskBits, NoneOverdue}
-use Rattle.iop_event.specs.WakeConditions.{Settled, is_met}
-use Rattle.iop_event.proofs.Asking.{AskBits-waiters_of, AskForBits-deletes, AskForBits-with_state, AskForBits-with_waiters}
+use Rattle.iop_event.specs.EventFlags.{EventFlags}
+use Rattle.iop_event.specs.Laws.{NoneOverdue}
+use Rattle.iop_event.specs.WakeConditions.{Settled, is_met, pattern_after}
+use Rattle.iop_event.proofs.FewerBits.{IsUnmet, unmet_cleared, unmet_after}
 use Rattle.iop_mbx.specs.Mailboxes.{messages_by_priority, waiters_by_priority}
-use Rattle.iop_objects.specs.Objects.{state_of, waiters_of, has_room, changes, with_state, with_waiters, creates, deletes, waits, drops, requeues}
+use Rattle.iop_objects.specs.Objects.{state_of, waiters_of, changes, with_state, with_waiters, creates, deletes, waits, drops, requeues}
 use Rattle.iop_objects.specs.Queue.{Choice, chooses}
 use Rattle.iop_objects.specs.declared.queued.Queued.{Queued}
 use Rattle.iop_objects.specs.declared.waiter.Waiter.{Waiter}
 use Rattle.iop_sema.specs.Semaphores.{by_priority}
 use Rattle.iop_thread.specs.declared.kind.Kind.{Kind}
 use Rattle.iop_thread.specs.declared.kind.Kind.TheVariants.{Semaphore, EventFlag, Mailbox}
-use Rattle.iop_kernel.specs.EventFlags.{LiveFlag}
-use Rattle.iop_kernel.specs.Kinds.{State, Wants, Table, if_of}
+use Rattle.iop_kernel.specs.Kinds.{State, Wants, Table}
 use Rattle.iop_kernel.specs.Overdue.{AreIdle, IsIdle}
-use Rattle.iop_kernel.proofs.Overdue.Conditions.{IsUnmet, Asks, unmet_cleared, none_overdue_after}
 use Rattle.iop_kernel.proofs.Overdue.Objects.{each_changes, each_with_waiters, each_with_state, each_creates, each_deletes}
 use Rattle.iop_kernel.proofs.Placing.Moves.{settled_flag}
 use Rattle.iop_kernel.proofs.Placing.ObjectsKept.{NoOthers, all_others, none_new, none_without, none_requeued, none_chosen_new}
@@ -30,39 +27,11 @@ use Rattle.iop_kernel.proofs.Walk.Changes.FlagChanges.{clears, tests}
 use Rattle.iop_kernel.proofs.Walk.Changes.MailboxChanges.{puts, gets}
 use Rattle.iop_kernel.proofs.Walk.Changes.SemaphoreChanges.{counts, takes}
 
--- the threads that wait for an object of a kind: each that waits for bits asks for one at least
-abbrev AskWell : (kind : Kind) → List (Queued (Waiter (Wants kind))) → Type 0
-AskWell EventFlag waiters = AskBits waiters
-AskWell kind waiters = ⊤
-
--- those that wait for all of them
-abbrev pub AllAsk : (kind : Kind) → Table kind → Type 0
-AllAsk EventFlag s = AskForBits s
-AllAsk kind s = ⊤
-
--- the objects of a kind are idle, and those that wait for them ask so
+-- threads wait for the objects of a kind only where there is nothing to be had
 pub record InTime (kind : Kind) (s : Table kind) : Type 0 where
-  pub none : AreIdle kind s
-  pub asks : AllAsk kind s
+  pub idle : AreIdle kind s
 
--- threads ask for bits, where they did
-pub asks_of : (kind : Kind) (s : Table kind) (flags : EventFlags) → AskForBits flags
-    → InTime kind s → AskForBits (if_of kind EventFlag s flags)
-asks_of EventFlag s flags asks h = h.asks
-asks_of Semaphore s flags asks h = asks
-asks_of Mailbox s flags asks h = asks
-
--- those of one object do where those of all do
-asks_at : (kind : Kind) (s : Table kind) → AllAsk kind s → (id : ℕ) → AskWell kind (waiters_of s id)
-asks_at EventFlag s asks id = AskBits-waiters_of s asks id
-asks_at kind s asks id = tt
-
--- where none is new
-asks_others : (kind : Kind) (old new : List (Queued (Waiter (Wants kind)))) → NoOthers old new
-    → AskWell kind old → AskWell kind new
-asks_others EventFlag old new none asks = all_others (λ w. w.wants.bits ≢ 0) old new none asks
-asks_others kind old new none asks = tt
-
+-- so it is where none is new
 idle_others : (kind : Kind) (x : State kind) (old new : List (Queued (Waiter (Wants kind))))
     → NoOthers old new → IsIdle kind x old → IsIdle kind x new
 idle_others Semaphore x old new none (inl empty) = inl (none_new old new none empty)
@@ -72,33 +41,6 @@ idle_others EventFlag x old new none unmet =
 idle_others Mailbox x old new none (inl empty) = inl (none_new old new none empty)
 idle_others Mailbox x old new none (inr clear) = inr clear
 
--- where others wait for one object
-asks_with_waiters : (kind : Kind) (s : Table kind) → AllAsk kind s → (id : ℕ)
-    (new : List (Queued (Waiter (Wants kind)))) → AskWell kind new
-    → AllAsk kind (with_waiters s id new)
-asks_with_waiters EventFlag s asks id new ask = AskForBits-with_waiters s asks id new ask
-asks_with_waiters kind s asks id new ask = tt
-
--- where something else is known of one
-asks_with_state : (kind : Kind) (s : Table kind) → AllAsk kind s → (id : ℕ) (x : State kind)
-    → AllAsk kind (with_state s id x)
-asks_with_state EventFlag s asks id x = AskForBits-with_state s asks id x
-asks_with_state kind s asks id x = tt
-
--- where one is made
-asks_creates : (kind : Kind) (s : Table kind) → AllAsk kind s → (x : State kind)
-    → AllAsk kind (creates s x).1
-asks_creates EventFlag s asks x =
-    cond_both (has_room s) _ _ (λ (r : Result ℕ Code × EventFlags). AskForBits r.1)
-    (λ room. All-push (λ o. AskBits o.waiters) s.live _ asks (All-nil Asks)) (λ full. asks)
-asks_creates kind s asks x = tt
-
--- where one is deleted
-asks_deletes : (kind : Kind) (s : Table kind) → AllAsk kind s → (id : ℕ)
-    → AllAsk kind (deletes s id)
-asks_deletes EventFlag s asks id = AskForBits-deletes s asks id
-asks_deletes kind s asks id = tt
-
 -- none waits for one that is made
 idle_first : (kind : Kind) (x : State kind) → IsIdle kind x []
 idle_first Semaphore x = inl refl
@@ -106,13 +48,6 @@ idle_first EventFlag x = All-nil (IsUnmet x.pattern)
 idle_first Mailbox x = inl refl
 
 -- a thread waits that has to
-asks_last : (kind : Kind) (s : Table kind) (id : ℕ) (x : State kind)
-    (w : Queued (Waiter (Wants kind))) → HasToWait kind s id x w.item.wants
-    → AskWell kind (waiters_of s id) → AskWell kind (waiters_of s id ++ w ∷ [])
-asks_last EventFlag s id x w must asks =
-    All-push Asks (waiters_of s id) w asks (eqb-false w.item.wants.bits 0 must.0)
-asks_last kind s id x w must asks = tt
-
 idle_last : (kind : Kind) (s : Table kind) (id : ℕ) (x : State kind)
     (w : Queued (Waiter (Wants kind))) → HasToWait kind s id x w.item.wants
     → IsIdle kind x (waiters_of s id) → IsIdle kind x (waiters_of s id ++ w ∷ [])
@@ -128,20 +63,21 @@ none_at (inl empty) some = empty
 none_at (inr is) some = absurd (some is)
 
 -- what is known of an object changes
-idle_changed : (kind : Kind) (s : Table kind) → AllAsk kind s → (id : ℕ) (x y : State kind)
+idle_changed : (kind : Kind) (s : Table kind) (id : ℕ) (x y : State kind)
     → Changes kind s id x y → IsIdle kind x (waiters_of s id) → IsIdle kind y (waiters_of s id)
-idle_changed Semaphore s asks id x y (counts none fits) idle =
+idle_changed Semaphore s id x y (counts none fits) idle =
     inl (all_chosen (by_priority x) (waiters_of s id) none)
-idle_changed Semaphore s asks id x y (takes some) idle =
+idle_changed Semaphore s id x y (takes some) idle =
     inl (none_at idle (eqb-false x.count 0 some))
-idle_changed EventFlag s asks id x y (clears mask) idle =
+idle_changed EventFlag s id x y (clears mask) idle =
     All-weaker (IsUnmet x.pattern) (IsUnmet (bit_and x.pattern mask))
     (unmet_cleared x.pattern mask) (waiters_of s id) idle
-idle_changed EventFlag s asks id x y (tests wanted met) idle =
-    none_overdue_after wanted.mode x.pattern (waiters_of s id) (AskBits-waiters_of s asks id) idle
-idle_changed Mailbox s asks id x y (puts message none room) idle =
+idle_changed EventFlag s id x y (tests wanted met) idle =
+    All-weaker (IsUnmet x.pattern) (IsUnmet (pattern_after wanted.mode x.pattern))
+    (unmet_after wanted.mode x.pattern) (waiters_of s id) idle
+idle_changed Mailbox s id x y (puts message none room) idle =
     inl (all_chosen (waiters_by_priority x.attr) (waiters_of s id) none)
-idle_changed Mailbox s asks id x y (gets one next) idle =
+idle_changed Mailbox s id x y (gets one next) idle =
     let first = messages_by_priority x.attr in
     inl (none_at idle (λ clear. none_chosen first one (sym (ap (chooses first) clear) ∙ next)))
 
@@ -150,10 +86,8 @@ module _ (kind : Kind) (s : Table kind) (h : InTime kind s) where
   others_in_time : (id : ℕ) (new : List (Queued (Waiter (Wants kind))))
       → NoOthers (waiters_of s id) new → InTime kind (with_waiters s id new)
   others_in_time id new none = record {
-    none = each_with_waiters (IsIdle kind) s h.none id new
+    idle = each_with_waiters (IsIdle kind) s h.idle id new
         (λ x is. idle_others kind x (waiters_of s id) new none);
-    asks = asks_with_waiters kind s h.asks id new
-        (asks_others kind (waiters_of s id) new none (asks_at kind s h.asks id));
   }
 
   -- so where a thread waits no more
@@ -176,50 +110,33 @@ module _ (kind : Kind) (s : Table kind) (h : InTime kind s) where
   pub waits_in_time : (id : ℕ) (x : State kind) (w : Queued (Waiter (Wants kind)))
       → state_of s id ≡ Some x → HasToWait kind s id x w.item.wants → InTime kind (waits s id w)
   waits_in_time id x w known must = record {
-    none = each_with_waiters (IsIdle kind) s h.none id _ (λ y is idle.
+    idle = each_with_waiters (IsIdle kind) s h.idle id _ (λ y is idle.
         subst (λ y. IsIdle kind y (waiters_of s id ++ w ∷ [])) (same_Some x y (sym known ∙ is))
-        (idle_last kind s id x w must (h.none id x known)));
-    asks = asks_with_waiters kind s h.asks id _
-        (asks_last kind s id x w must (asks_at kind s h.asks id));
+        (idle_last kind s id x w must (h.idle id x known)));
   }
 
   -- what is known of one changes
   pub changes_in_time : (id : ℕ) (x y : State kind) → state_of s id ≡ Some x
       → Changes kind s id x y → InTime kind (with_state s id y)
   changes_in_time id x y known how = record {
-    none = each_with_state (IsIdle kind) s h.none id y
-        (idle_changed kind s h.asks id x y how (h.none id x known));
-    asks = asks_with_state kind s h.asks id y;
+    idle = each_with_state (IsIdle kind) s h.idle id y
+        (idle_changed kind s id x y how (h.idle id x known));
   }
 
   -- an object is made
   pub creates_in_time : (x : State kind) → InTime kind (creates s x).1
-  creates_in_time x = record {
-    none = each_creates (IsIdle kind) s h.none x (idle_first kind x);
-    asks = asks_creates kind s h.asks x;
-  }
+  creates_in_time x =
+      record { idle = each_creates (IsIdle kind) s h.idle x (idle_first kind x) }
 
   -- one is deleted
   pub deletes_in_time : (id : ℕ) → InTime kind (deletes s id)
-  deletes_in_time id = record {
-    none = each_deletes (IsIdle kind) s h.none id;
-    asks = asks_deletes kind s h.asks id;
-  }
+  deletes_in_time id = record { idle = each_deletes (IsIdle kind) s h.idle id }
 
 -- the threads that wait for an event flag have settled, so that no condition holds
-module _ (s : EventFlags) (h : InTime EventFlag s) (id : ℕ) (settled : Settled) where
-  abbrev Asked : LiveFlag → Type 0
-  Asked o = AskBits o.waiters
-
-  abbrev change : LiveFlag → LiveFlag
-  change o = if o.id == id then settled_flag settled o else o
-
-  pub settles_in_time : NoneOverdue settled.pattern settled.waiters → AskBits settled.waiters
-      → InTime EventFlag (changes s id (settled_flag settled))
-  settles_in_time none ask = record {
-    none = each_changes (IsIdle EventFlag) s h.none id (settled_flag settled) (λ o. refl)
-        (λ o found. none);
-    asks = All-map Asked change s.live (All-weaker Asked (λ o. Asked (change o))
-        (λ o was. cond_both (o.id == id) (settled_flag settled o) o Asked (λ it. ask)
-        (λ other. was)) s.live h.asks);
-  }
+pub settles_in_time : (s : EventFlags) → InTime EventFlag s → (id : ℕ) (settled : Settled)
+    → NoneOverdue settled.pattern settled.waiters
+    → InTime EventFlag (changes s id (settled_flag settled))
+settles_in_time s h id settled none = record {
+  idle = each_changes (IsIdle EventFlag) s h.idle id (settled_flag settled) (λ o. refl)
+      (λ o found. none);
+}

@@ -4,12 +4,9 @@ use Rattle.std.specs.Prelude.{⊤, bit_or}
 use Rattle.std.proofs.lemmas.Bool.{cond_both, ltb-false}
 use Rattle.iop_base.specs.Piece.{Piece}
 use Rattle.iop_base.specs.declared.code.TheConstants.Code.{OK, OBJECT_DELETED, WAIT_RELEASED}
-use Rattle.iop_event.specs.Laws.{AskBits}
 use Rattle.iop_event.specs.WakeConditions.{settles}
-use Rattle.iop_event.proofs.Asking.{AskBits-waiters_of}
 use Rattle.iop_event.proofs.Settling.{none_overdue}
 use Rattle.iop_exec.specs.Row.{reg}
-use Rattle.iop_objects.specs.Objects.{waiters_in}
 use Rattle.iop_thread.specs.Operations as threads
 use Rattle.iop_thread.specs.ThreadTable.{ThreadTable, running_thread, with_wakeups}
 use Rattle.iop_thread.specs.declared.kind.Kind.TheVariants.{EventFlag}
@@ -25,7 +22,6 @@ use Rattle.iop_kernel.specs.ThreadStarts.{ended}
 use Rattle.iop_kernel.specs.declared.after.After.{After}
 use Rattle.iop_kernel.proofs.Keeping.Handlers.{gives_to}
 use Rattle.iop_kernel.proofs.Keeping.Meetings.{met_of, threads_met}
-use Rattle.iop_kernel.proofs.Overdue.Conditions.{settled_ask}
 use Rattle.iop_kernel.proofs.Overdue.Kernels.{sleepers, with_other_threads, threads_come, woken_in_time, blocked_in_time, beside_in_time, opened_in_time, leaves_in_time, requeues_in_time, in_time_of, with_other_objects}
 use Rattle.iop_kernel.proofs.Overdue.Kinds.{settles_in_time, chosen_in_time, waits_in_time, creates_in_time, deletes_in_time, changes_in_time}
 use Rattle.iop_kernel.proofs.Walk.Moves.{Moves, CallMoves}
@@ -140,12 +136,9 @@ module _ (s : System) (h : NoneOverdue s.core.kernel) where
           (running_registers s.core) (λ asleep. cc asleep);
     };
     sets = λ own_library bits o found. let now = bit_or o.state.pattern bits in
-        let due = in_time_of k h EventFlag in
-        let flags = k.event_flags in
-        let ask = subst AskBits (ap waiters_in found) (AskBits-waiters_of flags h.asks o.id) in
-        woken_in_time _ (with_other_objects k h EventFlag _ (settles_in_time flags due o.id
-        (settles now o.waiters) (none_overdue now o.waiters ask) (settled_ask now o.waiters ask)))
-        (threads_met (met_of o bits)) (code_word OK);
+        woken_in_time _ (with_other_objects k h EventFlag _
+        (settles_in_time k.event_flags (in_time_of k h EventFlag) o.id (settles now o.waiters)
+        (none_overdue now o.waiters))) (threads_met (met_of o bits)) (code_word OK);
   }
 
   in_time_calls : CallMoves InTimeSystem InTimeAfter ⊤ s

@@ -15,7 +15,9 @@ use Rattle.iop_kernel.specs.Placing.{IsPlaced}
 use Rattle.iop_kernel.specs.System.{Kernel, Core}
 use Rattle.iop_kernel.specs.ThreadStarts.{ended}
 use Rattle.iop_kernel.specs.declared.active_handler.ActiveHandler.{ActiveHandler}
+use Rattle.iop_kernel.proofs.Placing.KeptPriorities.{KeepsPriorities, keeps_priorities}
 use Rattle.iop_kernel.proofs.Placing.Live.{live_room}
+use Rattle.iop_kernel.proofs.Placing.Priorities.{KeepPriorities}
 use Rattle.iop_kernel.proofs.Placing.Queues.{delayed}
 use Rattle.iop_kernel.proofs.Placing.Threads.{stand}
 
@@ -37,11 +39,16 @@ pub same_live : (k : Kernel) → IsPlaced k → {left : ThreadTable} → threads
     → ((id : ℕ) → is_live left id ≡ is_live k.threads id) → length left.live ≤ MOST_DELAYS
 same_live k h {left} placed live = live_room k.threads left placed live h.delays.room
 
--- the same threads are live, and each waits on: they stand in place of the kernel's
+-- and to the priorities of those that wait
+abbrev pub keeps : (k : Kernel) → IsPlaced k → KeepsPriorities k.threads
+keeps k h = keeps_priorities k.threads h.threads
+
+-- the same threads are live, and each waits on with its priority: they stand in place of the
+-- kernel's
 pub stand_on : (k : Kernel) → IsPlaced k → {left : ThreadTable} {running : Option ℕ}
     → threads_placing.IsPlaced left → WaitOn k.threads left running
-    → IsPlaced (record k { threads = left })
-stand_on k h placed on = stand k h placed (same_live k h placed on.live) on.waits
+    → KeepPriorities k.threads left → IsPlaced (record k { threads = left })
+stand_on k h placed on keep = stand k h placed (same_live k h placed on.live) on.waits keep
 
 -- so do those that an operation answers
 pub comes : (k : Kernel) {A : Type 0} {r : A × ThreadTable} {a : A} {left : ThreadTable}
@@ -86,7 +93,7 @@ timers_placed timers kept same h = record {
 pub ended_places : (c : Core) → IsPlaced c.kernel → IsPlaced (ended c).kernel
 ended_places c h =
     stand_on _ (open_placed c.kernel h) (places c.kernel h).ends_running
-    (moves c.kernel h).ends_running
+    (moves c.kernel h).ends_running (keeps c.kernel h).ends_running
 
 -- the moment is another
 pub clock_place : (k : Kernel) (moment : ℕ) → IsPlaced k → IsPlaced (record k { clock = moment })

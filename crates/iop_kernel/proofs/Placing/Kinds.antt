@@ -1,17 +1,19 @@
 -- Threads and waiters stay placed where the running thread waits for an object or for a time, or
 -- threads that wait for an object are woken: once for all kinds of objects.
-use Rattle.std.proofs.Common.{◌≡◌, ℕ, ◌+◌, ◌<◌, ◌==◌, nat_lt, Bool, true, false, if◌then◌else◌, Option, Some, None, List, ◌∷◌, [], refl, ap, sym, ◌∙◌, arith}
+use Rattle.std.proofs.Common.{◌≡◌, ℕ, ◌+◌, ◌<◌, ◌==◌, nat_lt, Bool, true, false, if◌then◌else◌, Option, Some, None, List, ◌∷◌, ◌++◌, [], All, refl, ap, sym, ◌∙◌, subst, arith}
 use Rattle.std.proofs.lemmas.Bool.{cond_both, eq-eqb, ltb-false, ltb-true}
+use Rattle.std.proofs.lemmas.List.Elements.{All-push, All-weaker}
 use Rattle.iop_base.specs.Numbers.{one_if}
 use Rattle.iop_exec.specs.declared.cpu.Cpu.{Cpu}
 use Rattle.iop_objects.specs.Objects.{object_of, state_of, waiters_in, waiters_of}
 use Rattle.iop_objects.specs.Objects as objects
 use Rattle.iop_objects.specs.Queue.{Choice, chooses, in_order}
+use Rattle.iop_objects.specs.declared.queued.Queued.{Queued}
 use Rattle.iop_objects.specs.declared.waiter.Waiter.{Waiter}
 use Rattle.iop_objects.proofs.Changes.{waiters_of-with_waiters}
 use Rattle.iop_thread.specs.Operations as threads
 use Rattle.iop_thread.specs.Placing.{times}
-use Rattle.iop_thread.specs.ThreadTable.{ThreadTable, is_it}
+use Rattle.iop_thread.specs.ThreadTable.{ThreadTable, is_it, priority_of}
 use Rattle.iop_thread.specs.Waits.{wait_of}
 use Rattle.iop_thread.specs.declared.kind.Kind.{Kind}
 use Rattle.iop_thread.specs.declared.wait.Wait.{Wait}
@@ -20,12 +22,16 @@ use Rattle.iop_thread.proofs.ReadyIds.{times_first}
 use Rattle.iop_time.specs.Timers.{delays}
 use Rattle.iop_time.proofs.Keeping.{with_delay-keeps}
 use Rattle.iop_kernel.specs.Kinds.{State, Wants, Table, table, with_table, waits_by_priority}
-use Rattle.iop_kernel.specs.Placing.{IsPlaced, is_for, is_for_delay}
+use Rattle.iop_kernel.specs.Placing.{IsPlaced, HasItsPriority, is_for, is_for_delay}
 use Rattle.iop_kernel.specs.System.{Kernel}
 use Rattle.iop_kernel.specs.Waits.{threads_of, wakes_all}
 use Rattle.iop_kernel.proofs.Bodies.KindTables.{for_object, own_object}
-use Rattle.iop_kernel.proofs.Placing.Basics.{places, moves, same_live}
+use Rattle.iop_kernel.proofs.Placing.Basics.{places, moves, keeps, same_live}
+use Rattle.iop_kernel.proofs.Placing.KeptPriorities.{keep_blocks}
 use Rattle.iop_kernel.proofs.Placing.Objects.{IsBut, with_waiters_but}
+use Rattle.iop_kernel.proofs.Placing.ObjectsKept.{all_but_chosen}
+use Rattle.iop_kernel.proofs.Placing.Priorities.{all_waiting}
+use Rattle.iop_kernel.proofs.Placing.QueuedPriorities.{queued_on}
 use Rattle.iop_kernel.proofs.Placing.Queues.{times_added, times_in, times_in_last, times_in_order, chosen_split}
 use Rattle.iop_kernel.proofs.Placing.Rooms.{fewer_delays, runs_undelayed}
 use Rattle.iop_kernel.proofs.Placing.Threads.{all_woken, delay_turns, object_turns, running_waits_not}
@@ -46,6 +52,7 @@ module _ (k : Kernel) (h : IsPlaced k) (wait : Wait) (registers : Cpu) where
         before = running_waits_not k.threads h.threads;
         after = moved.waits;
         alike = λ asks same. sym same;
+        priorities = (keeps k h).blocks wait registers;
       }
 
   -- a list of the threads for whose waits something is true has the running one more
@@ -83,23 +90,37 @@ module _ (kind : Kind) (k : Kernel) (h : IsPlaced k) (id : ℕ) where
 
   -- it waits for an object
   pub blocked_placed : (registers : Cpu) (thread : ℕ) → k.threads.running ≡ Some thread
-      → (x : State kind) → state_of s id ≡ Some x → (priority : ℕ) (wants : Wants kind)
+      → (x : State kind) → state_of s id ≡ Some x → (wants : Wants kind)
       → IsPlaced (with_table kind
       (record k { threads = threads.blocks k.threads (Object kind id) registers })
-      (objects.waits s id
-      (record { priority = priority; item = record { thread = thread; wants = wants } })))
-  blocked_placed registers thread runs x known priority wants =
+      (objects.waits s id (record {
+        priority = priority_of k.threads.live thread;
+        item = record { thread = thread; wants = wants };
+      })))
+  blocked_placed registers thread runs x known wants =
+      let left = threads.blocks k.threads (Object kind id) registers in
+      let keep = keep_blocks k.threads h.threads (Object kind id) registers in
+      let last : Queued (Waiter (Wants kind)) = record {
+        priority = priority_of k.threads.live thread;
+        item = record { thread = thread; wants = wants };
+      } in
+      let more = waiters_of s id ++ last ∷ [] in
+      let now = waiters_of-with_waiters s id x known more in
       object_turns k h kind id (blocked_turns k h (Object kind id) registers) _
-      (with_waiters_but s id _)
+      (with_waiters_but s id more)
       (one_more k h (Object kind id) registers thread runs (is_for kind id) refl
       (own_object kind id id ∙ eq-eqb id id refl) ((h.objects kind).waiters id)
-      (λ t. ap (times_in t) (waiters_of-with_waiters s id x known _)
-      ∙ times_in_last t (waiters_of s id) _))
+      (λ t. ap (times_in t) now ∙ times_in_last t (waiters_of s id) last))
+      (subst (All (HasItsPriority left)) (sym now)
+      (All-push (HasItsPriority left) (waiters_of s id) last
+      (queued_on kind s (h.objects kind) id left (λ t is. keep.each t)) (sym (keep.each thread))))
 
   -- some that wait for the object are woken, and the others wait on
   module _ {left : Table kind} (but : IsBut id s left) (ids : List ℕ) (word : ℕ)
       (split : (t : ℕ) → times_in t (waiters_of left id) + times t ids
-      ≡ times_in t (waiters_of s id)) where
+      ≡ times_in t (waiters_of s id))
+      (rest : All (HasItsPriority k.threads) (waiters_of s id)
+      → All (HasItsPriority k.threads) (waiters_of left id)) where
     abbrev asks : ℕ → Bool
     asks t = is_for kind id (wait_of k.threads t)
 
@@ -125,10 +146,14 @@ module _ (kind : Kind) (k : Kernel) (h : IsPlaced k) (id : ℕ) where
           before = λ t it. for_object kind id _ (woken_asks (asks t) (once t) (ltb-true 0 _ it)).0;
           after = all.waits;
           alike = λ asks same. same;
+          priorities = all_waiting all.priorities;
         }) left but
         (λ t. cond_both (nat_lt 0 (times t ids)) _ _ (λ n. times_in t (waiters_of left id) ≡ n)
         (λ it. (woken_asks (asks t) (once t) (ltb-true 0 _ it)).1)
         (λ none. omega (arith, split t, ltb-false 0 _ none)))
+        (All-weaker (HasItsPriority k.threads) (HasItsPriority (wakes_all k.threads ids word))
+        (λ x was. was ∙ sym (all.priorities.each x.item.thread)) (waiters_of left id)
+        (rest ((h.objects kind).priorities id)))
 
   -- so where one is chosen
   pub chosen_placed : (x : State kind) → state_of s id ≡ Some x
@@ -138,13 +163,17 @@ module _ (kind : Kind) (k : Kernel) (h : IsPlaced k) (id : ℕ) where
       (record k { threads = threads.wakes k.threads one.one.item.thread word })
       (objects.with_waiters s id one.others))
   chosen_placed x known one chosen word =
+      let ordered = waits_by_priority kind x in
+      let now = waiters_of-with_waiters s id x known one.others in
       woken_placed (with_waiters_but s id one.others) (one.one.item.thread ∷ []) word
       (λ t. omega (
         arith,
-        ap (times_in t) (waiters_of-with_waiters s id x known one.others),
-        chosen_split t (waits_by_priority kind x) (waiters_of s id) one chosen,
+        ap (times_in t) now,
+        chosen_split t ordered (waiters_of s id) one chosen,
         times_first t one.one.item.thread [],
       ))
+      (λ were. subst (All (HasItsPriority k.threads)) (sym now)
+      (all_but_chosen (HasItsPriority k.threads) ordered (waiters_of s id) one chosen were))
 
 -- all that wait for an object, in order of priority or of arrival
 pub all_in_order : {A W : Type 0} (s : objects.Objects A W) (o : objects.Object A W)

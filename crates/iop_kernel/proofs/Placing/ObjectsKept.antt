@@ -57,7 +57,7 @@ module _ {W : Type 0} where
       (λ x there. cond_both (is_thread thread x) (with_priority priority x) x (IsAmong waiters)
       (λ own. there) (λ other. there)) waiters (themselves waiters))
 
-  -- nor is there where one is chosen
+  -- one goes
   without_one : (Each : Queued (Waiter W) → Type 0) (before behind : List (Queued (Waiter W)))
       (x : Queued (Waiter W)) → All Each (before ++ x ∷ behind) → All Each (before ++ behind)
   without_one Each [] behind x all = All-tail Each x behind all
@@ -65,17 +65,23 @@ module _ {W : Type 0} where
       All-cons Each y (ys ++ behind) (All-head Each y (ys ++ x ∷ behind) all)
       (without_one Each ys behind x (All-tail Each y (ys ++ x ∷ behind) all))
 
+  -- what holds of each holds of those that are not chosen
+  pub all_but_chosen : (Each : Queued (Waiter W) → Type 0) (by_priority : Bool)
+      (waiters : List (Queued (Waiter W))) (c : Choice (Waiter W))
+      → chooses by_priority waiters ≡ Some c → All Each waiters → All Each c.others
+  all_but_chosen Each true waiters c chosen all =
+      let taken = (queues_chosen.by_priority waiters c chosen).taken in
+      subst (All Each) (sym taken.others_are)
+      (without_one Each taken.before taken.behind c.one (subst (All Each) taken.queue_is all))
+  all_but_chosen Each false [] c chosen all = cc
+  all_but_chosen Each false (x ∷ xs) c chosen all =
+      let same : xs ≡ c.others = cc in subst (All Each) same (All-tail Each x xs all)
+
+  -- there are no others where one is chosen
   pub none_chosen_new : (by_priority : Bool) (waiters : List (Queued (Waiter W)))
       (c : Choice (Waiter W)) → chooses by_priority waiters ≡ Some c → NoOthers waiters c.others
-  none_chosen_new true waiters c chosen =
-      let taken = (queues_chosen.by_priority waiters c chosen).taken in
-      subst (NoOthers waiters) (sym taken.others_are)
-      (without_one (IsAmong waiters) taken.before taken.behind c.one
-      (subst (NoOthers waiters) taken.queue_is (themselves waiters)))
-  none_chosen_new false [] c chosen = cc
-  none_chosen_new false (x ∷ xs) c chosen =
-      let same : xs ≡ c.others = cc in
-      subst (NoOthers (x ∷ xs)) same (All-tail (IsAmong (x ∷ xs)) x xs (themselves (x ∷ xs)))
+  none_chosen_new by_priority waiters c chosen =
+      all_but_chosen (IsAmong waiters) by_priority waiters c chosen (themselves waiters)
 
   -- so what is among the new ones is among the old ones
   among : (old new : List (Queued (Waiter W))) → NoOthers old new → (w : Waiter W)

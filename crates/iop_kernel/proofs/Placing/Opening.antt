@@ -24,6 +24,7 @@ none_waits t =
 none_waited : (kind : Kind) → AreWaited kind no_objects opening
 none_waited kind = record {
   waiters = λ id t. sym (ap (λ w. one_if (is_for kind id w)) (none_waits t));
+  priorities = λ id k d below. absurd (omega (arith, below));
   ids = λ i j d less below. absurd (omega (arith, less, below));
   given = λ k d below. absurd (omega (arith, below));
 }

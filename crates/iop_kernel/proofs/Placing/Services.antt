@@ -1,6 +1,7 @@
 -- Threads and waiters stay placed, whatever is served.
-use Rattle.std.proofs.Common.{ℕ, ◌+◌, Option, Some, option_map, List, ap, sym, ◌∙◌, arith, refl}
+use Rattle.std.proofs.Common.{ℕ, ◌+◌, Option, Some, option_map, List, All, ap, sym, ◌∙◌, subst, arith, refl}
 use Rattle.std.specs.Prelude.{bit_or, ⊤}
+use Rattle.std.proofs.lemmas.List.Elements.{All-nil}
 use Rattle.iop_base.specs.Piece.{Piece}
 use Rattle.iop_base.specs.declared.code.TheConstants.Code.{WAIT_RELEASED, OK, OBJECT_DELETED}
 use Rattle.iop_event.specs.WakeConditions.{settles}
@@ -15,22 +16,22 @@ use Rattle.iop_thread.specs.declared.kind.Kind.TheVariants.{EventFlag}
 use Rattle.iop_thread.specs.declared.wait.Wait.TheVariants.{Sleep}
 use Rattle.iop_thread.proofs.FindingThreads.{finds_by_id}
 use Rattle.iop_kernel.specs.EventFlags.{LiveFlag}
-use Rattle.iop_kernel.specs.Kinds.{table, waits_by_priority}
+use Rattle.iop_kernel.specs.Kinds.{Live, table, waits_by_priority}
 use Rattle.iop_kernel.specs.ObjectServices.{threads_in_order}
-use Rattle.iop_kernel.specs.Placing.{IsPlaced}
+use Rattle.iop_kernel.specs.Placing.{IsPlaced, HasItsPriority}
 use Rattle.iop_kernel.specs.Serving.{services}
 use Rattle.iop_kernel.specs.System.{Kernel, System, running_registers, opened, answered, code_word}
 use Rattle.iop_kernel.specs.ThreadStarts.{ended}
 use Rattle.iop_kernel.specs.declared.after.After.{After}
 use Rattle.iop_kernel.proofs.Keeping.Meetings.{threads_met}
 use Rattle.iop_kernel.proofs.Keeping.RunningThread.{caller_runs}
-use Rattle.iop_kernel.proofs.Placing.Basics.{comes, stand_on, places, moves, open_placed, ended_places, beside_placed}
+use Rattle.iop_kernel.proofs.Placing.Basics.{comes, stand_on, places, moves, keeps, open_placed, ended_places, beside_placed}
 use Rattle.iop_kernel.proofs.Placing.Kinds.{all_in_order, blocked_turns, delayed_placed, blocked_placed, chosen_placed, woken_placed}
-use Rattle.iop_kernel.proofs.Placing.Moves.{deleted_placed, made_placed, terminated_placed, woken_up_placed, set_placed, cancelled_placed, settled_flag, times_settled}
+use Rattle.iop_kernel.proofs.Placing.Moves.{deleted_placed, made_placed, terminated_placed, changed_placed, woken_up_placed, set_placed, cancelled_placed, settled_flag, settled_rest, times_settled}
 use Rattle.iop_kernel.proofs.Placing.Objects.{changes_but, deletes_but, waiters_own}
 use Rattle.iop_kernel.proofs.Placing.Queues.{times_in}
 use Rattle.iop_kernel.proofs.Placing.Steps.{handler_returned_places}
-use Rattle.iop_kernel.proofs.Placing.Threads.{placed_own, placed_requeues, placed_leaves, asleep_turns}
+use Rattle.iop_kernel.proofs.Placing.Threads.{placed_own, placed_leaves, asleep_turns}
 use Rattle.iop_kernel.proofs.Placing.Turns.{waited_state, waited_creates}
 use Rattle.iop_kernel.proofs.Walk.Moves.{Moves, CallMoves}
 use Rattle.iop_kernel.proofs.Walk.Services.{services_go, asked_not}
@@ -58,6 +59,7 @@ module _ (s : System) (h : IsPlaced s.core.kernel) where
   rotated priority =
       let kept = running_registers (answered s.core 0) in
       stand_on k h ((places k h).rotates priority kept tt) ((moves k h).rotates priority kept)
+      ((keeps k h).rotates priority kept)
 
   placed_moves : (library : ℕ) → Moves Kept Ended ⊤ s library
   placed_moves library = record {
@@ -83,7 +85,8 @@ module _ (s : System) (h : IsPlaced s.core.kernel) where
       creates = λ size param stack blocks is. made_placed k h param stack (reg s.core.cpu 28);
       deletes = λ id stack left is. comes k is (deleted_placed k h id);
       starts = λ id argument.
-          stand_on k h ((places k h).starts id argument) ((moves k h).starts id argument);
+          stand_on k h ((places k h).starts id argument) ((moves k h).starts id argument)
+          ((keeps k h).starts id argument);
       ends = λ id is other. ended_places s.core h;
       ends_deleted = λ id stack left is other did. let e = (ended s.core).kernel in
           comes e did (deleted_placed e (ended_places s.core h) id);
@@ -91,10 +94,7 @@ module _ (s : System) (h : IsPlaced s.core.kernel) where
       terminates = λ id wait left other is rests. terminated_placed k h id wait left is;
       terminates_running = λ id wait left other is runs.
           terminated_placed (opened s.core).kernel (open_placed k h) id wait left is;
-      changes = λ id priority wait left is.
-          placed_requeues (record k { threads = left }) (comes k is
-          (stand_on k h ((places k h).changes id priority) ((moves k h).changes id priority)))
-          id priority wait;
+      changes = changed_placed k h;
       rotates = λ priority other. rotated priority;
       rotates_beside = λ priority own may is. rotated priority;
       rotates_own = λ priority id own may is. rotated priority;
@@ -102,15 +102,19 @@ module _ (s : System) (h : IsPlaced s.core.kernel) where
           let own = finds_by_id now id t found in
           let moved = (moves k h).wakes t.id word in
           placed_leaves k (threads.wakes now t.id word) h ((places k h).wakes t.id word) t.id
-          moved.waits moved.live (Some wait) (rw own is);
+          moved.waits moved.live ((keeps k h).wakes t.id word) (Some wait) (rw own is);
       takes_wakeup = λ left is.
-          comes k is (stand_on k h (places k h).takes_wakeup (moves k h).takes_wakeup);
+          comes k is (stand_on k h (places k h).takes_wakeup (moves k h).takes_wakeup
+          (keeps k h).takes_wakeup);
       sleeps = λ left is may asks. asleep_turns k h (blocked_turns k h Sleep registers);
       wakes_up = λ id other. woken_up_placed k h id;
-      cancels = λ id. stand_on k h ((places k h).cancels id) ((moves k h).cancels id);
+      cancels = λ id.
+          stand_on k h ((places k h).cancels id) ((moves k h).cancels id) ((keeps k h).cancels id);
       suspends = λ id other may.
-          stand_on k h ((places k h).suspends id registers tt) ((moves k h).suspends id registers);
-      resumes = λ id other. stand_on k h ((places k h).resumes id) ((moves k h).resumes id);
+          stand_on k h ((places k h).suspends id registers tt) ((moves k h).suspends id registers)
+          ((keeps k h).suspends id registers);
+      resumes = λ id other.
+          stand_on k h ((places k h).resumes id) ((moves k h).resumes id) ((keeps k h).resumes id);
       delays = λ moment thread is may.
           delayed_placed k h registers moment thread (caller_runs s.core thread is);
     };
@@ -122,11 +126,13 @@ module _ (s : System) (h : IsPlaced s.core.kernel) where
             arith,
             ap (λ o. times_in x (waiters_in o)) (none_stays o.id t.live),
             all_in_order t o found (waits_by_priority kind o.state) x,
-          ));
+          ))
+          (λ were. subst (λ (p : Option (Live kind)). All (HasItsPriority now) (waiters_in p))
+          (sym (none_stays o.id t.live)) (All-nil (HasItsPriority now)));
       changes = λ id x y is how. placed_own k h kind _ (waited_state kind t mine id y);
       wakes = λ id x one is chosen. chosen_placed kind k h id x is one chosen (code_word OK);
       waits = λ id thread x wants is may at must.
-          blocked_placed kind k h id registers thread (caller_runs s.core thread is) x at _ wants;
+          blocked_placed kind k h id registers thread (caller_runs s.core thread is) x at wants;
     };
     sets = λ own_library bits o found. let pattern = bit_or o.state.pattern bits in
         let settled = settles pattern o.waiters in
@@ -137,7 +143,10 @@ module _ (s : System) (h : IsPlaced s.core.kernel) where
         (threads_met settled.met) (code_word OK)
         (λ t. ap (λ ws. times_in t ws + times t (threads_met settled.met)) waiters
         ∙ times_settled t pattern o.waiters
-        ∙ ap (λ (x : Option LiveFlag). times_in t (waiters_in x)) (sym found));
+        ∙ ap (λ (x : Option LiveFlag). times_in t (waiters_in x)) (sym found))
+        (λ were. subst (All (HasItsPriority now)) (sym waiters)
+        (settled_rest (HasItsPriority now) pattern o.waiters
+        (subst (λ (x : Option LiveFlag). All (HasItsPriority now) (waiters_in x)) found were)));
   }
 
   placed_calls : CallMoves Kept Ended ⊤ s

@@ -26,7 +26,7 @@ use Rattle.iop_kernel.specs.Waits.{wakes_with}
 use Rattle.iop_kernel.specs.declared.active_handler.ActiveHandler.{ActiveHandler}
 use Rattle.iop_kernel.specs.declared.active_handler.Cause.{Cause}
 use Rattle.iop_kernel.specs.declared.active_handler.Cause.TheVariants.{Line, Alarm}
-use Rattle.iop_kernel.proofs.Placing.Basics.{places, moves, stand_on, timers_placed, beside_placed}
+use Rattle.iop_kernel.proofs.Placing.Basics.{places, moves, keeps, stand_on, timers_placed, beside_placed}
 use Rattle.iop_kernel.proofs.Placing.Queues.{delayed}
 use Rattle.iop_kernel.proofs.Placing.Threads.{placed_leaves}
 use Rattle.iop_kernel.proofs.Walk.Steps.{DueComes, due_goes, Steps}
@@ -66,7 +66,8 @@ module _ (c : Core) (h : IsPlaced c.kernel) where
       let word = code_word OK in
       let now = (moves k h).wakes delay.thread word in
       placed_leaves k (threads.wakes k.threads delay.thread word) h
-      ((places k h).wakes delay.thread word) delay.thread now.waits now.live (Some Delay)
+      ((places k h).wakes delay.thread word) delay.thread now.waits now.live
+      ((keeps k h).wakes delay.thread word) (Some Delay)
       (for_delay _ (subst (λ n. 0 < n) (h.delays.delays delay.thread)
       (taken_stood k.timers (due_at k.timers k.clock) delay taken)))
 
@@ -89,10 +90,13 @@ module _ (c : Core) (h : IsPlaced c.kernel) where
       due = λ none. placed_due;
     };
     dispatches = λ d made. stand_on k h ((places k h).dispatches c.cpu d tt made).0
-        ((moves k h).dispatches c.cpu d made);
+        ((moves k h).dispatches c.cpu d made) ((keeps k h).dispatches c.cpu d made);
     begins = λ registers may.
-        stand_on k h ((places k h).begins registers tt) ((moves k h).begins registers);
-    ends_running = λ may. stand_on k h (places k h).ends_running (moves k h).ends_running;
+        stand_on k h ((places k h).begins registers tt) ((moves k h).begins registers)
+        ((keeps k h).begins registers);
+    ends_running = λ may.
+        stand_on k h (places k h).ends_running (moves k h).ends_running
+        (keeps k h).ends_running;
     moves_on = λ moment cpu may. beside_placed _ _ _ _ _ h;
     raises = λ irqs. beside_placed _ _ _ _ _ h;
   }

@@ -1,12 +1,15 @@
 -- The statuses of threads and of what they wait for, read where they were written.
-use Rattle.std.proofs.Common.{◌≡◌, ℕ, ◌+◌, ◌*◌, ◌^◌, ◌<◌, ◌≤◌, Option, Some, None, option_map, unwrap_or, List, [], ◌∷◌, ◌++◌, length, get_or, All, refl, sym, ◌∙◌, subst, arith}
-use Rattle.iop_base.specs.Numbers.{number_at}
+use Rattle.std.proofs.Common.{◌≡◌, ℕ, ◌+◌, ◌*◌, ◌<◌, ◌≤◌, Option, Some, None, option_map, unwrap_or, List, [], ◌∷◌, ◌++◌, length, get_or, refl, ap, sym, ◌∙◌, subst, arith}
+use Rattle.iop_base.specs.Numbers.{number_at, wrapped}
 use Rattle.iop_objects.specs.Objects as objects
-use Rattle.iop_thread.specs.States.{wait_in, kind_number, object_of}
+use Rattle.iop_thread.specs.States.{wait_in, state_number, kind_number, object_of}
 use Rattle.iop_thread.specs.declared.kind.Kind.{Kind}
 use Rattle.iop_thread.specs.declared.kind.Kind.TheVariants.{Semaphore, EventFlag, Mailbox}
+use Rattle.iop_thread.specs.declared.state.State.{State}
+use Rattle.iop_thread.specs.declared.state.State.TheVariants.{Dormant, Running, Ready, Waiting, Suspended, WaitingSuspended}
 use Rattle.iop_thread.specs.declared.thread.Thread.{Thread}
 use Rattle.iop_thread.specs.declared.wait.Wait.{Wait}
+use Rattle.iop_thread.specs.declared.wait.Wait.TheVariants.{Sleep, Delay, Object}
 use Rattle.iop_kernel.specs.Boards.{Board}
 use Rattle.iop_kernel.specs.EventFlags.{flag_words}
 use Rattle.iop_kernel.specs.Kinds.{Live, table}
@@ -31,61 +34,78 @@ wait_is : (o : Option Wait) (word : ℕ) → let words = wait_words o ++ word �
 wait_is None word = (refl, refl, refl)
 wait_is (Some wait) word = (refl, refl, refl)
 
+-- the number of a state is a word
+state_is_word : (state : State) → wrapped (state_number state) ≡ state_number state
+state_is_word Dormant = refl
+state_is_word Running = refl
+state_is_word (Ready registers) = refl
+state_is_word (Waiting wait registers) = refl
+state_is_word (Suspended registers) = refl
+state_is_word (WaitingSuspended wait registers) = refl
+
+-- so is that of a wait
+kind_is_word : (o : Option Wait) → let number = unwrap_or (option_map kind_number o) 0 in
+    wrapped number ≡ number
+kind_is_word None = refl
+kind_is_word (Some Sleep) = refl
+kind_is_word (Some Delay) = refl
+kind_is_word (Some (Object Semaphore id)) = refl
+kind_is_word (Some (Object EventFlag id)) = refl
+kind_is_word (Some (Object Mailbox id)) = refl
+
 -- the words of a thread's status
 status_stands : (memory : List ℕ) (place : ℕ) (t : Thread) → place + 48 ≤ length memory
-    → All (λ word. word < 2 ^ 32) (status_words t)
     → HasStatus (written memory place (status_words t)) place t
-status_stands memory place t fits small =
+status_stands memory place t fits =
     let words = status_words t in
     let twelve : length words ≡ 12 =
     omega (arith, length-status_bytes t, length-bytes_of_words words) in
     let room : place + 4 * length words ≤ length memory = omega (arith, fits, twelve) in
     let wait = wait_is (wait_in t.state) t.wakeups in
     let at : (k : ℕ) → k < 12 → number_at (written memory place words) (place + 4 * k) 4
-    ≡ get_or words k 0 =
-    λ k below. word_at memory place words room small k (omega (arith, below, twelve)) in
+    ≡ wrapped (get_or words k 0) =
+    λ k below. word_at memory place words room k (omega (arith, below, twelve)) in
     record {
-      attr = first_at memory place words room small (omega (arith, twelve));
+      attr = first_at memory place words room (omega (arith, twelve));
       option = at 1 (omega arith);
-      status = at 2 (omega arith);
+      status = at 2 (omega arith) ∙ state_is_word t.state;
       entry = at 3 (omega arith);
       stack = at 4 (omega arith);
       stack_size = at 5 (omega arith);
       gp = at 6 (omega arith);
       first_priority = at 7 (omega arith);
       priority = at 8 (omega arith);
-      wait_kind = at 9 (omega arith) ∙ wait.0;
-      wait_id = at 10 (omega arith) ∙ wait.1;
-      wakeups = at 11 (omega arith) ∙ wait.2;
+      wait_kind = at 9 (omega arith) ∙ ap wrapped wait.0 ∙ kind_is_word (wait_in t.state);
+      wait_id = at 10 (omega arith) ∙ ap wrapped wait.1;
+      wakeups = at 11 (omega arith) ∙ ap wrapped wait.2;
     }
 
 -- the status that is written of the thread that is named
 pub status_is_read : StatusIsRead
-status_is_read s id at place one t stands names lives small =
+status_is_read s id at place one t stands names lives =
     subst (λ (d : Served). HasStatus d.left.state.memory.ram place t)
     (refers_named s place t id at one (sym stands) (sym names) (sym lives))
-    (status_stands s.memory.ram place t (words_inside s.memory at STATUS_WORDS place stands) small)
+    (status_stands s.memory.ram place t (words_inside s.memory at STATUS_WORDS place stands))
 
 -- the status that is written of the object of an id has each word at its place
 module _ (kind : Kind) (words : Live kind → List ℕ) (count : ℕ)
     (many : (o : Live kind) → length (words o) ≡ count) (some : 0 < count)
     (Has : List ℕ → ℕ → Live kind → Type 0)
     (stands : (ram : List ℕ) (place : ℕ) (o : Live kind)
-    → number_at ram place 4 ≡ get_or (words o) 0 0
-    → ((k : ℕ) → k < count → number_at ram (place + 4 * k) 4 ≡ get_or (words o) k 0)
+    → number_at ram place 4 ≡ wrapped (get_or (words o) 0 0)
+    → ((k : ℕ) → k < count → number_at ram (place + 4 * k) 4 ≡ wrapped (get_or (words o) k 0))
     → Has ram place o) where
   object_status : (b : Board) (id at place : ℕ) (o : Live kind)
       → words_place b.memory at count ≡ Some place
       → objects.object_of (table kind b.core.kernel).live id ≡ Some o
-      → All (λ word. word < 2 ^ 32) (words o)
       → Has (refer_status kind words b count id at).left.state.memory.ram place o
-  object_status b id at place o there lives small =
+  object_status b id at place o there lives =
       let all = many o in
       let inside = words_inside b.memory at count place there in
       let fits : place + 4 * length (words o) ≤ length b.memory.ram = omega (arith, all, inside) in
       rw (there, lives) (stands (written b.memory.ram place (words o)) place o
-      (first_at b.memory.ram place (words o) fits small (omega (arith, all, some)))
-      (λ k below. word_at b.memory.ram place (words o) fits small k (omega (arith, all, below))))
+      (first_at b.memory.ram place (words o) fits (omega (arith, all, some)))
+      (λ k below. word_at b.memory.ram place (words o) fits k (omega (arith, all, below))))
 
 -- so it is of a semaphore
 pub semaphore_status_is_read : SemaphoreStatusIsRead

@@ -1,11 +1,10 @@
 -- The words of a time, read where they were written.
-use Rattle.std.proofs.Common.{◌≡◌, ◌≢◌, ℕ, ◌+◌, ◌*◌, ◌/◌, ◌%◌, ◌^◌, ◌<◌, ◌≤◌, ◌==◌, Some, None, List, [], ◌∷◌, length, All, refl, ◌∙◌, arith}
+use Rattle.std.proofs.Common.{◌≡◌, ◌≢◌, ℕ, ◌+◌, ◌*◌, ◌/◌, ◌%◌, ◌^◌, ◌≤◌, ◌==◌, Some, None, List, [], ◌∷◌, length, refl, ◌∙◌, arith}
 use Rattle.std.proofs.lemmas.Bool.{cases_lt, cond_both}
 use Rattle.std.proofs.lemmas.Bool.Decides.{nat_tests}
-use Rattle.std.proofs.lemmas.List.Elements.{All-cons, All-nil}
 use Rattle.std.proofs.lemmas.Option.{cond_some, option_and_then_some}
 use mathlib.Core.Logic.{inl, inr}
-use Rattle.iop_base.specs.Numbers.{IsWord, number_at, wrapped, with_bytes}
+use Rattle.iop_base.specs.Numbers.{number_at, wrapped, with_bytes}
 use Rattle.iop_base.specs.Places.{phys}
 use Rattle.iop_base.proofs.Lists.{number_at_behind}
 use Rattle.iop_base.proofs.Memory.{length-with_bytes, number_at_before}
@@ -19,32 +18,24 @@ use Rattle.iop_kernel.specs.declared.system_clock.TheConstants.{TIME_WORDS, MICR
 use Rattle.iop_kernel.proofs.Keeping.Memory.{words_inside}
 use Rattle.iop_kernel.proofs.Readings.WordBytes.{written, word_at, first_at}
 
--- few words, each below 2^32
-one_small : (word : ℕ) → IsWord word → All IsWord (word ∷ [])
-one_small word small = All-cons IsWord word [] small (All-nil IsWord)
-
-two_small : (low high : ℕ) → IsWord low → IsWord high → All IsWord (low ∷ high ∷ [])
-two_small low high small_low small_high =
-    All-cons IsWord low (high ∷ []) small_low (one_small high small_high)
-
--- the two words of a time give it
-whole : (low high ticks : ℕ) → low ≡ ticks % 2 ^ 32 → high ≡ ticks / 2 ^ 32
-    → low + 2 ^ 32 * high ≡ ticks
+-- the two words of a time give it, as far as two words do
+whole : (low high ticks : ℕ) → low ≡ wrapped ticks → high ≡ wrapped (ticks / 2 ^ 32)
+    → low + 2 ^ 32 * high ≡ ticks % 2 ^ 64
 whole low high ticks l h = omega arith
 
 -- a time in ticks is read where it was written
 time_is_read : (b : Board) (ticks at place : ℕ) → words_place b.memory at TIME_WORDS ≡ Some place
-    → ticks < 2 ^ 64 → let d = writes_time b ticks (words_place b.memory at TIME_WORDS) in
+    → let d = writes_time b ticks (words_place b.memory at TIME_WORDS) in
     HasTimeWords d.left.state.memory place ticks
-time_is_read b ticks at place stands small =
+time_is_read b ticks at place stands =
     let words = time_words ticks in
     let fits = words_inside b.memory at TIME_WORDS place stands in
-    let words_small = two_small (ticks % 2 ^ 32) (ticks / 2 ^ 32) (omega arith) (omega arith) in
-    let read = word_at b.memory.ram place words fits words_small in
+    let read = word_at b.memory.ram place words fits in
+    let low : wrapped (ticks % 2 ^ 32) ≡ wrapped ticks = omega arith in
     rw stands (record {
-      low = first_at b.memory.ram place words fits words_small (omega arith);
+      low = first_at b.memory.ram place words fits (omega arith) ∙ low;
       high = read 1 (omega arith);
-      both = whole _ _ ticks (read 0 (omega arith)) (read 1 (omega arith));
+      both = whole _ _ ticks (read 0 (omega arith) ∙ low) (read 1 (omega arith));
     })
 
 -- so is the moment
@@ -53,11 +44,10 @@ system_time_is_read b = time_is_read b b.core.kernel.clock
 
 -- so are the ticks of so many microseconds
 pub ticks_are_read : TicksAreRead
-ticks_are_read b us at place small stands =
-    time_is_read b (ticks_of us) at place stands (omega arith)
+ticks_are_read b us = time_is_read b (ticks_of us)
 
 -- each place of words is a multiple of 4
-words_aligned : (memory : Memory) (at count q : ℕ) → words_place memory at count ≡ Some q
+pub words_aligned : (memory : Memory) (at count q : ℕ) → words_place memory at count ≡ Some q
     → q % 4 ≡ 0
 words_aligned memory at count q =
     cond_both (at % 4 == 0) (range_place memory at (4 * count)) None (λ o. o ≡ Some q → q % 4 ≡ 0)
@@ -69,7 +59,7 @@ words_aligned memory at count q =
     (λ is there. absurd (cc there))
 
 -- a word stays where four bytes are put at another place
-stays : (memory : List ℕ) (p q : ℕ) (bytes : List ℕ) → length bytes ≡ 4 → p + 4 ≤ length memory
+pub stays : (memory : List ℕ) (p q : ℕ) (bytes : List ℕ) → length bytes ≡ 4 → p + 4 ≤ length memory
     → p % 4 ≡ 0 → q % 4 ≡ 0 → q ≢ p
     → number_at (with_bytes memory p bytes) q 4 ≡ number_at memory q 4
 stays memory p q bytes four fits p_aligned q_aligned apart =
@@ -93,11 +83,12 @@ seconds_stand b seconds rest micros seconds_fit rest_fits seconds_aligned rest_a
     let size : length ram ≡ length b.memory.ram =
     length-with_bytes b.memory.ram seconds (bytes_of_words (first ∷ [])) seconds_fit in
     let room : rest + 4 ≤ length ram = omega (arith, size, rest_fits) in
-    let ends = first_at ram rest (last ∷ []) room (one_small last (omega arith)) (omega arith) in
+    let small : wrapped last ≡ last = omega arith in
+    let ends = first_at ram rest (last ∷ []) room (omega arith) ∙ small in
+    let once : wrapped first ≡ first = omega arith in
     let begins = λ (apart : seconds ≢ rest).
     stays ram rest seconds (bytes_of_words (last ∷ [])) refl room rest_aligned seconds_aligned apart
-    ∙ first_at b.memory.ram seconds (first ∷ []) seconds_fit (one_small first (omega arith))
-    (omega arith) in
+    ∙ first_at b.memory.ram seconds (first ∷ []) seconds_fit (omega arith) ∙ once in
     record {
       seconds = begins;
       rest = ends;

@@ -1,9 +1,9 @@
 -- The bytes of words, one word after the other, and each of them read where they were put into
 -- memory.
-use Rattle.std.proofs.Common.{◌≡◌, ℕ, zero, suc, ◌+◌, ◌-◌, ◌*◌, ◌^◌, ◌<◌, ◌≤◌, List, [], ◌∷◌, ◌++◌, length, take, drop, get_or, replicate, All, append_assoc, refl, ap, sym, ◌∙◌, arith}
+use Rattle.std.proofs.Common.{◌≡◌, ℕ, zero, suc, ◌+◌, ◌-◌, ◌*◌, ◌/◌, ◌%◌, ◌<◌, ◌≤◌, List, [], ◌∷◌, ◌++◌, length, take, drop, get_or, replicate, append_assoc, refl, ap, sym, ◌∙◌, arith}
 use Rattle.std.proofs.Math.Seq.{take-append_seam, drop-append-add}
 use Rattle.std.proofs.lemmas.List.{length-append, length-take-le, take_more, drop-replicate}
-use Rattle.iop_base.specs.Numbers.{number_at, bytes_of, with_bytes}
+use Rattle.iop_base.specs.Numbers.{wrapped, number_at, bytes_of, with_bytes}
 use Rattle.iop_base.proofs.Lists.{length-bytes_of, number_at-word}
 use Rattle.iop_base.proofs.Memory.{number_at_inside}
 use Rattle.iop_kernel.specs.Boards.{bytes_of_words}
@@ -69,22 +69,38 @@ word_bytes (word ∷ words) (suc k) below =
 abbrev pub written : (memory : List ℕ) (place : ℕ) (words : List ℕ) → List ℕ
 written memory place words = with_bytes memory place (bytes_of_words words)
 
+-- four bytes, each the same
+four_bytes : (a b c d e f g h : ℕ) → a ≡ e → b ≡ f → c ≡ g → d ≡ h
+    → a ∷ b ∷ c ∷ d ∷ [] ≡ e ∷ f ∷ g ∷ h ∷ []
+four_bytes a b c d e f g h first second third last = cc
+
+-- the bytes of a number are those of the word that it leaves
+bytes_of-wrapped : (value : ℕ) → bytes_of 4 value ≡ bytes_of 4 (wrapped value)
+bytes_of-wrapped value =
+    let first : value % 256 ≡ wrapped value % 256 = omega arith in
+    let second : value / 256 % 256 ≡ wrapped value / 256 % 256 = omega arith in
+    let third : value / 256 / 256 % 256 ≡ wrapped value / 256 / 256 % 256 = omega arith in
+    let last : value / 256 / 256 / 256 % 256 ≡ wrapped value / 256 / 256 / 256 % 256 =
+    omega arith in
+    four_bytes _ _ _ _ _ _ _ _ first second third last
+
 module _ (memory : List ℕ) (place : ℕ) (words : List ℕ)
-    (fits : place + 4 * length words ≤ length memory)
-    (small : All (λ word. word < 2 ^ 32) words) where
-  -- each is read at its place
+    (fits : place + 4 * length words ≤ length memory) where
+  -- the word that each leaves is read at its place
   pub word_at : (k : ℕ) → k < length words
-      → number_at (written memory place words) (place + 4 * k) 4 ≡ get_or words k 0
+      → number_at (written memory place words) (place + 4 * k) 4 ≡ wrapped (get_or words k 0)
   word_at k below =
       let bytes = bytes_of_words words in
       let long = length-bytes_of_words words in
+      let word = get_or words k 0 in
       number_at_inside memory place bytes (omega (arith, fits, long)) (4 * k) 4
       (omega (arith, below, long))
-      ∙ number_at-word bytes (4 * k) (get_or words k 0) (small k 0 below) (word_bytes words k below)
+      ∙ number_at-word bytes (4 * k) (wrapped word) (omega arith)
+      (word_bytes words k below ∙ bytes_of-wrapped word)
 
   -- the first one, at the place itself
   pub first_at : 0 < length words
-      → number_at (written memory place words) place 4 ≡ get_or words 0 0
+      → number_at (written memory place words) place 4 ≡ wrapped (get_or words 0 0)
   first_at some =
       let first : place ≡ place + 4 * 0 = omega arith in
       ap (λ p. number_at (written memory place words) p 4) first ∙ word_at 0 some

@@ -13,7 +13,8 @@ use Rattle.iop_kernel.specs.Waits.{core_leaves, core_requeues, wakes_with}
 use Rattle.iop_kernel.specs.declared.after.After.{After}
 use Rattle.iop_kernel.specs.declared.after.After.TheVariants.{Switch, ModuleReturned}
 use Rattle.iop_kernel.specs.declared.stacks.TheConstants.{FROM_ABOVE}
-use Rattle.iop_kernel.proofs.Walk.Moves.{EachMoves, Moves}
+use Rattle.iop_kernel.proofs.Walk.Listed.{ServiceMoves}
+use Rattle.iop_kernel.proofs.Walk.Moves.{EachMoves, CallerMoves, each_of, Moves}
 
 -- a thread that waits no more leaves the clock as it is
 leaves_clock : (c : Core) (thread : ℕ) (wait : Option Wait)
@@ -34,7 +35,7 @@ module _ (P : System → List Piece → Type 0) (Q : After → System → List P
   abbrev IsNow : Core → Type 0
   IsNow c = c.kernel.clock ≡ s.core.kernel.clock
 
-  pub record LooksAside : Type 0 where
+  pub record ServicesLook : Type 0 where
     pub each : EachMoves P Q Asks s
     -- the kernel and its processor change
     pub cores : (c : Core) → IsNow c → P (record s { core = c }) []
@@ -49,8 +50,8 @@ module _ (P : System → List Piece → Type 0) (Q : After → System → List P
     pub switches : (d : System) → P d [] → Q Switch d []
     pub returns : (word : ℕ) → Q (ModuleReturned word) (record s { core = opened s.core }) []
 
-  pub looks_aside : LooksAside → (library : ℕ) → Moves P Q Asks s library
-  looks_aside h library = record {
+  pub services_look : ServicesLook → (library : ℕ) → ServiceMoves P Q Asks s library
+  services_look h library = record {
     each = h.each;
     registry = λ own_library. record { registers = h.registers };
     blocks = λ own_library. record {
@@ -100,3 +101,38 @@ module _ (P : System → List Piece → Type 0) (Q : After → System → List P
     };
     sets = λ own_library bits o found. h.cores _ refl;
   }
+
+  -- the same, where each fault is such
+  pub record LooksAside : Type 0 where
+    pub each : CallerMoves P Q Asks s
+    pub cores : (c : Core) → IsNow c → P (record s { core = c }) []
+    pub takes : (mode size at stack : ℕ) (blocks : BlockMap) (c : Core) → IsNow c
+        → allocating s.blocks mode size at ≡ (stack, blocks)
+        → P (record s { core = c; blocks = blocks }) []
+    pub frees : (stack : ℕ) (c : Core) → IsNow c
+        → P (record s { core = c; blocks = (freeing s.blocks stack).1 }) []
+    pub registers : (libraries : List Entry) → P (record s { libraries = libraries }) []
+    pub switches : (d : System) → P d [] → Q Switch d []
+    pub returns : (word : ℕ) → Q (ModuleReturned word) (record s { core = opened s.core }) []
+
+  pub looks_aside : LooksAside → (library : ℕ) → Moves P Q Asks s library
+  looks_aside h library =
+      let m = services_look (record {
+        each = each_of P Q Asks s h.each;
+        cores = h.cores;
+        takes = h.takes;
+        frees = h.frees;
+        registers = h.registers;
+        switches = h.switches;
+        returns = h.returns;
+      }) library in
+      record {
+        each = h.each;
+        registry = m.registry;
+        blocks = m.blocks;
+        interrupts = m.interrupts;
+        alarms = m.alarms;
+        threads = m.threads;
+        objects = m.objects;
+        sets = m.sets;
+      }

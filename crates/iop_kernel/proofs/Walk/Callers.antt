@@ -5,16 +5,25 @@ use Rattle.std.proofs.lemmas.Bool.Decides.{nat_tests}
 use Rattle.iop_services.specs.Table.{row_of, allows}
 use Rattle.iop_services.specs.declared.row.Row.{Row}
 use Rattle.iop_services.specs.declared.service.Service.{Service}
-use Rattle.iop_services.specs.declared.service.Service.TheVariants.{Thbase}
-use Rattle.iop_services.specs.declared.thbase_service.ThbaseService.TheVariants.{SleepThread, DisableDispatchThread}
+use Rattle.iop_services.specs.declared.service.Service.TheVariants.{Thbase, Thsemap, Thevent, Thmsgbx}
+use Rattle.iop_services.specs.declared.thbase_service.ThbaseService.TheVariants.{ExitThread, ExitDeleteThread, DisableDispatchThread, SleepThread, DelayThread}
+use Rattle.iop_services.specs.declared.thevent_service.TheventService.TheVariants.{WaitEventFlag}
+use Rattle.iop_services.specs.declared.thmsgbx_service.ThmsgbxService.TheVariants.{ReceiveMbx}
+use Rattle.iop_services.specs.declared.thsemap_service.ThsemapService.TheVariants.{WaitSema}
 use Rattle.iop_services.proofs.Rows.{AllPass, rows_all}
 use Rattle.iop_kernel.specs.System.{Core, caller_beside, caller, in_handler, is_active}
 use Rattle.iop_kernel.specs.declared.active_handler.ActiveHandler.{ActiveHandler}
 
 -- whether a service asks for a thread that calls it
 unfoldable pub asks_for_thread : Service → Bool
-asks_for_thread (Thbase SleepThread) = true
+asks_for_thread (Thbase ExitThread) = true
+asks_for_thread (Thbase ExitDeleteThread) = true
 asks_for_thread (Thbase DisableDispatchThread) = true
+asks_for_thread (Thbase SleepThread) = true
+asks_for_thread (Thbase DelayThread) = true
+asks_for_thread (Thsemap WaitSema) = true
+asks_for_thread (Thevent WaitEventFlag) = true
+asks_for_thread (Thmsgbx ReceiveMbx) = true
 asks_for_thread other = false
 
 -- whether a row that a handler may call is of another service

@@ -5,7 +5,6 @@ use Rattle.std.proofs.lemmas.Bool.Decides.{nat_tests}
 use Rattle.iop_base.specs.Piece.{Piece}
 use Rattle.iop_base.specs.declared.code.Code.{Code}
 use Rattle.iop_base.specs.declared.code.TheConstants.Code.{OK, FLAG_CONDITION, EMPTY_PATTERN, SECOND_WAITER}
-use Rattle.iop_base.specs.declared.guest_fault.GuestFault.TheVariants as faults_of
 use Rattle.iop_event.specs.EventFlags as flags
 use Rattle.iop_event.specs.EventFlags.{EventFlags, with_pattern}
 use Rattle.iop_event.specs.WakeConditions.{holds, pattern_after}
@@ -56,7 +55,7 @@ module _ {P : System → List Piece → Type 0} {Q : After → System → List P
       (grind (arith, nat_tests, legal), refl)))
 
   pub creates_flag_goes : (o : Option ℕ) → CoreGoes (creates_flag_at c s.memory o)
-  creates_flag_goes None = e.faults faults_of.Address
+  creates_flag_goes None = e.bad_place
   creates_flag_goes (Some place) =
       let word : ℕ → ℕ = word_in s.memory place in flag_made (word 0) (word 1) (word 2)
 
@@ -108,7 +107,7 @@ module _ {P : System → List Piece → Type 0} {Q : After → System → List P
 
     polls_flag_by : (o : Option (Option ℕ)) → PlaceFits s o
         → BoardGoes (polls_flag_at b id wanted o)
-    polls_flag_by None fits = e.faults faults_of.Address
+    polls_flag_by None fits = e.bad_place
     polls_flag_by (Some place) fits =
         tests_by (λ (r : Result ℕ Code × EventFlags). BoardGoes (polls_by b place r))
         (state_of those id) refl (λ code other. only e _)
@@ -120,10 +119,10 @@ module _ {P : System → List Piece → Type 0} {Q : After → System → List P
         → BoardGoes (tests_or_waits b id wanted place (Err code, those))
     refused place code other = rw other (only e _)
 
-    waits_flag_by : (o : Option (Option ℕ)) → PlaceFits s o
+    waits_flag_by : Asks → (o : Option (Option ℕ)) → PlaceFits s o
         → BoardGoes (waits_flag_at b id wanted o)
-    waits_flag_by None fits = e.faults faults_of.Address
-    waits_flag_by (Some place) fits =
+    waits_flag_by asks None fits = e.bad_place
+    waits_flag_by asks (Some place) fits =
         either_board e (may_switch c.kernel) _ _ (λ may.
         tests_by
         (λ (r : Result ℕ Code × EventFlags). BoardGoes (tests_or_waits b id wanted place r))
@@ -131,13 +130,13 @@ module _ {P : System → List Piece → Type 0} {Q : After → System → List P
         (λ x known met. written e place (x.pattern ∷ []) _ OK (fits place refl)
         (m.changes id x _ known (tests wanted met)))
         (λ x known some free unmet.
-        waits_goes e EventFlag m id x wanted may known (some, free, unmet) (caller c) refl))
+        waits_goes e EventFlag m asks id x wanted may known (some, free, unmet) (caller c) refl))
         (λ cannot. only e _)
 
-    pub waits_flag_goes : BoardGoes
-        (waits_flag_at b id wanted (optional_place s.memory wanted.place))
-    waits_flag_goes =
-        waits_flag_by (optional_place s.memory wanted.place) (optional_fits s wanted.place)
+    pub waits_flag_goes : Asks
+        → BoardGoes (waits_flag_at b id wanted (optional_place s.memory wanted.place))
+    waits_flag_goes asks =
+        waits_flag_by asks (optional_place s.memory wanted.place) (optional_fits s wanted.place)
 
     pub polls_flag_goes : BoardGoes
         (polls_flag_at b id wanted (optional_place s.memory wanted.place))

@@ -4,7 +4,6 @@ use Rattle.iop_base.specs.Numbers.{one_if}
 use Rattle.iop_base.specs.Piece.{Piece}
 use Rattle.iop_base.specs.declared.code.Code.{Code}
 use Rattle.iop_base.specs.declared.code.TheConstants.Code.{ILLEGAL_INTERRUPT}
-use Rattle.iop_base.specs.declared.guest_fault.GuestFault.TheVariants as faults_of
 use Rattle.iop_intr.specs.InterruptLines.{IrqLine, disabling}
 use Rattle.iop_time.specs.ClockTime.{moment_after}
 use Rattle.iop_kernel.specs.Boards.{board_of, optional_place}
@@ -23,7 +22,7 @@ module _ {P : System → List Piece → Type 0} {Q : After → System → List P
   -- an alarm is set, by the place of the ticks
   pub sets_alarm_goes : (o : Option ℕ) (handler arg : ℕ)
       → CoreEnds Q s (sets_alarm_at s.core s.memory o handler arg)
-  sets_alarm_goes None handler arg = e.faults faults_of.Address
+  sets_alarm_goes None handler arg = e.bad_place
   sets_alarm_goes (Some place) handler arg =
       answers_after e _ _
       (l.sets (moment_after s.core.kernel.clock (ticks_in s.memory place)) handler arg)
@@ -45,7 +44,7 @@ module _ {P : System → List Piece → Type 0} {Q : After → System → List P
 
   disables_at_goes : (line : ℕ) (o : Option (Option ℕ)) → PlaceFits s o
       → BoardEnds Q s (disables_at (board_of s) line o)
-  disables_at_goes line None fits = e.faults faults_of.Address
+  disables_at_goes line None fits = e.bad_place
   disables_at_goes line (Some place) fits =
       disables_by_go line place (fits place refl) (disabling s.core.kernel.irqs line)
 
@@ -57,7 +56,7 @@ module _ {P : System → List Piece → Type 0} {Q : After → System → List P
   -- interrupts are turned off
   pub suspends_goes : (o : Option ℕ) → WordsFit s.memory o 1
       → BoardEnds Q s (suspends_at (board_of s) o)
-  suspends_goes None fits = e.faults faults_of.Address
+  suspends_goes None fits = e.bad_place
   suspends_goes (Some place) fits =
       written e (Some place) (one_if s.core.kernel.interrupts ∷ []) _
       (suspended_code s.core.kernel.interrupts) fits (i.turns false)

@@ -5,7 +5,6 @@ use Rattle.std.proofs.lemmas.List.{length-replicate}
 use Rattle.iop_base.specs.BlockSizes.{block_len}
 use Rattle.iop_base.specs.Piece.{Piece}
 use Rattle.iop_base.specs.declared.code.Code.{Code}
-use Rattle.iop_base.specs.declared.guest_fault.GuestFault.TheVariants as faults_of
 use Rattle.iop_libs.specs.Calls.{table_place, registers_at}
 use Rattle.iop_ready.specs.Priorities.{priority_of as priority_of_word}
 use Rattle.iop_services.specs.declared.intrman_service.IntrmanService.{IntrmanService}
@@ -13,7 +12,7 @@ use Rattle.iop_services.specs.declared.intrman_service.IntrmanService.TheVariant
 use Rattle.iop_services.specs.declared.loadcore_service.LoadcoreService.{LoadcoreService}
 use Rattle.iop_services.specs.declared.loadcore_service.LoadcoreService.TheVariants as loadcore
 use Rattle.iop_services.specs.declared.service.Service.{Service}
-use Rattle.iop_services.specs.declared.service.Service.TheVariants.{Thbase}
+use Rattle.iop_services.specs.declared.service.Service.TheVariants.{Thbase, Thsemap, Thevent, Thmsgbx}
 use Rattle.iop_services.specs.declared.stdio_service.StdioService.{StdioService}
 use Rattle.iop_services.specs.declared.stdio_service.StdioService.TheVariants as stdio
 use Rattle.iop_services.specs.declared.sysmem_service.SysmemService.{SysmemService}
@@ -96,7 +95,7 @@ module _ {P : System → List Piece → Type 0} {Q : After → System → List P
       (λ full. only e _)
 
   creates_go : (o : Option ℕ) → Ends Q (creates_from s o)
-  creates_go None = e.faults faults_of.Address
+  creates_go None = e.bad_place
   creates_go (Some place) = creates_with_goes _
 
 module _ {P : System → List Piece → Type 0} {Q : After → System → List Piece → Type 0}
@@ -117,7 +116,7 @@ module _ {P : System → List Piece → Type 0} {Q : After → System → List P
 
   refers_go : (id : ℕ) (o : Option ℕ) → ((p : ℕ) → o ≡ Some p → p + 48 ≤ length s.memory.ram)
       → Ends Q (refers_at s id o)
-  refers_go id None fits = e.faults faults_of.Address
+  refers_go id None fits = e.bad_place
   refers_go id (Some at) fits = refers_to_goes at (fits at refl) (named (caller s.core) id)
 
 module _ {P : System → List Piece → Type 0} {Q : After → System → List Piece → Type 0}
@@ -126,7 +125,7 @@ module _ {P : System → List Piece → Type 0} {Q : After → System → List P
   registers_go : RegistryMoves P Q Asks s → (o : Option ℕ)
       → let done = registers_at s.memory.ram s.libraries o in
       Ends Q (silent (answers_or_faults (record s { libraries = done.1 }) done.0))
-  registers_go moves None = e.faults faults_of.Address
+  registers_go moves None = e.bad_place
   registers_go moves (Some place) = e.goes_on _ _ _ (moves.registers _)
 
   pub loadcore_goes : RegistryMoves P Q Asks s → (x : LoadcoreService)
@@ -165,43 +164,43 @@ module _ {P : System → List Piece → Type 0} {Q : After → System → List P
   intrman_goes moves intrman.QueryIntrContext = only e _
 
   pub thsemap_goes : ObjectMoves P Q Asks s kinds.Semaphore → (x : ThsemapService)
-      → BoardEnds Q s (serves_thsemap (board_of s) x)
-  unfolding serves_thsemap
-  thsemap_goes moves thsemap.CreateSema =
+      → IsAsked (Thsemap x) Asks → BoardEnds Q s (serves_thsemap (board_of s) x)
+  unfolding serves_thsemap asks_for_thread
+  thsemap_goes moves thsemap.CreateSema asks =
       creates_sema_goes e moves (place s (a s 0) SEMAPHORE_WORDS)
-  thsemap_goes moves thsemap.DeleteSema = deletes_goes e kinds.Semaphore moves (a s 0)
-  thsemap_goes moves thsemap.SignalSema = signals_go e moves (a s 0)
-  thsemap_goes moves thsemap.WaitSema = wait_sema_goes e moves (a s 0)
-  thsemap_goes moves thsemap.PollSema = polls_sema_go e moves (a s 0)
-  thsemap_goes moves thsemap.ReferSemaStatus =
+  thsemap_goes moves thsemap.DeleteSema asks = deletes_goes e kinds.Semaphore moves (a s 0)
+  thsemap_goes moves thsemap.SignalSema asks = signals_go e moves (a s 0)
+  thsemap_goes moves thsemap.WaitSema asks = wait_sema_goes e moves (asks refl) (a s 0)
+  thsemap_goes moves thsemap.PollSema asks = polls_sema_go e moves (a s 0)
+  thsemap_goes moves thsemap.ReferSemaStatus asks =
       status_goes e kinds.Semaphore semaphore_words SEMAPHORE_STATUS_WORDS (λ o. refl) (a s 0)
       (place s (a s 1) SEMAPHORE_STATUS_WORDS)
       (words_inside s.memory (a s 1) SEMAPHORE_STATUS_WORDS)
 
   pub thevent_goes : ObjectMoves P Q Asks s kinds.EventFlag → Sets P Q Asks s → (x : TheventService)
-      → BoardEnds Q s (serves_thevent (board_of s) x)
-  unfolding serves_thevent
-  thevent_goes moves setting thevent.CreateEventFlag =
+      → IsAsked (Thevent x) Asks → BoardEnds Q s (serves_thevent (board_of s) x)
+  unfolding serves_thevent asks_for_thread
+  thevent_goes moves setting thevent.CreateEventFlag asks =
       creates_flag_goes e moves (place s (a s 0) FLAG_WORDS)
-  thevent_goes moves setting thevent.DeleteEventFlag = deletes_goes e kinds.EventFlag moves (a s 0)
-  thevent_goes moves setting thevent.SetEventFlag = sets_flag_goes e moves setting (a s 0) (a s 1)
-  thevent_goes moves setting thevent.ClearEventFlag = clears_go e moves (a s 0) (a s 1)
-  thevent_goes moves setting thevent.WaitEventFlag = waits_flag_goes e moves (a s 0) (wanted s.core)
-  thevent_goes moves setting thevent.PollEventFlag = polls_flag_goes e moves (a s 0) (wanted s.core)
-  thevent_goes moves setting thevent.ReferEventFlagStatus =
+  thevent_goes moves setting thevent.DeleteEventFlag asks = deletes_goes e kinds.EventFlag moves (a s 0)
+  thevent_goes moves setting thevent.SetEventFlag asks = sets_flag_goes e moves setting (a s 0) (a s 1)
+  thevent_goes moves setting thevent.ClearEventFlag asks = clears_go e moves (a s 0) (a s 1)
+  thevent_goes moves setting thevent.WaitEventFlag asks = waits_flag_goes e moves (a s 0) (wanted s.core) (asks refl)
+  thevent_goes moves setting thevent.PollEventFlag asks = polls_flag_goes e moves (a s 0) (wanted s.core)
+  thevent_goes moves setting thevent.ReferEventFlagStatus asks =
       status_goes e kinds.EventFlag flag_words FLAG_STATUS_WORDS (λ o. refl) (a s 0)
       (place s (a s 1) FLAG_STATUS_WORDS)
       (words_inside s.memory (a s 1) FLAG_STATUS_WORDS)
 
   pub thmsgbx_goes : ObjectMoves P Q Asks s kinds.Mailbox → (x : ThmsgbxService)
-      → BoardEnds Q s (serves_thmsgbx (board_of s) x)
-  unfolding serves_thmsgbx
-  thmsgbx_goes moves thmsgbx.CreateMbx = creates_mbx_goes e moves (place s (a s 0) MAILBOX_WORDS)
-  thmsgbx_goes moves thmsgbx.DeleteMbx = deletes_goes e kinds.Mailbox moves (a s 0)
-  thmsgbx_goes moves thmsgbx.SendMbx = sends_go e moves (a s 0) (a s 1)
-  thmsgbx_goes moves thmsgbx.ReceiveMbx = waits_mbx_goes e moves (a s 0) (a s 1)
-  thmsgbx_goes moves thmsgbx.PollMbx = polls_mbx_goes e moves (a s 0) (a s 1)
-  thmsgbx_goes moves thmsgbx.ReferMbxStatus =
+      → IsAsked (Thmsgbx x) Asks → BoardEnds Q s (serves_thmsgbx (board_of s) x)
+  unfolding serves_thmsgbx asks_for_thread
+  thmsgbx_goes moves thmsgbx.CreateMbx asks = creates_mbx_goes e moves (place s (a s 0) MAILBOX_WORDS)
+  thmsgbx_goes moves thmsgbx.DeleteMbx asks = deletes_goes e kinds.Mailbox moves (a s 0)
+  thmsgbx_goes moves thmsgbx.SendMbx asks = sends_go e moves (a s 0) (a s 1)
+  thmsgbx_goes moves thmsgbx.ReceiveMbx asks = waits_mbx_goes e moves (asks refl) (a s 0) (a s 1)
+  thmsgbx_goes moves thmsgbx.PollMbx asks = polls_mbx_goes e moves (a s 0) (a s 1)
+  thmsgbx_goes moves thmsgbx.ReferMbxStatus asks =
       status_goes e kinds.Mailbox mailbox_words MAILBOX_STATUS_WORDS (λ o. refl) (a s 0)
       (place s (a s 1) MAILBOX_STATUS_WORDS)
       (words_inside s.memory (a s 1) MAILBOX_STATUS_WORDS)
@@ -212,8 +211,10 @@ module _ {P : System → List Piece → Type 0} {Q : After → System → List P
   thbase_goes t alarms thbase.CreateThread asks = creates_go e t (place s (a s 0) PARAM_WORDS)
   thbase_goes t alarms thbase.DeleteThread asks = delete_goes e t (a s 0)
   thbase_goes t alarms thbase.StartThread asks = start_goes e t (a s 0) (a s 1)
-  thbase_goes t alarms thbase.ExitThread asks = exits_go e t (caller s.core) refl
-  thbase_goes t alarms thbase.ExitDeleteThread asks = exits_deleted_by_go e t (caller s.core) refl
+  thbase_goes t alarms thbase.ExitThread asks =
+      exits_go e t (e.no_thread (asks refl)) (caller s.core) refl
+  thbase_goes t alarms thbase.ExitDeleteThread asks =
+      exits_deleted_by_go e t (asks refl) (caller s.core) refl
   thbase_goes t alarms thbase.TerminateThread asks = terminate_goes e t (a s 0)
   thbase_goes t alarms thbase.DisableDispatchThread asks = set_goes e t false (λ off. asks refl)
   thbase_goes t alarms thbase.EnableDispatchThread asks = set_goes e t true (λ off. absurd (cc off))
@@ -232,7 +233,7 @@ module _ {P : System → List Piece → Type 0} {Q : After → System → List P
       cancels_go e t (named (caller s.core) (a s 0))
   thbase_goes t alarms thbase.SuspendThread asks = suspend_goes e t (a s 0)
   thbase_goes t alarms thbase.ResumeThread asks = resume_goes e t (a s 0)
-  thbase_goes t alarms thbase.DelayThread asks = delay_goes e t (a s 0)
+  thbase_goes t alarms thbase.DelayThread asks = delay_goes e t (asks refl) (a s 0)
   thbase_goes t alarms thbase.GetSystemTime asks =
       writes_time_goes e s.core.kernel.clock (place s (a s 0) TIME_WORDS)
       (words_inside s.memory (a s 0) TIME_WORDS)

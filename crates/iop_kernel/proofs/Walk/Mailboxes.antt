@@ -5,7 +5,6 @@ use Rattle.std.proofs.lemmas.Bool.Decides.{nat_tests}
 use Rattle.iop_base.specs.Piece.{Piece}
 use Rattle.iop_base.specs.declared.code.Code.{Code}
 use Rattle.iop_base.specs.declared.code.TheConstants.Code.{OK, NO_MEMORY, UNKNOWN_MAILBOX, NO_MESSAGE}
-use Rattle.iop_base.specs.declared.guest_fault.GuestFault.TheVariants as faults_of
 use Rattle.iop_mbx.specs.Mailboxes as mailboxes
 use Rattle.iop_mbx.specs.Mailboxes.{Mailbox, Mailboxes, is_by_priority, waiters_by_priority, next_message, with_messages}
 use Rattle.iop_objects.specs.Objects as objects
@@ -55,7 +54,7 @@ module _ {P : System → List Piece → Type 0} {Q : After → System → List P
       (grind (arith, nat_tests, legal), refl)))
 
   pub creates_mbx_goes : (o : Option ℕ) → CoreGoes (creates_mbx_at c s.memory o)
-  creates_mbx_goes None = e.faults faults_of.Address
+  creates_mbx_goes None = e.bad_place
   creates_mbx_goes (Some place) =
       let word : ℕ → ℕ = word_in s.memory place in mbx_made (word 0) (word 1)
 
@@ -81,7 +80,7 @@ module _ {P : System → List Piece → Type 0} {Q : After → System → List P
         (ordered id x known none) room))) (λ full. only e _)
 
     queues_by_go : (o : Option ℕ) → CoreGoes (queues_by c id message o)
-    queues_by_go None = e.faults faults_of.Address
+    queues_by_go None = e.bad_place
     queues_by_go (Some priority) = puts_go priority (state_of boxes id) refl
 
     queues_go : (o : Option Mailbox) → CoreGoes (queues_message c s.memory id message o)
@@ -143,25 +142,27 @@ module _ {P : System → List Piece → Type 0} {Q : After → System → List P
         gets_by (λ (r : Result ℕ Code × Mailboxes). BoardGoes (receives_by b place r)) (only e _)
         (λ x known none. only e _) received (state_of boxes id) refl
 
-    received_or_waits : (at : ℕ) → may_switch c.kernel ≡ true
+    received_or_waits : Asks → (at : ℕ) → may_switch c.kernel ≡ true
         → BoardGoes (receives_or_waits b at id place (mailboxes.gets boxes id))
-    received_or_waits at may =
+    received_or_waits asks at may =
         gets_by (λ (r : Result ℕ Code × Mailboxes). BoardGoes (receives_or_waits b at id place r))
-        (only e _) (λ x known none. waits_goes e MailboxOf m id x at may known none (caller c) refl)
+        (only e _) (λ x known none. waits_goes e MailboxOf m asks id x at may known none (caller c) refl)
         received (state_of boxes id) refl
 
-  waits_mbx_by : (at id : ℕ) (o : Option ℕ) → WordsFit s.memory o 1
+  waits_mbx_by : Asks → (at id : ℕ) (o : Option ℕ) → WordsFit s.memory o 1
       → BoardGoes (waits_mbx_at b at id o)
-  waits_mbx_by at id None fits = e.faults faults_of.Address
-  waits_mbx_by at id (Some place) fits =
-      either_board e (may_switch c.kernel) _ _ (received_or_waits id place (fits place refl) at)
+  waits_mbx_by asks at id None fits = e.bad_place
+  waits_mbx_by asks at id (Some place) fits =
+      either_board e (may_switch c.kernel) _ _ (received_or_waits id place (fits place refl) asks at)
       (λ cannot. only e _)
 
-  pub waits_mbx_goes : (at id : ℕ) → BoardGoes (waits_mbx_at b at id (words_place s.memory at 1))
-  waits_mbx_goes at id = waits_mbx_by at id (words_place s.memory at 1) (words_inside s.memory at 1)
+  pub waits_mbx_goes : Asks → (at id : ℕ)
+      → BoardGoes (waits_mbx_at b at id (words_place s.memory at 1))
+  waits_mbx_goes asks at id =
+      waits_mbx_by asks at id (words_place s.memory at 1) (words_inside s.memory at 1)
 
   polls_mbx_by : (id : ℕ) (o : Option ℕ) → WordsFit s.memory o 1 → BoardGoes (polls_mbx_at b id o)
-  polls_mbx_by id None fits = e.faults faults_of.Address
+  polls_mbx_by id None fits = e.bad_place
   polls_mbx_by id (Some place) fits = polled id place (fits place refl)
 
   pub polls_mbx_goes : (at id : ℕ) → BoardGoes (polls_mbx_at b id (words_place s.memory at 1))

@@ -7,6 +7,7 @@ use Rattle.iop_base.specs.Piece.{Piece, Told, Traced}
 use Rattle.iop_base.specs.Text.{line_bytes}
 use Rattle.iop_base.specs.declared.code.TheConstants.Code.{OK, OBJECT_DELETED, WAIT_RELEASED}
 use Rattle.iop_base.specs.declared.guest_fault.GuestFault.{GuestFault}
+use Rattle.iop_base.specs.declared.guest_fault.GuestFault.TheVariants.{Address, Service}
 use Rattle.iop_base.specs.declared.line.Line.TheVariants as lines
 use Rattle.iop_exec.specs.Row.{reg}
 use Rattle.iop_exec.specs.declared.cpu.Cpu.{Cpu}
@@ -218,24 +219,53 @@ module _ (P : System → List Piece → Type 0) (Q : After → System → List P
       → Lasts (with_threads (with_event_flags now (set_flags now o bits))
       (wakes_all table (threads_met (met_of o bits)) (code_word OK)))
 
+  -- bytes are stored inside RAM, and their lines are given
+  abbrev pub StoresLast : Type 0
+  StoresLast =
+      (d : System) (given : List Piece) (place : ℕ) (bytes : List ℕ)
+      → place + length bytes ≤ length d.memory.ram → P d given
+      → P (stores d (Some place) bytes) (given ++ storing_lines d (Some place) bytes)
+
+  -- a word is answered, and the caller goes on
+  abbrev pub GoesOn : Type 0
+  GoesOn =
+      (d : System) (given : List Piece) (word : ℕ) → P d given
+      → Q Resume (record d { core = answered d.core word }) given
+
   -- what every service may do, and how one ends
   pub record EachMoves : Type 0 where
     -- nothing yet
     pub begins : P s []
-    -- bytes are stored inside RAM, and their lines are given
-    pub stores : (d : System) (given : List Piece) (place : ℕ) (bytes : List ℕ)
-        → place + length bytes ≤ length d.memory.ram → P d given
-        → P (stores d (Some place) bytes) (given ++ storing_lines d (Some place) bytes)
-    -- a word is answered, and the caller goes on
-    pub goes_on : (d : System) (given : List Piece) (word : ℕ) → P d given
-        → Q Resume (record d { core = answered d.core word }) given
-    pub faults : (kind : GuestFault) → Q (Fault kind) s []
+    pub stores : StoresLast
+    pub goes_on : GoesOn
+    -- an address is no place
+    pub bad_place : Q (Fault Address) s []
+    -- no thread calls a service that asks for one
+    pub no_thread : Asks → caller now ≡ None → Q (Fault Service) s []
     -- a text is printed
     pub prints : (text : List ℕ) → P s (Told text ∷ [])
 
+  -- the same, where each fault is such
+  pub record CallerMoves : Type 0 where
+    pub begins : P s []
+    pub stores : StoresLast
+    pub goes_on : GoesOn
+    pub faults : (kind : GuestFault) → Q (Fault kind) s []
+    pub prints : (text : List ℕ) → P s (Told text ∷ [])
+
+  abbrev pub each_of : CallerMoves → EachMoves
+  each_of e = record {
+    begins = e.begins;
+    stores = e.stores;
+    goes_on = e.goes_on;
+    bad_place = e.faults Address;
+    no_thread = λ asks none. e.faults Service;
+    prints = e.prints;
+  }
+
   -- the services of a library make its own moves alone
   pub record Moves (library : ℕ) : Type 0 where
-    pub each : EachMoves
+    pub each : CallerMoves
     pub registry : library ≡ LOADCORE → RegistryMoves
     pub blocks : library ≡ SYSMEM → BlockMoves
     pub interrupts : library ≡ INTRMAN → InterruptMoves

@@ -1,7 +1,6 @@
 -- What holds after a thread waits for an object of any kind, or one is deleted.
 use Rattle.std.proofs.Common.{◌≡◌, ℕ, true, Option, Some, None, List, refl}
 use Rattle.iop_base.specs.Piece.{Piece}
-use Rattle.iop_base.specs.declared.guest_fault.GuestFault.TheVariants.{Service}
 use Rattle.iop_objects.specs.Objects.{object_of, state_of}
 use Rattle.iop_thread.specs.declared.kind.Kind.{Kind}
 use Rattle.iop_kernel.specs.Kinds.{State, Wants, Live, table}
@@ -27,10 +26,10 @@ module _ {P : System → List Piece → Type 0} {Q : After → System → List P
   deletes_goes id = deletes_by id (object_of (table kind s.core.kernel).live id) refl
 
   -- the thread that calls waits, which has to
-  pub waits_goes : (id : ℕ) (x : State kind) (wants : Wants kind)
+  pub waits_goes : Asks → (id : ℕ) (x : State kind) (wants : Wants kind)
       → may_switch s.core.kernel ≡ true → state_of (table kind s.core.kernel) id ≡ Some x
       → HasToWait kind (table kind s.core.kernel) id x wants → (who : Option ℕ)
       → caller s.core ≡ who → CoreEnds Q s (waits_for kind s.core id wants who)
-  waits_goes id x wants may known must None is = e.faults Service
-  waits_goes id x wants may known must (Some thread) is =
+  waits_goes asks id x wants may known must None is = e.no_thread asks is
+  waits_goes asks id x wants may known must (Some thread) is =
       m.waits id thread x wants is may known must

@@ -6,7 +6,6 @@ use Rattle.std.proofs.lemmas.Bool.Decides.{nat_tests}
 use Rattle.iop_base.specs.Piece.{Piece}
 use Rattle.iop_base.specs.declared.code.Code.{Code}
 use Rattle.iop_base.specs.declared.code.TheConstants.Code.{OK, UNKNOWN_SEMAPHORE, SEMAPHORE_OVERFLOW, SEMAPHORE_ZERO}
-use Rattle.iop_base.specs.declared.guest_fault.GuestFault.TheVariants as faults_of
 use Rattle.iop_objects.specs.Objects as objects
 use Rattle.iop_objects.specs.Objects.{state_of, waiters_of, with_state}
 use Rattle.iop_objects.specs.Queue.{Choice, chooses}
@@ -56,7 +55,7 @@ module _ {P : System → List Piece → Type 0} {Q : After → System → List P
       Made r = CoreGoes (answers_result (with_semaphores c r.1) r.0)
 
   pub creates_sema_goes : (o : Option ℕ) → CoreGoes (creates_sema_at c s.memory o)
-  creates_sema_goes None = e.faults faults_of.Address
+  creates_sema_goes None = e.bad_place
   creates_sema_goes (Some place) =
       let word : ℕ → ℕ = word_in s.memory place in sema_made (word 0) (word 1) (word 2) (word 3)
 
@@ -99,11 +98,11 @@ module _ {P : System → List Piece → Type 0} {Q : After → System → List P
       refl (only e _) (λ x known zero. only e _)
       (λ x known some. answers_after e _ _ (m.changes id x _ known (takes some)))
 
-  pub wait_sema_goes : (id : ℕ) → CoreGoes (wait_sema c id)
-  wait_sema_goes id =
+  pub wait_sema_goes : Asks → (id : ℕ) → CoreGoes (wait_sema c id)
+  wait_sema_goes asks id =
       either e (may_switch c.kernel) _ _ (λ may.
       takes_by (λ (r : Code × Semaphores). CoreGoes (takes_or_waits c id r)) id (state_of semas id)
       refl (only e _)
-      (λ x known zero. waits_goes e Semaphore m id x tt may known zero (caller c) refl)
+      (λ x known zero. waits_goes e Semaphore m asks id x tt may known zero (caller c) refl)
       (λ x known some. answers_after e _ _ (m.changes id x _ known (takes some))))
       (λ cannot. only e _)

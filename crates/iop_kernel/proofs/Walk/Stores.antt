@@ -6,7 +6,6 @@ use Rattle.iop_base.specs.Numbers.{wrapped}
 use Rattle.iop_base.specs.Piece.{Piece}
 use Rattle.iop_base.specs.declared.code.Code.{Code}
 use Rattle.iop_base.specs.declared.code.TheConstants.Code.{OK}
-use Rattle.iop_base.specs.declared.guest_fault.GuestFault.TheVariants as faults_of
 use Rattle.iop_base.proofs.Memory.{length-with_bytes}
 use Rattle.iop_event.specs.declared.met.Met.{Met}
 use Rattle.iop_objects.specs.Objects.{Object, Objects, object_of}
@@ -110,14 +109,14 @@ module _ {P : System → List Piece → Type 0} {Q : After → System → List P
 
     pub status_goes : (id : ℕ) (o : Option ℕ) → WordsFit s.memory o count
         → BoardGoes (refers_at kind words b id o)
-    status_goes id None fits = e.faults faults_of.Address
+    status_goes id None fits = e.bad_place
     status_goes id (Some place) fits =
         refers_to_goes place fits (object_of (table kind c.kernel).live id)
 
   -- a time is written
   pub writes_time_goes : (ticks : ℕ) (o : Option ℕ) → WordsFit s.memory o 2
       → BoardGoes (writes_time b ticks o)
-  writes_time_goes ticks None fits = e.faults faults_of.Address
+  writes_time_goes ticks None fits = e.bad_place
   writes_time_goes ticks (Some place) fits = told place (time_words ticks) fits
 
   -- the seconds of a time and its other microseconds are
@@ -147,4 +146,4 @@ module _ {P : System → List Piece → Type 0} {Q : After → System → List P
       → WordsFit s.memory rest 1 → BoardGoes (converts_at b time seconds rest)
   converts_go (Some time) (Some seconds) (Some rest) first last =
       writes_seconds_goes seconds rest (micros_of (ticks_in s.memory time)) first last
-  converts_go time seconds rest first last = e.faults faults_of.Address
+  converts_go time seconds rest first last = e.bad_place

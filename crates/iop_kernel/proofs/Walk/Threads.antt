@@ -5,7 +5,7 @@ use Rattle.std.proofs.lemmas.Bool.Decides.{nat_tests}
 use Rattle.iop_base.specs.Piece.{Piece}
 use Rattle.iop_base.specs.declared.code.Code.{Code}
 use Rattle.iop_base.specs.declared.code.TheConstants.Code.{OK}
-use Rattle.iop_base.specs.declared.guest_fault.GuestFault.TheVariants as faults_of
+use Rattle.iop_base.specs.declared.guest_fault.GuestFault.TheVariants.{Service}
 use Rattle.iop_thread.specs.Operations as threads
 use Rattle.iop_thread.specs.States.{wait_in}
 use Rattle.iop_thread.specs.ThreadTable.{ThreadTable, thread_of, priority_of, is_it, has_priority, running_thread}
@@ -22,7 +22,7 @@ use Rattle.iop_kernel.specs.ThreadStarts.{start_thread, exits_by, returns_by, te
 use Rattle.iop_kernel.specs.ThreadWaits.{releases_from, releases_it, release_wait, sleeps_by, sleep_thread, wakeup_thread, cancels_of, suspend_thread, resume_thread}
 use Rattle.iop_kernel.specs.Waits.{core_leaves}
 use Rattle.iop_kernel.specs.declared.after.After.{After}
-use Rattle.iop_kernel.specs.declared.after.After.TheVariants.{Resume}
+use Rattle.iop_kernel.specs.declared.after.After.TheVariants.{Resume, Fault}
 use Rattle.iop_kernel.proofs.Walk.Moves.{EachMoves, ThreadMoves, CoreEnds, OwnerEnds}
 
 module _ {P : System → List Piece → Type 0} {Q : After → System → List Piece → Type 0}
@@ -57,18 +57,20 @@ module _ {P : System → List Piece → Type 0} {Q : After → System → List P
       (λ other. answers_after e _ _ (h.starts id argument))
 
   -- the thread that calls ends
-  pub exits_go : (who : Option ℕ) → caller c ≡ who → CoreGoes (exits_by c who)
-  exits_go None is = e.faults faults_of.Service
-  exits_go (Some id) is =
+  pub exits_go : (caller c ≡ None → Q (Fault Service) s []) → (who : Option ℕ)
+      → caller c ≡ who → CoreGoes (exits_by c who)
+  exits_go faults None is = faults is
+  exits_go faults (Some id) is =
       either e (id == LOADER) _ _ (λ loader. h.returns id 0 is loader)
       (λ other. h.ends id is other)
 
   -- its module returns
-  pub returns_go : (who : Option ℕ) → caller c ≡ who → CoreGoes (returns_by c who)
-  returns_go None is = e.faults faults_of.Service
-  returns_go (Some id) is =
+  pub returns_go : Q (Fault Service) s [] → (who : Option ℕ) → caller c ≡ who
+      → CoreGoes (returns_by c who)
+  returns_go faults None is = faults
+  returns_go faults (Some id) is =
       either e (id == LOADER) _ _ (λ loader. h.returns id _ is loader)
-      (λ other. e.faults faults_of.Service)
+      (λ other. faults)
 
   -- another thread ends, by what that comes to
   terminates_go : (id : ℕ) → is_nobody_else c id ≡ false
@@ -195,15 +197,15 @@ module _ {P : System → List Piece → Type 0} {Q : After → System → List P
       (λ other. answers_after e _ _ (h.resumes id other))
 
   -- the thread that calls waits for a time
-  waits_until_goes : (moment : ℕ) → may_switch c.kernel ≡ true → (who : Option ℕ)
+  waits_until_goes : Asks → (moment : ℕ) → may_switch c.kernel ≡ true → (who : Option ℕ)
       → caller c ≡ who → CoreGoes (waits_until c moment who)
-  waits_until_goes moment may None is = e.faults faults_of.Service
-  waits_until_goes moment may (Some thread) is = h.delays moment thread is may
+  waits_until_goes asks moment may None is = e.no_thread asks is
+  waits_until_goes asks moment may (Some thread) is = h.delays moment thread is may
 
-  pub delay_goes : (us : ℕ) → CoreGoes (delay_thread c us)
-  delay_goes us =
+  pub delay_goes : Asks → (us : ℕ) → CoreGoes (delay_thread c us)
+  delay_goes asks us =
       either e (may_switch c.kernel) _ _
-      (λ may. waits_until_goes (moment_after c.kernel.clock (ticks_of us)) may (caller c) refl)
+      (λ may. waits_until_goes asks (moment_after c.kernel.clock (ticks_of us)) may (caller c) refl)
       (λ cannot. only e _)
 
   -- a dormant thread is deleted
@@ -225,9 +227,9 @@ module _ {P : System → List Piece → Type 0} {Q : After → System → List P
       h.ends_deleted id stack left is other did
   exits_deleted_go id is other (Err code, left) did = h.ends id is other
 
-  pub exits_deleted_by_go : (who : Option ℕ) → caller c ≡ who
+  pub exits_deleted_by_go : Asks → (who : Option ℕ) → caller c ≡ who
       → OwnerEnds Q s (exits_deleted_by (owner_of s) who)
-  exits_deleted_by_go None is = e.faults faults_of.Service
-  exits_deleted_by_go (Some id) is =
+  exits_deleted_by_go asks None is = e.no_thread asks is
+  exits_deleted_by_go asks (Some id) is =
       cond_both (id == LOADER) _ _ (OwnerEnds Q s) (λ loader. h.returns id 0 is loader)
       (λ other. exits_deleted_go id is other (threads.deletes (ended c).kernel.threads id) refl)

@@ -4,7 +4,7 @@ use Rattle.iop_event.proofs.laws.flags_are_met.Goals as goal
 
 pub returns : goal.returns
 returns c = record {
-  one_by_one = λ s id x asks live. met_one_by_one s asks id x live;
+  one_by_one = met_one_by_one;
   none_overdue = none_overdue;
   set = bits_set;
   cleared = bits_cleared;

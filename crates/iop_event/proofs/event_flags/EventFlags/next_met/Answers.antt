@@ -1,19 +1,9 @@
-use Rattle.std.proofs.Common.{◌≡◌, Some, sym, ap, subst, ◌∙◌}
-use Rattle.iop_event.specs.EventFlags.{AskForBits, meets_next, with_pattern}
+use Rattle.std.proofs.Common.{◌≡◌, Some, sym, ap, ◌∙◌}
+use Rattle.iop_event.specs.EventFlags.{meets_next, with_pattern}
 use Rattle.iop_event.specs.WakeConditions.{is_met}
-use Rattle.iop_event.proofs.Asking.{AskForBits-takes_where, AskForBits-with_state}
 use Rattle.iop_event.proofs.Settling.{meets_next-taken}
 use Rattle.iop_event.proofs.event_flags.EventFlags.next_met.Goals as goal
 use Rattle.iop_objects.specs.Objects.{state_of, with_state, takes_where}
-
-pub invariant_of-self-2 : goal.invariant_of-self-2
-invariant_of-self-2 c =
-    let x = c.in_ok-flag.flag in
-    let taken : AskForBits c.take_where.new.self =
-    subst AskForBits (sym c.take_where.ensures.left)
-    (AskForBits-takes_where c.self.inside.objects c.self.invariant c.args.id (is_met x.pattern)) in
-    subst AskForBits (sym c.set_state.ensures)
-    (AskForBits-with_state c.take_where.new.self taken c.args.id _)
 
 pub returns-clause-answer : goal.returns-clause-answer
 returns-clause-answer c =
@@ -21,7 +11,7 @@ returns-clause-answer c =
     let x = c.in_ok-flag.flag in
     let live : state_of s c.args.id ≡ Some x =
     ap (λ t. state_of t c.args.id) c.self.view_is ∙ sym c.in_ok-flag.ensures.flag in
-    let met = meets_next-taken s c.self.invariant c.args.id x live c.in_ok-waiter.waiter
+    let met = meets_next-taken s c.args.id x live c.in_ok-waiter.waiter
     (sym c.in_ok-waiter.ensures.answer) in
     sym (ap (λ r. r.0) met) ∙ ap (λ t. (meets_next t c.args.id).0) c.self.view_is
 
@@ -31,7 +21,7 @@ returns-clause-left c =
     let x = c.in_ok-flag.flag in
     let live : state_of s c.args.id ≡ Some x =
     ap (λ t. state_of t c.args.id) c.self.view_is ∙ sym c.in_ok-flag.ensures.flag in
-    let met = meets_next-taken s c.self.invariant c.args.id x live c.in_ok-waiter.waiter
+    let met = meets_next-taken s c.args.id x live c.in_ok-waiter.waiter
     (sym c.in_ok-waiter.ensures.answer) in
     let left = (takes_where s c.args.id (is_met x.pattern)).1 in
     c.set_state.ensures

@@ -1,5 +1,5 @@
 use Rattle.iop_kernel.proofs.Bodies.Standing.{holds_with}
-use Rattle.iop_kernel.proofs.Placing.Basics.{stand_on, places, moves}
+use Rattle.iop_kernel.proofs.Placing.Basics.{stand_on, places, moves, keeps}
 use Rattle.iop_kernel.proofs.kernel.Kernel.begin.Goals as goal
 
 pub returns : goal.returns
@@ -8,5 +8,5 @@ returns g c = λ k h.
       holds = holds_with g.R.Ready.stands h.holds (c.begin.ensures k.threads h.holds.threads);
       placed = let registers = c.args.registers.now in
           stand_on k h.placed ((places k h.placed).begins registers tt)
-          ((moves k h.placed).begins registers);
+          ((moves k h.placed).begins registers) ((keeps k h.placed).begins registers);
     }

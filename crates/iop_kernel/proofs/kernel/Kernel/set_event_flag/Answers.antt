@@ -3,7 +3,6 @@ use Rattle.iop_base.specs.declared.code.Code.{Code}
 use Rattle.iop_exec.specs.Row.{with_reg}
 use Rattle.iop_kernel.specs.Standing.{board}
 use Rattle.iop_kernel.specs.System.{code_word}
-use Rattle.iop_kernel.proofs.Bodies.FlagSteps.{waiters_ask}
 use Rattle.iop_kernel.proofs.Bodies.Meetings.{found_live, set_answers, meeting_begins, meeting_goes_on, meeting_fewer, meeting_ends}
 use Rattle.iop_kernel.proofs.Bodies.Standing.{kernel_of, over, holds_flags}
 use Rattle.iop_kernel.proofs.kernel.Kernel.set_event_flag.Goals as goal
@@ -17,7 +16,7 @@ loop-met-init g c = over g.R.Ready.stands _ (λ t h.
     meeting_begins g.R.Ready.stands b id c.args.bits found.0 found.1 c.get.ensures.objects.ids
     (record c.args.self.now { event_flags = c.set-code.new.self })
     (holds_flags g.R.Ready.stands h refl) c.set-code.ensures.left
-    (waiters_ask flags id found.0 found.1 c.get.ensures.sound) (g.L.Lines.output c.args.lines.now))
+    (g.L.Lines.output c.args.lines.now))
 
 pub meet-requires : goal.meet-requires
 meet-requires g c =

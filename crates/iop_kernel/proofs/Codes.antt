@@ -1,0 +1,3 @@
+pub mod Apart
+pub mod Objects
+pub mod Owners
