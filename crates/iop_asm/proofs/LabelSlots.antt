@@ -10,7 +10,7 @@ use Rattle.iop_isa.specs.declared.table.Operand.TheVariants.{Rd, Rs, Rt, Sa, Cod
 use Rattle.iop_isa.specs.Table.{code_of}
 use Rattle.iop_isa.specs.Instructions.{with_number, word_with}
 use Rattle.iop_asm.specs.Operands.{Value, Numeric, Register, Symbol, High, Low, field_of, with_operand, reference_by}
-use Rattle.iop_asm.proofs.OperandFields.{is_apart, in_label, names_label, Suits, Lined, AreLow}
+use Rattle.iop_asm.proofs.OperandFields.{is_apart, in_label, names_label, Suits, Item, Lined, AreLow}
 
 -- an opcode's words have the field of an operand that a label can decide
 abbrev pub carries : Opcode → Operand → Bool
@@ -26,9 +26,6 @@ abbrev pub has_one_label : List Operand → Bool
 has_one_label [] = true
 has_one_label (o ∷ operands) =
     cond (in_label o) (list_all not_label operands) (has_one_label operands)
-
-abbrev pub Item : Type 0
-Item = Operand × Value
 
 -- a number as a value
 abbrev pub numeric : ℕ → Value
@@ -88,9 +85,10 @@ added (Primary opcode) o n f label carried = absurd (cc)
 
 pub word_small : (opcode : Opcode) (f : Fields) → AreLow f → code_of opcode < 63
     → word_with opcode f < 2 ^ 32
-word_small (Special function) f low small = omega (arith, low)
-word_small (Regimm rt) f low small = omega (arith, low)
-word_small (Primary opcode) f low small = omega (arith, low)
+word_small (Special function) f low small =
+    omega (arith, low Rs, low Rt, low Rd, low Sa, low Code)
+word_small (Regimm rt) f low small = omega (arith, low Rs, low Bits)
+word_small (Primary opcode) f low small = omega (arith, low Rs, low Rt, low Bits, low Target)
 
 pub label_zero : (v : Value) → names_label v ≡ true → field_of v ≡ 0
 label_zero (Numeric n) label = absurd (cc)

@@ -15,7 +15,7 @@ pub mod AddressLaws
 pub mod OperandFields
 pub mod LabelSlots
 pub mod Placing
-pub mod FormatLaws
-pub mod RowLaws
-pub mod LinedLaws
+pub mod FormatLemmas
+pub mod RowLemmas
+pub mod LinedLemmas
 pub mod InstructionLaws

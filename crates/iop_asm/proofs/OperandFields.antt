@@ -1,5 +1,5 @@
 -- The fields of operands, each of which stands in a field of its own.
-use Rattle.std.proofs.Common.{◌≡◌, ℕ, ◌<◌, ◌^◌, ◌==◌, Bool, true, false, not, ◌&&◌, ◌||◌, Some, List, [], ◌∷◌, fold, map, refl, ap, sym, ◌∙◌, subst, arith}
+use Rattle.std.proofs.Common.{◌≡◌, ℕ, ◌<◌, ◌==◌, Bool, true, false, not, ◌&&◌, Some, List, [], ◌∷◌, fold, map, refl, ap, sym, ◌∙◌, subst, arith}
 use Rattle.std.specs.List.{list_all}
 use Rattle.std.proofs.lemmas.Bool.{and_from, and_parts}
 use Rattle.iop_isa.specs.declared.fields.Fields.{Fields}
@@ -68,119 +68,51 @@ other_number Target Target n f e = absurd (cc)
 other_number p o n f e = refl
 
 -- each number fits its field
-pub record AreLow (f : Fields) : Type 0 where
-  pub rs : f.rs < 32
-  pub rt : f.rt < 32
-  pub rd : f.rd < 32
-  pub sa : f.sa < 32
-  pub n : f.n < 2 ^ 20
-  pub imm : f.imm < 2 ^ 16
-  pub target : f.target < 2 ^ 26
+abbrev pub AreLow : Fields → Type 0
+AreLow f = (o : Operand) → number o f < number_limit o
 
 pub zeros_low : AreLow zeros
-zeros_low = record {
-  rs = omega arith;
-  rt = omega arith;
-  rd = omega arith;
-  sa = omega arith;
-  n = omega arith;
-  imm = omega arith;
-  target = omega arith;
-}
+zeros_low Rd = omega arith
+zeros_low Rs = omega arith
+zeros_low Rt = omega arith
+zeros_low Sa = omega arith
+zeros_low Code = omega arith
+zeros_low Signed = omega arith
+zeros_low Bits = omega arith
+zeros_low Label = omega arith
+zeros_low Target = omega arith
+zeros_low Base = omega arith
 
-low_rs : (x : ℕ) (f : Fields) → x < 32 → AreLow f → AreLow (record f { rs = x })
-low_rs x f small low = record {
-  rs = small;
-  rt = low.rt;
-  rd = low.rd;
-  sa = low.sa;
-  n = low.n;
-  imm = low.imm;
-  target = low.target;
-}
-
-low_rt : (x : ℕ) (f : Fields) → x < 32 → AreLow f → AreLow (record f { rt = x })
-low_rt x f small low = record {
-  rs = low.rs;
-  rt = small;
-  rd = low.rd;
-  sa = low.sa;
-  n = low.n;
-  imm = low.imm;
-  target = low.target;
-}
-
-low_rd : (x : ℕ) (f : Fields) → x < 32 → AreLow f → AreLow (record f { rd = x })
-low_rd x f small low = record {
-  rs = low.rs;
-  rt = low.rt;
-  rd = small;
-  sa = low.sa;
-  n = low.n;
-  imm = low.imm;
-  target = low.target;
-}
-
-low_sa : (x : ℕ) (f : Fields) → x < 32 → AreLow f → AreLow (record f { sa = x })
-low_sa x f small low = record {
-  rs = low.rs;
-  rt = low.rt;
-  rd = low.rd;
-  sa = small;
-  n = low.n;
-  imm = low.imm;
-  target = low.target;
-}
-
-low_n : (x : ℕ) (f : Fields) → x < 2 ^ 20 → AreLow f → AreLow (record f { n = x })
-low_n x f small low = record {
-  rs = low.rs;
-  rt = low.rt;
-  rd = low.rd;
-  sa = low.sa;
-  n = small;
-  imm = low.imm;
-  target = low.target;
-}
-
-low_imm : (x : ℕ) (f : Fields) → x < 2 ^ 16 → AreLow f → AreLow (record f { imm = x })
-low_imm x f small low = record {
-  rs = low.rs;
-  rt = low.rt;
-  rd = low.rd;
-  sa = low.sa;
-  n = low.n;
-  imm = small;
-  target = low.target;
-}
-
-low_target : (x : ℕ) (f : Fields) → x < 2 ^ 26 → AreLow f → AreLow (record f { target = x })
-low_target x f small low = record {
-  rs = low.rs;
-  rt = low.rt;
-  rd = low.rd;
-  sa = low.sa;
-  n = low.n;
-  imm = low.imm;
-  target = small;
-}
-
+-- another number that fits is in one field, and all others stay
 with_low : (o : Operand) (x : ℕ) (f : Fields) → x < number_limit o → AreLow f
     → AreLow (with_number o x f)
-with_low Rd x f small low = low_rd x f small low
-with_low Rs x f small low = low_rs x f small low
-with_low Rt x f small low = low_rt x f small low
-with_low Sa x f small low = low_sa x f small low
-with_low Code x f small low = low_n x f small low
-with_low Signed x f small low = low_imm x f small low
-with_low Bits x f small low = low_imm x f small low
-with_low Label x f small low = low_imm x f small low
-with_low Target x f small low = low_target x f small low
-with_low Base x f small low = low_rs x f small low
+with_low Rd x f small low Rd = small
+with_low Rs x f small low Rs = small
+with_low Rs x f small low Base = small
+with_low Base x f small low Rs = small
+with_low Base x f small low Base = small
+with_low Rt x f small low Rt = small
+with_low Sa x f small low Sa = small
+with_low Code x f small low Code = small
+with_low Signed x f small low Signed = small
+with_low Signed x f small low Bits = small
+with_low Signed x f small low Label = small
+with_low Bits x f small low Signed = small
+with_low Bits x f small low Bits = small
+with_low Bits x f small low Label = small
+with_low Label x f small low Signed = small
+with_low Label x f small low Bits = small
+with_low Label x f small low Label = small
+with_low Target x f small low Target = small
+with_low o x f small low p = low p
 
 -- the fields that a label can decide
 abbrev pub in_label : Operand → Bool
-in_label o = slot o == 5 || slot o == 6
+in_label Signed = true
+in_label Bits = true
+in_label Label = true
+in_label Target = true
+in_label o = false
 
 abbrev pub names_label : Value → Bool
 names_label (Numeric n) = false
@@ -194,8 +126,12 @@ pub record Suits (o : Operand) (v : Value) : Type 0 where
   pub low : field_of v < number_limit o
   pub label : names_label v ≡ true → in_label o ≡ true
 
+-- an operand with its value
+abbrev pub Item : Type 0
+Item = Operand × Value
+
 -- values of these operands in their order, which fit
-abbrev pub Lined : List Operand → List (Operand × Value) → Type 0
+abbrev pub Lined : List Operand → List Item → Type 0
 Lined [] [] = Unit {0}
 Lined [] (value ∷ values) = ⊥
 Lined (o ∷ operands) [] = ⊥
@@ -203,15 +139,14 @@ Lined (o ∷ operands) ((p, v) ∷ values) =
     (p ≡ o) × Suits o v × Lined operands values
 
 -- fields hold the values of these operands
-abbrev pub Reads : List Operand → List (Operand × Value) → Fields → Type 0
+abbrev pub Reads : List Operand → List Item → Fields → Type 0
 Reads [] [] f = Unit {0}
 Reads [] (value ∷ values) f = ⊥
 Reads (o ∷ operands) [] f = ⊥
 Reads (o ∷ operands) ((p, v) ∷ values) f = (number o f ≡ field_of v) × Reads operands values f
 
 -- what stands in none of these operands' fields stays
-pub fold-apart : (operands : List Operand) (values : List (Operand × Value)) (f : Fields)
-    (p : Operand)
+pub fold-apart : (operands : List Operand) (values : List Item) (f : Fields) (p : Operand)
     → Lined operands values → list_all (is_apart p) operands ≡ true
     → number p (fold with_operand f values) ≡ number p f
 fold-apart [] [] f p lined apart = refl
@@ -223,7 +158,7 @@ fold-apart (o ∷ operands) ((q, v) ∷ values) f p lined apart =
     ∙ ap (λ (x : Operand). number p (with_number x (field_of v) f)) lined.0
     ∙ other_number p o (field_of v) f tests.0
 
-pub fold-reads : (operands : List Operand) (values : List (Operand × Value)) (f : Fields)
+pub fold-reads : (operands : List Operand) (values : List Item) (f : Fields)
     → Lined operands values → are_apart operands ≡ true
     → Reads operands values (fold with_operand f values)
 fold-reads [] [] f lined apart = tt
@@ -238,7 +173,7 @@ fold-reads (o ∷ operands) ((q, v) ∷ values) f lined apart =
       fold-reads operands values next lined.2 tests.1,
     )
 
-pub fold-low : (operands : List Operand) (values : List (Operand × Value)) (f : Fields)
+pub fold-low : (operands : List Operand) (values : List Item) (f : Fields)
     → Lined operands values → AreLow f → AreLow (fold with_operand f values)
 fold-low [] [] f lined low = low
 fold-low [] (value ∷ values) f lined low = absurd lined
@@ -250,8 +185,8 @@ fold-low (o ∷ operands) ((q, v) ∷ values) f lined low =
     (subst AreLow same (with_low o (field_of v) f lined.1.low low))
 
 -- an instruction with the numbers of fields is the one that is given those of the values
-pub given-reads : (operands : List Operand) (inst : Takes operands)
-    (values : List (Operand × Value)) (f : Fields) → Reads operands values f
+pub given-reads : (operands : List Operand) (inst : Takes operands) (values : List Item)
+    (f : Fields) → Reads operands values f
     → given operands inst (map (λ o. field_of o.1) values) ≡ Some (inst_with operands inst f)
 given-reads [] inst [] f reads = refl
 given-reads [] inst (value ∷ values) f reads = absurd reads

@@ -13,8 +13,8 @@ use Rattle.iop_asm.specs.Cells.{Reference}
 use Rattle.iop_asm.specs.Drafts.{Draft}
 use Rattle.iop_asm.specs.Laws.{placed_by, placed_number}
 use Rattle.iop_asm.specs.Operands.{Value, Symbol, High, Low, field_of, with_operand, reference_by, or_reference}
-use Rattle.iop_asm.proofs.OperandFields.{in_label, names_label, Suits, Lined, AreLow}
-use Rattle.iop_asm.proofs.LabelSlots.{carries, not_label, has_one_label, Item, numeric, no_reference, moved, added, word_small, label_zero, one_behind, plain_value}
+use Rattle.iop_asm.proofs.OperandFields.{in_label, names_label, Suits, Item, Lined, AreLow}
+use Rattle.iop_asm.proofs.LabelSlots.{carries, not_label, has_one_label, numeric, no_reference, moved, added, word_small, label_zero, one_behind, plain_value}
 
 module _ (final : Draft) (site line : ℕ) where
   -- an operand with the number that it has in the word at the site

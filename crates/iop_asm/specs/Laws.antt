@@ -1,18 +1,18 @@
 -- What the laws of the definitions say: an instruction goes to, or makes, the address that was put
 -- into it; and a line makes the instruction that it names.
-use Rattle.std.specs.Prelude.{◌≡◌, ℕ, ◌+◌, ◌*◌, ◌/◌, ◌%◌, ◌^◌, ◌<◌, true, Option, Some, None, unwrap_or, Ok, List, [], ◌∷◌, map}
+use Rattle.std.specs.Prelude.{◌≡◌, ℕ, ◌+◌, ◌*◌, ◌/◌, ◌%◌, ◌^◌, ◌<◌, true, Option, Some, None, unwrap_or, Ok, List, [], ◌∷◌, codes, map, All}
 use Rattle.iop_base.specs.Numbers.{wrapped, sign_extended, high_half}
 use Rattle.iop_isa.specs.Instructions.{inst_of}
-use Rattle.iop_isa.specs.Table.{Takes, Row}
+use Rattle.iop_isa.specs.Table.{Takes, Row, rows}
 use Rattle.iop_isa.specs.Targets.{branch_target, jump_target}
-use Rattle.iop_isa.specs.Writing.{Named, named, row_named}
+use Rattle.iop_isa.specs.Writing.{Named, row_named}
 use Rattle.iop_isa.specs.declared.instruction.Inst.{Inst}
 use Rattle.iop_isa.specs.declared.table.Operand.{Operand}
 use Rattle.iop_asm.specs.Assembly.{is_near, jump_field, low_half, branch_field, field_by, label_address, cell_word}
 use Rattle.iop_asm.specs.Cells.{Cell, Reference}
 use Rattle.iop_asm.specs.Drafts.{Draft}
 use Rattle.iop_asm.specs.Operands.{Value, operands_of, field_of, reference_by}
-use Rattle.iop_asm.specs.Statements.{Mnemonic, Statement, Fills, statement_of}
+use Rattle.iop_asm.specs.Statements.{Mnemonic, Nop, Statement, Fills, keyword_of, statement_of}
 use Rattle.iop_asm.specs.Texts.{comma_words}
 
 -- an address of an instruction
@@ -82,8 +82,29 @@ pub record MakesInstruction (line : ℕ) (name text : List ℕ) (statement : Sta
   pub holds : (final : Draft) (site : ℕ)
       → HoldsRow row (map (placed_number final site line) operands) (cell_word final site cell)
 
-abbrev pub InstructionsAreMade : Type 0
-InstructionsAreMade =
-    (line : ℕ) (name text : List ℕ) (mnemonic : Named) (statement : Statement)
-    → named name ≡ Some mnemonic → statement_of line (Mnemonic mnemonic) text ≡ Ok statement
-    → MakesInstruction line name text statement
+-- a line is the one word 0, wherever it stands
+pub record MakesZero (statement : Statement) : Type 0 where
+  pub cell : Cell
+  pub fills : statement ≡ Fills (cell ∷ [])
+  pub holds : (final : Draft) (site : ℕ) → cell_word final site cell ≡ 0
+
+-- what a row's name stands for
+abbrev pub named_by : Row → Named
+named_by r = record { opcode = r.opcode; operands = r.operands }
+
+-- the name of a row is known as that of its instruction
+abbrev pub IsKnown : Row → Type 0
+IsKnown r = keyword_of r.name ≡ Some (Mnemonic (named_by r))
+
+pub record InstructionsAreMade : Type 0 where
+  -- every instruction of the table has a name that a line can begin with
+  pub known : All IsKnown rows
+  -- by the name that a line begins with
+  pub made : (line : ℕ) (name text : List ℕ) (mnemonic : Named) (statement : Statement)
+      → keyword_of name ≡ Some (Mnemonic mnemonic)
+      → statement_of line (Mnemonic mnemonic) text ≡ Ok statement
+      → MakesInstruction line name text statement
+  -- `nop` is the word 0
+  pub is_nop : keyword_of (codes "nop") ≡ Some Nop
+  pub nop : (line : ℕ) (text : List ℕ) (statement : Statement)
+      → statement_of line Nop text ≡ Ok statement → MakesZero statement

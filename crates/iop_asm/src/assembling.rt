@@ -13,7 +13,7 @@ use std::alloc::Global;
 /// language is this project's own; docs/FORMATS.md describes it. Instructions are those of MIPS I.
 ///
 /// Answers `Line` exactly where a line is bad, with the number of the first such line and the first
-/// kind that applies to it, and `Memory` only where host memory runs out.
+/// kind that applies to it. Or it answers `Memory`, which stands for want of host memory.
 #[tactic(auto, unfolding(crate::specs::Assembly::assembled))]
 pub fn assemble(alloc: Global, source: &str) -> Result<AsmUnit, AsmFault>
     ensures { Gives result (assembled source.now) }

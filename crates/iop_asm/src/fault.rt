@@ -84,7 +84,7 @@ pub enum AsmFault {
         /// What is wrong with it.
         kind: AsmKind,
     },
-    /// Host memory ran out.
+    /// Stands for want of host memory.
     #[error("out of memory")]
     Memory,
 }

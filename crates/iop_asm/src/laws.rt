@@ -23,8 +23,10 @@ pub fn halves_make_addresses()
     ensures { HalvesMakeAddresses }
 {}
 
-/// The word that an instruction's line makes is that instruction: the row of its name with the
-/// operands of the line in their order, and what its label's address comes to, at every site.
+/// The word that an instruction's line makes is that instruction: the row of the name that the line
+/// begins with, with the operands of the line in their order, and what its label's address comes
+/// to, at every site. The name of every row of the table is known as that of its instruction. `nop`
+/// makes the word 0.
 pub fn instructions_are_made()
     ensures { InstructionsAreMade }
 {}

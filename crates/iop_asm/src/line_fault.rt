@@ -8,7 +8,7 @@ use std::alloc::AllocError;
 pub(crate) enum LineFault {
     /// It is bad.
     Bad(AsmKind),
-    /// Host memory ran out.
+    /// Stands for want of host memory.
     Memory,
 }
 

@@ -81,7 +81,7 @@ fn read_script_of<'a, F: Files>(
 
 /// Reads what a command names: first its script, and then its modules, in order. The first file
 /// that cannot be read or is too long, or a bad line of the script, decides, and no later file is
-/// opened. Nor is one behind a want of memory.
+/// opened. Where memory is wanting, no further file is opened.
 #[inline(never)]
 pub(crate) fn read_inputs<'a, F: Files>(
     alloc: Global,

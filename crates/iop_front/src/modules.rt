@@ -58,8 +58,8 @@ fn read_module<'a, F: Files>(
 }
 
 /// Reads the modules that these words name, in order, through a buffer of `READ_LIMIT` bytes. The
-/// first that cannot be read or is too long decides, and no later file is opened. Nor is one behind
-/// a want of memory.
+/// first that cannot be read or is too long decides, and no later file is opened. Where memory is
+/// wanting, no further file is opened.
 pub(crate) fn read_modules<'a, F: Files>(
     alloc: Global,
     words: ModuleWords<'a>,

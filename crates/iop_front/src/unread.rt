@@ -12,7 +12,7 @@ pub(crate) enum Unread<'a> {
     TooLong(&'a str),
     /// The script has a bad line, the first of which has this number.
     BadScript(u32),
-    /// Memory was wanted.
+    /// Stands for want of memory.
     NoMemory,
 }
 

@@ -52,7 +52,7 @@ fn build_accepted(alloc: Global, unit: &AsmUnit) -> Result<Vec<u8>, AllocError>
 /// The module is named `gen`, has version 1.1, and calls functions of `thbase`, `thsemap` and
 /// `stdio`. Its file has at most 1,024 bytes.
 ///
-/// `AllocError` only where host memory runs out.
+/// `AllocError` stands for want of host memory: no bad line and no refusal can come.
 pub fn generate(alloc: Global, workers: u32) -> Result<Vec<u8>, AllocError>
     requires any { 1 ≤ workers }
     requires countable { workers ≤ MOST_WORKERS }

@@ -1,4 +1,5 @@
 pub mod Callers
+pub mod Deletions
 pub mod FlagSteps
 pub mod KindTables
 pub mod Meetings

@@ -1,3 +1,4 @@
 pub mod Apart
+pub mod Libraries
 pub mod Objects
-pub mod Owners
+pub mod Writing

@@ -2,6 +2,7 @@ pub mod Blocks
 pub mod Core
 pub mod Faulting
 pub mod Goes
+pub mod GoingOn
 pub mod Handlers
 pub mod Leaving
 pub mod Meetings

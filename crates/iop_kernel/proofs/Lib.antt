@@ -1,13 +1,14 @@
-pub mod Apart
 pub mod Bodies
 pub mod Codes
-pub mod Deletions
 pub mod Histories
 pub mod Keeping
+pub mod Makers
 pub mod Order
 pub mod Overdue
+pub mod KeptPlaces
 pub mod Placing
 pub mod Readings
 pub mod Switching
+pub mod WaitsBegin
 pub mod WaitsEnd
 pub mod Walk

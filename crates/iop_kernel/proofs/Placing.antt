@@ -1,5 +1,4 @@
 pub mod Basics
-pub mod KeptPriorities
 pub mod Kinds
 pub mod Live
 pub mod Moves

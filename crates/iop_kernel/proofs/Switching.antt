@@ -1,12 +1,10 @@
 -- None but a dispatch lets a thread run that did not, or tells that one was taken to run.
-use Rattle.std.proofs.Common.{◌≡◌, ℕ, Bool, true, false, cond, Option, Some, None, Result, List, [], ◌∷◌, ◌++◌, length, map, refl, ap, sym, ◌∙◌, subst}
+use Rattle.std.proofs.Common.{◌≡◌, ℕ, Bool, true, false, cond, Option, Some, None, Result, List, [], ◌∷◌, length, refl, ap, sym, ◌∙◌, subst}
 use Rattle.std.specs.Prelude.{⊤, All}
-use Rattle.std.proofs.lemmas.List.Elements.{All-nil, All-cons, All-append, All-map, All-from_recursion}
+use Rattle.std.proofs.lemmas.List.Elements.{All-nil, All-cons, All-append, All-map}
 use Rattle.iop_base.specs.Piece.{Piece}
-use Rattle.iop_base.specs.Text.{line_bytes}
 use Rattle.iop_base.specs.declared.code.Code.{Code}
 use Rattle.iop_base.specs.declared.code.TheConstants.Code.{OK, OBJECT_DELETED, WAIT_RELEASED}
-use Rattle.iop_base.specs.declared.line.Line.{Line}
 use Rattle.iop_base.specs.declared.line.Line.TheVariants as lines
 use Rattle.iop_exec.specs.Row.{reg}
 use Rattle.iop_stubs.specs.Stubs.{Memory, met_stubs, stub_lines, store_lines}
@@ -20,12 +18,10 @@ use Rattle.iop_thread.proofs.Placed.{keeps_places}
 use Rattle.iop_thread.proofs.Waits.{moves_waits}
 use Rattle.iop_kernel.specs.Deliveries.{Delivered, delivers}
 use Rattle.iop_kernel.specs.ObjectServices.{threads_in_order}
-use Rattle.iop_kernel.specs.Serving.{services}
-use Rattle.iop_kernel.specs.SwitchLaws.{is_run, IsNoRun, text, line, SwitchesNone, DispatchesAloneSwitch}
+use Rattle.iop_kernel.specs.SwitchLaws.{IsNoRun, text, line, SwitchesNone, DispatchesAloneSwitch}
 use Rattle.iop_kernel.specs.System.{Kernel, Core, System, running_registers, with_threads, opened, answered, code_word}
 use Rattle.iop_kernel.specs.ThreadStarts.{ended}
 use Rattle.iop_kernel.specs.Waits.{core_leaves, core_requeues, wakes_all, wakes_with}
-use Rattle.iop_kernel.specs.declared.active_handler.ActiveHandler.{ActiveHandler}
 use Rattle.iop_kernel.specs.declared.after.After.{After}
 use Rattle.iop_kernel.proofs.Keeping.Goes.{woken_running}
 use Rattle.iop_kernel.proofs.Keeping.Handlers.{gives_to}
@@ -145,7 +141,8 @@ module _ (s : System) (placed : IsPlaced s.core.kernel.threads) where
             (stubs_run_none d.core.kernel.clock place (length bytes) d.memory.live);
       };
       goes_on = λ d given word h. h;
-      faults = λ kind. nothing;
+      bad_place = nothing;
+      no_thread = λ asked none. nothing;
       prints = λ bytes. still _ (one_runs_none (text bytes));
     };
     registry = λ own. record { registers = λ libraries. nothing };
@@ -162,12 +159,12 @@ module _ (s : System) (placed : IsPlaced s.core.kernel.threads) where
       deletes = λ id stack left is. made (threads.deletes table id) _ left is
           (on _ ((moves_waits table placed).deletes id).running);
       starts = λ id argument. on _ ((moves_waits table placed).starts id argument).running;
-      ends = λ id is other. off _ (moves_waits table placed).ends_running.running;
-      ends_deleted = λ id stack left is other did.
+      ends = λ id is other leave. off _ (moves_waits table placed).ends_running.running;
+      ends_deleted = λ id stack left is other did leave.
           off left (ap (λ (r : Result ℕ Code × ThreadTable). r.1.running) (sym did)
           ∙ ((moves_waits (ended now).kernel.threads ended_placed).deletes id).running
           ∙ (moves_waits table placed).ends_running.running);
-      returns = λ id word is loader. nothing;
+      returns = λ id word is loader leave. nothing;
       terminates = λ id wait left other is rests. leaving (with_threads now left) id wait
           (made (threads.terminates table id) _ left is
           (some_runs table _ (is_it table.running id)
@@ -182,19 +179,19 @@ module _ (s : System) (placed : IsPlaced s.core.kernel.threads) where
           (on _ ((moves_waits table placed).changes id priority).running));
       rotates = λ priority other. rotated priority;
       rotates_beside = λ priority own may is. rotated priority;
-      rotates_own = λ priority id own may is. rotated priority;
+      rotates_own = λ priority id own may is leave. rotated priority;
       releases = λ id t wait found is.
           leaving (wakes_with now t.id WAIT_RELEASED) t.id (Some wait)
           (on _ ((moves_waits table placed).wakes t.id (code_word WAIT_RELEASED)).running);
       takes_wakeup = λ left is. made (threads.takes_wakeup table) _ left is
           (on _ (moves_waits table placed).takes_wakeup.running);
-      sleeps = λ left is may asks. waiting _;
+      sleeps = λ left is may asks leave. waiting _;
       wakes_up = λ id other. on _ ((moves_waits table placed).wakes_up id).running;
       cancels = λ id. on _ ((moves_waits table placed).cancels id).running;
       suspends = λ id other may. some_runs table _ (is_it table.running id)
           ((moves_waits table placed).suspends id (running_registers now)).running;
       resumes = λ id other. on _ ((moves_waits table placed).resumes id).running;
-      delays = λ moment thread is may. waiting _;
+      delays = λ moment thread is may leave. waiting _;
     };
     objects = λ kind own. record {
       makes = λ x legal. nothing;
@@ -202,7 +199,7 @@ module _ (s : System) (placed : IsPlaced s.core.kernel.threads) where
       changes = λ id x y known how. nothing;
       wakes = λ id x one known chosen.
           on _ ((moves_waits table placed).wakes one.one.item.thread (code_word OK)).running;
-      waits = λ id thread x wants is may known must. waiting _;
+      waits = λ id thread x wants is may known must place leave. waiting _;
     };
     sets = λ own bits o found. woken (threads_met (met_of o bits)) (code_word OK);
   }
@@ -211,6 +208,7 @@ module _ (s : System) (placed : IsPlaced s.core.kernel.threads) where
   switch_calls = record {
     unlisted = λ library number.
         still _ (one_runs_none (line now.kernel.clock (lines.Unlisted library number) refl));
+    no_service = nothing;
     handler = λ handler is. on _
         (ap (λ (k : Kernel). k.threads.running)
         (gives_to now.kernel handler.cause (reg now.cpu 2)).is);

@@ -1,2 +1,3 @@
+pub mod Deletions
 pub mod Services
 pub mod Waiters

@@ -1,11 +1,10 @@
-pub mod Aside
 pub mod Callers
 pub mod Changes
 pub mod EventFlags
 pub mod Interrupts
 pub mod Libraries
+pub mod Looks
 pub mod Mailboxes
-pub mod Listed
 pub mod Moves
 pub mod Objects
 pub mod Semaphores

@@ -1,13 +1,14 @@
 -- What the law of codes says: what a `syscall` leaves as it was, by what its code calls, the
 -- returns of threads, handlers and modules among it.
-use Rattle.std.specs.Prelude.{◌≡◌, ℕ, ◌==◌, nat_le, Bool, true, false, ◌&&◌, Option, Some, None}
+use Rattle.std.specs.Prelude.{◌≡◌, ℕ, ◌==◌, nat_le, Bool, true, false, ◌&&◌, ◌||◌, Option, Some, None, map, Contains}
 use Rattle.iop_kernel.specs.Histories.{Called}
 use Rattle.iop_kernel.specs.Kinds.{library_of, table}
-use Rattle.iop_kernel.specs.Laws.{KeepsObjects, serves_kernel}
 use Rattle.iop_kernel.specs.Serving.{call_of, services}
 use Rattle.iop_kernel.specs.System.{System}
 use Rattle.iop_kernel.specs.declared.call.Call.{Call}
 use Rattle.iop_kernel.specs.declared.call.Call.TheVariants.{Library, ThreadReturn, HandlerReturn, ModuleReturn}
+use Rattle.iop_objects.specs.Objects.{Objects, state_of, waiters_of}
+use Rattle.iop_objects.specs.declared.waiter.Waiter.{Waiter}
 use Rattle.iop_services.specs.declared.codes.TheConstants.{LOADCORE, SYSMEM, INTRMAN, THBASE, THMSGBX}
 use Rattle.iop_services.specs.declared.service.Service.{Service}
 use Rattle.iop_services.specs.declared.service.Service.TheVariants.{Thsemap, Thevent, Thmsgbx}
@@ -50,12 +51,38 @@ abbrev pub calls_threads : Option Call → Bool
 calls_threads (Some (Library library number)) = serves_threads library
 calls_threads other = ends_thread other
 
--- whether something is called that may write memory
+-- whether a library is one of interrupts, or of threads and of what they wait for
+abbrev pub serves_kernel : ℕ → Bool
+serves_kernel library = nat_le INTRMAN library && nat_le library THMSGBX
+
+-- whether the libraries of interrupts, of threads and of what they wait for are called, which alone
+-- may write memory
 abbrev pub may_write : Option Call → Bool
 may_write (Some (Library library number)) = serves_kernel library
 may_write other = false
 
+-- whether these are, or something returns
+abbrev pub changes_kernel : Option Call → Bool
+changes_kernel call = may_write call || ends_thread call || ends_handler call
+
+-- the objects of a kind are those that they were: no thread begins to wait for any, and what the
+-- waiters want stays
+pub record KeepsObjects {A W : Type 0} (old new : Objects A W) : Type 0 where
+  pub states : (id : ℕ) → state_of new id ≡ state_of old id
+  -- each as a whole, but for the priority by which it is queued
+  pub waiters : (id : ℕ) (w : Waiter W) → Contains (map (λ x. x.item) (waiters_of new id)) w
+      → Contains (map (λ x. x.item) (waiters_of old id)) w
+  -- nor is an id given
+  pub next : new.next ≡ old.next
+
 pub record CodeStaysApart (s : System) (call : Option Call) (left : System) : Type 0 where
+  -- the other libraries leave the kernel as it was, and intrman all but its own
+  pub kernel : changes_kernel call ≡ false → left.core.kernel ≡ s.core.kernel
+  pub intrman : calls_into INTRMAN call ≡ true → left.core.kernel
+      ≡ record s.core.kernel {
+        interrupts = left.core.kernel.interrupts;
+        irqs = left.core.kernel.irqs;
+      }
   -- what is known of an object changes by its own library alone, and none is made or deleted, nor
   -- does a thread begin to wait for one
   pub objects : (kind : Kind) → calls_into (library_of kind) call ≡ false

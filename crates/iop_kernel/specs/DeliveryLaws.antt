@@ -14,7 +14,7 @@ use Rattle.iop_time.specs.declared.alarm.Alarm.{Alarm}
 use Rattle.iop_time.specs.declared.delay.Delay.{Delay}
 use Rattle.iop_time.specs.declared.due.Due.TheVariants as due
 use Rattle.iop_kernel.specs.Deliveries.{Delivered, may_deliver, delivers, next_look}
-use Rattle.iop_kernel.specs.Handlers.{alarm_handler, handler_registers, handler_for}
+use Rattle.iop_kernel.specs.Handlers.{handler_registers, handler_for}
 use Rattle.iop_kernel.specs.Laws.{IsCore}
 use Rattle.iop_kernel.specs.Overdue.{NoMomentHasCome}
 use Rattle.iop_kernel.specs.System.{Kernel, Core}
@@ -49,7 +49,7 @@ pub record DeliversAlarm (c : Core) (d : Delivered) (alarm : Alarm) : Type 0 whe
   pub next : IsNext c.kernel.timers c.kernel.clock alarm.moment alarm.number
   pub taken : IsTaken c.kernel.timers d.core.kernel.timers (due.Alarm alarm)
   pub begins : Begins c d (causes.Alarm alarm.number)
-      (alarm_handler alarm)
+      (record { address = alarm.handler; arg = alarm.arg; gp = alarm.gp })
   pub told : d.line ≡ Traced (line_bytes c.kernel.clock (lines.Alarm alarm.number))
 
 -- a delay is delivered, before which nothing comes: it is gone, and its thread is woken with 0

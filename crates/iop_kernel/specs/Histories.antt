@@ -44,26 +44,24 @@ has_waiter c (Thmsgbx SendMbx) =
     not (length (waiters_of c.kernel.mailboxes (argument c 0)) == 0)
 has_waiter c other = false
 
--- the word that stands at a place, if there is one
-abbrev pub word_or : Memory → Option ℕ → (otherwise : ℕ) → ℕ
-word_or memory None otherwise = otherwise
-word_or memory (Some place) otherwise = number_at memory.ram place 4
+-- the word that stands at a place; 0 where there is none
+abbrev pub word_at : Memory → Option ℕ → ℕ
+word_at memory None = 0
+word_at memory (Some place) = number_at memory.ram place 4
 
--- the word that stands then at the place of the thread that is woken; what was sent, if a thread
--- waited with no place in RAM: none does, since to wait with such a place faults
-abbrev pub word_handed : (before after : Memory) → (sent : ℕ) → Option (Waiter ℕ) → ℕ
-word_handed before after sent None = 0
-word_handed before after sent (Some waiter) =
-    word_or after (words_place before waiter.wants 1) (wrapped sent)
+-- the word that stands then at the place of the thread that is woken
+abbrev pub word_handed : (before after : Memory) → Option (Waiter ℕ) → ℕ
+word_handed before after None = 0
+word_handed before after (Some waiter) = word_at after (words_place before waiter.wants 1)
 
 -- the message that memory has after a call that succeeded
 abbrev pub received_by : Core → (before after : Memory) → Service → ℕ
 received_by c before after (Thmsgbx SendMbx) =
-    word_handed before after (argument c 1) (takes_waiter c.kernel.mailboxes (argument c 0)).0
+    word_handed before after (takes_waiter c.kernel.mailboxes (argument c 0)).0
 received_by c before after (Thmsgbx ReceiveMbx) =
-    word_or after (words_place before (argument c 0) 1) 0
+    word_at after (words_place before (argument c 0) 1)
 received_by c before after (Thmsgbx PollMbx) =
-    word_or after (words_place before (argument c 0) 1) 0
+    word_at after (words_place before (argument c 0) 1)
 received_by c before after other = 0
 
 abbrev pub answer_of : After → Core → Option ℕ

@@ -1,6 +1,6 @@
 -- What the laws of the kernel say: what holds of it at all times, and what its services,
 -- deliveries and dispatch leave as it was.
-use Rattle.std.specs.Prelude.{◌≡◌, ◌≢◌, ℕ, ◌+◌, ◌<◌, ◌≤◌, nat_le, ◌&&◌, Bool, true, false, Some, None, IfSome, List, [], ◌∷◌, ◌++◌, length, map, All, Contains}
+use Rattle.std.specs.Prelude.{◌≡◌, ℕ, ◌+◌, ◌≤◌, true, Some, None, IfSome, List, [], ◌∷◌, ◌++◌, length, All, Contains}
 use Rattle.iop_base.specs.Piece.{Piece, Traced}
 use Rattle.iop_base.specs.Text.{line_bytes}
 use Rattle.iop_base.specs.declared.guest_fault.GuestFault.{GuestFault}
@@ -9,25 +9,19 @@ use Rattle.iop_base.specs.declared.line.Line.TheVariants.{Run}
 use Rattle.iop_exec.specs.Laws.{IsSteady}
 use Rattle.iop_kernel.specs.Callers.{HasLeft, HasAnswer}
 use Rattle.iop_kernel.specs.Dispatching.{Dispatched, dispatches}
-use Rattle.iop_kernel.specs.Kinds.{library_of, table}
 use Rattle.iop_kernel.specs.Overdue.{NoneOverdue}
 use Rattle.iop_kernel.specs.Placing.{IsPlaced}
 use Rattle.iop_kernel.specs.Serving.{services, calls_library}
 use Rattle.iop_kernel.specs.System.{Kernel, Core, System, Served, is_active, may_dispatch, caller, opened}
+use Rattle.iop_kernel.specs.WaiterPlaces.{HavePlaces}
 use Rattle.iop_kernel.specs.declared.active_handler.ActiveHandler.{ActiveHandler}
 use Rattle.iop_kernel.specs.declared.after.After.{After}
 use Rattle.iop_kernel.specs.declared.after.After.TheVariants.{Resume, Switch, ModuleReturned, Fault}
-use Rattle.iop_objects.specs.Objects.{Objects, state_of, waiters_of}
-use Rattle.iop_objects.specs.declared.waiter.Waiter.{Waiter}
-use Rattle.iop_registry.specs.declared.registry.Entry.{Entry}
-use Rattle.iop_services.specs.declared.codes.TheConstants.{INTRMAN, THBASE, THMSGBX}
 use Rattle.iop_stubs.specs.Stubs.{Memory, after_store, store_lines}
 use Rattle.iop_sysmem.specs.BlockMap.{BlockMap, AreBlocks}
-use Rattle.iop_thread.specs.Laws.{AreSteady, IsBest, IsSettled}
-use Rattle.iop_thread.specs.ThreadTable.{priority_of}
-use Rattle.iop_thread.specs.declared.kind.Kind.{Kind}
+use Rattle.iop_thread.specs.Laws.{AreSteady, IsDispatched, IsSettled}
+use Rattle.iop_thread.specs.Operations.{Dispatch}
 use Rattle.iop_thread.specs.declared.thread.TheConstants.{LOADER}
-use Rattle.iop_thread.specs.declared.thread.Thread.{Thread}
 
 -- where no thread runs, another may: at once, or once the handler that runs has returned
 pub record IsAwake (k : Kernel) : Type 0 where
@@ -80,7 +74,8 @@ pub record AreKept (old new : BlockMap) : Type 0 where
 abbrev pub Follows : After → System → (id : ℕ) → System → List Piece → Type 0
 Follows Resume s id left pieces = left.core.kernel.threads.running ≡ Some id
 Follows Switch s id left pieces =
-    (left.core.kernel.threads.running ≡ None) × HasLeft left.core.kernel.threads id
+    (left.core.kernel.threads.running ≡ None)
+    × HasLeft s.core.cpu left.core.kernel.threads id
 Follows (ModuleReturned word) s id left pieces =
     (id ≡ LOADER) × (left ≡ record s { core = opened s.core }) × (pieces ≡ [])
 Follows (Fault kind) s id left pieces = (left ≡ s) × (pieces ≡ [])
@@ -119,49 +114,14 @@ pub record ServiceKeeps (s : System) (d : Served) : Type 0 where
   pub core : IsCore s.core → IsCore d.left.state.core
   pub clock : d.left.state.core.kernel.clock ≡ s.core.kernel.clock
   pub memory : Writes s d.left.state.memory d.pieces
+  -- each thread that waits has a place for what it is told
+  pub places : HavePlaces s.memory s.core.kernel
+      → HavePlaces d.left.state.memory d.left.state.core.kernel
   pub blocks : AreKept s.blocks d.left.state.blocks
 
 abbrev pub ServicesKeep : Type 0
 ServicesKeep =
     (s : System) (code : ℕ) → is_active s.core.kernel ≡ true → ServiceKeeps s (services s code)
-
--- the objects of a kind are those that they were: no thread begins to wait for any, and what the
--- waiters want stays
-pub record KeepsObjects {A W : Type 0} (old new : Objects A W) : Type 0 where
-  pub states : (id : ℕ) → state_of new id ≡ state_of old id
-  -- each as a whole, but for the priority by which it is queued
-  pub waiters : (id : ℕ) (w : Waiter W) → Contains (map (λ x. x.item) (waiters_of new id)) w
-      → Contains (map (λ x. x.item) (waiters_of old id)) w
-  -- nor is an id given
-  pub next : new.next ≡ old.next
-
--- whether a library is one of interrupts, or of threads and of what they wait for
-abbrev pub serves_kernel : ℕ → Bool
-serves_kernel library = nat_le INTRMAN library && nat_le library THMSGBX
-
--- only the services of an object's own library change what is known of it; those of intrman alone
--- change the interrupt lines, and nothing else but whether interrupts are on; those of thbase alone
--- change alarms and delays and whether dispatch is enabled, and beside intrman's alone whether
--- interrupts are on; and the services of the other libraries leave the kernel as it was
-pub record ServicesStayApart (s : System) (library : ℕ) (left : Kernel) (entries : List Entry)
-    : Type 0 where
-  pub kernel : serves_kernel library ≡ false → left ≡ s.core.kernel
-  pub intrman : library ≡ INTRMAN
-      → left ≡ record s.core.kernel { interrupts = left.interrupts; irqs = left.irqs }
-  pub irqs : library ≢ INTRMAN → left.irqs ≡ s.core.kernel.irqs
-  pub timers : library ≢ THBASE → left.timers ≡ s.core.kernel.timers
-  pub interrupts : library ≢ INTRMAN → library ≢ THBASE
-      → left.interrupts ≡ s.core.kernel.interrupts
-  pub dispatching : library ≢ THBASE → left.dispatching ≡ s.core.kernel.dispatching
-  pub handler : left.handler ≡ s.core.kernel.handler
-  pub libraries : serves_kernel library ≡ true → entries ≡ s.libraries
-  pub objects : (kind : Kind) → library ≢ library_of kind
-      → KeepsObjects (table kind s.core.kernel) (table kind left)
-
-abbrev pub LibrariesStayApart : Type 0
-LibrariesStayApart =
-    (s : System) (library number : ℕ) → let left = (calls_library library number s).left.state in
-    ServicesStayApart s library left.core.kernel left.libraries
 
 -- a call of a library that a thread or a handler makes faults at an address that is no place alone:
 -- no listed service faults since it has none
@@ -173,13 +133,12 @@ LibrariesFaultAtAddresses =
 -- a dispatch takes the first ready thread of the best priority, and tells its id; nothing else is
 -- dispatched after it
 pub record IsSwitch (c : Core) (d : Dispatched) : Type 0 where
-  pub thread : Thread
-  pub best : IsBest c.kernel.threads thread
-  pub line : d.line ≡ Traced (line_bytes c.kernel.clock (Run thread.id))
-  pub runs : d.core.kernel.threads.running ≡ Some thread.id
-  -- it is better than the one that ran
-  pub better : (r : ℕ) → c.kernel.threads.running ≡ Some r
-      → thread.priority < priority_of c.kernel.threads.live r
+  pub did : Dispatch
+  pub is : IsDispatched c.kernel.threads c.cpu did
+  -- only the threads of the kernel change, and the processor has the registers that the thread kept
+  pub left : d.core
+      ≡ record { kernel = record c.kernel { threads = did.threads }; cpu = did.registers }
+  pub line : d.line ≡ Traced (line_bytes c.kernel.clock (Run is.thread.id))
   pub settled : dispatches d.core ≡ None
 
 -- what a dispatch keeps
@@ -187,13 +146,12 @@ pub record DispatchKeeps (c : Core) (d : Dispatched) : Type 0 where
   pub core : IsCore d.core
   pub clock : d.core.kernel.clock ≡ c.kernel.clock
   pub switch : IsSwitch c d
-  -- only the threads change
-  pub kernel : d.core.kernel ≡ record c.kernel { threads = d.core.kernel.threads }
   -- and no handler runs
   pub handler : c.kernel.handler ≡ None
 
 pub record DispatchesAreStrict : Type 0 where
-  pub dispatched : (c : Core) (d : Dispatched) → IsCore c → dispatches c ≡ Some d → DispatchKeeps c d
+  pub dispatched : (c : Core) (d : Dispatched) → IsCore c → dispatches c ≡ Some d
+      → DispatchKeeps c d
   -- where there is none, though another thread may run, none is better
   pub settled : (c : Core) → IsCore c → dispatches c ≡ None → may_dispatch c.kernel ≡ true
       → IsSettled c.kernel.threads

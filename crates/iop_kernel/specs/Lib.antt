@@ -20,9 +20,11 @@ pub mod Callers
 pub mod Laws
 pub mod DeliveryLaws
 pub mod HandlerLaws
+pub mod MakerLaws
 pub mod StatusLaws
 pub mod TimeLaws
 pub mod WordLaws
+pub mod WaitingLaws
 pub mod WakingLaws
 pub mod SwitchLaws
 pub mod CodeLaws
@@ -32,5 +34,6 @@ pub mod Mailboxes
 pub mod Placing
 pub mod Semaphores
 pub mod Waits
+pub mod WaiterPlaces
 pub mod Overdue
 pub mod Histories

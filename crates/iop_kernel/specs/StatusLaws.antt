@@ -4,16 +4,20 @@ use Rattle.std.specs.Prelude.{◌≡◌, ℕ, ◌+◌, Some, option_map, unwrap_
 use Rattle.iop_base.specs.Numbers.{number_at, wrapped}
 use Rattle.iop_mbx.specs.Mailboxes.{next_message}
 use Rattle.iop_objects.specs.Objects as objects
+use Rattle.iop_services.specs.declared.thbase_service.ThbaseService.TheVariants.{ReferThreadStatus}
+use Rattle.iop_services.specs.declared.thevent_service.TheventService.TheVariants.{ReferEventFlagStatus}
+use Rattle.iop_services.specs.declared.thmsgbx_service.ThmsgbxService.TheVariants.{ReferMbxStatus}
+use Rattle.iop_services.specs.declared.thsemap_service.ThsemapService.TheVariants.{ReferSemaStatus}
 use Rattle.iop_thread.specs.States.{state_number, wait_in, kind_number, object_of}
 use Rattle.iop_thread.specs.ThreadTable.{thread_of}
 use Rattle.iop_thread.specs.declared.thread.Thread.{Thread}
 use Rattle.iop_kernel.specs.Boards.{Board}
-use Rattle.iop_kernel.specs.EventFlags.{LiveFlag, refer_event_flag_status}
-use Rattle.iop_kernel.specs.Mailboxes.{LiveMailbox, refer_mbx_status}
+use Rattle.iop_kernel.specs.EventFlags.{LiveFlag, serves_thevent}
+use Rattle.iop_kernel.specs.Mailboxes.{LiveMailbox, serves_thmsgbx}
 use Rattle.iop_kernel.specs.NamedThreads.{named}
-use Rattle.iop_kernel.specs.Semaphores.{LiveSemaphore, refer_sema_status}
-use Rattle.iop_kernel.specs.System.{System, caller, words_place}
-use Rattle.iop_kernel.specs.ThreadStatus.{refer_thread_status}
+use Rattle.iop_kernel.specs.Semaphores.{LiveSemaphore, serves_thsemap}
+use Rattle.iop_kernel.specs.System.{System, argument, caller, words_place}
+use Rattle.iop_kernel.specs.Thbase.{serves_thbase}
 use Rattle.iop_kernel.specs.declared.event_flags.TheConstants.{FLAG_STATUS_WORDS}
 use Rattle.iop_kernel.specs.declared.mailboxes.TheConstants.{MAILBOX_STATUS_WORDS}
 use Rattle.iop_kernel.specs.declared.semaphores.TheConstants.{SEMAPHORE_STATUS_WORDS}
@@ -31,18 +35,20 @@ pub record HasStatus (ram : List ℕ) (place : ℕ) (t : Thread) : Type 0 where
   pub gp : number_at ram (place + 24) 4 ≡ wrapped t.gp
   pub first_priority : number_at ram (place + 28) 4 ≡ wrapped t.param.priority
   pub priority : number_at ram (place + 32) 4 ≡ wrapped t.priority
-  pub wait_kind : number_at ram (place + 36) 4 ≡ unwrap_or (option_map kind_number (wait_in t.state)) 0
+  pub wait_kind : number_at ram (place + 36) 4
+      ≡ unwrap_or (option_map kind_number (wait_in t.state)) 0
   pub wait_id : number_at ram (place + 40) 4
       ≡ wrapped (unwrap_or (option_map object_of (wait_in t.state)) 0)
   pub wakeups : number_at ram (place + 44) 4 ≡ wrapped t.wakeups
 
--- the status of the thread that is named is read where it was written
+-- the status of the thread that the first argument names is read at the second
 abbrev pub StatusIsRead : Type 0
 StatusIsRead =
-    (s : System) (id at place named_id : ℕ) (t : Thread)
-    → words_place s.memory at STATUS_WORDS ≡ Some place → named (caller s.core) id ≡ Some named_id
-    → thread_of s.core.kernel.threads.live named_id ≡ Some t
-    → HasStatus (refer_thread_status s id at).left.state.memory.ram place t
+    (s : System) (place id : ℕ) (t : Thread)
+    → words_place s.memory (argument s.core 1) STATUS_WORDS ≡ Some place
+    → named (caller s.core) (argument s.core 0) ≡ Some id
+    → thread_of s.core.kernel.threads.live id ≡ Some t
+    → HasStatus (serves_thbase s ReferThreadStatus).left.state.memory.ram place t
 
 -- the words of a semaphore's status stand at a place: with these names ReferSemaStatus of ps2sdk's
 -- thsemap.h has them
@@ -55,13 +61,13 @@ pub record HasSemaphoreStatus (ram : List ℕ) (place : ℕ) (o : LiveSemaphore)
   -- how many threads wait
   pub waiting : number_at ram (place + 20) 4 ≡ wrapped (length o.waiters)
 
--- the status of a live semaphore is read where it was written
+-- the status of the live semaphore of the first argument is read at the second
 abbrev pub SemaphoreStatusIsRead : Type 0
 SemaphoreStatusIsRead =
-    (b : Board) (id at place : ℕ) (o : LiveSemaphore)
-    → words_place b.memory at SEMAPHORE_STATUS_WORDS ≡ Some place
-    → objects.object_of b.core.kernel.semaphores.live id ≡ Some o
-    → HasSemaphoreStatus (refer_sema_status b id at).left.state.memory.ram place o
+    (b : Board) (place : ℕ) (o : LiveSemaphore)
+    → words_place b.memory (argument b.core 1) SEMAPHORE_STATUS_WORDS ≡ Some place
+    → objects.object_of b.core.kernel.semaphores.live (argument b.core 0) ≡ Some o
+    → HasSemaphoreStatus (serves_thsemap b ReferSemaStatus).left.state.memory.ram place o
 
 -- the words of an event flag's status stand at a place: with these names ReferEventFlagStatus of
 -- ps2sdk's thevent.h has them
@@ -73,13 +79,13 @@ pub record HasFlagStatus (ram : List ℕ) (place : ℕ) (o : LiveFlag) : Type 0 
   -- how many threads wait
   pub waiting : number_at ram (place + 16) 4 ≡ wrapped (length o.waiters)
 
--- the status of a live event flag is read where it was written
+-- the status of the live event flag of the first argument is read at the second
 abbrev pub FlagStatusIsRead : Type 0
 FlagStatusIsRead =
-    (b : Board) (id at place : ℕ) (o : LiveFlag)
-    → words_place b.memory at FLAG_STATUS_WORDS ≡ Some place
-    → objects.object_of b.core.kernel.event_flags.live id ≡ Some o
-    → HasFlagStatus (refer_event_flag_status b id at).left.state.memory.ram place o
+    (b : Board) (place : ℕ) (o : LiveFlag)
+    → words_place b.memory (argument b.core 1) FLAG_STATUS_WORDS ≡ Some place
+    → objects.object_of b.core.kernel.event_flags.live (argument b.core 0) ≡ Some o
+    → HasFlagStatus (serves_thevent b ReferEventFlagStatus).left.state.memory.ram place o
 
 -- the words of a mailbox's status stand at a place: with these names ReferMbxStatus of ps2sdk's
 -- thmsgbx.h has them
@@ -93,10 +99,10 @@ pub record HasMailboxStatus (ram : List ℕ) (place : ℕ) (o : LiveMailbox) : T
   pub next : number_at ram (place + 16) 4
       ≡ wrapped (unwrap_or (option_map (λ choice. choice.one.item) (next_message o.state)) 0)
 
--- the status of a live mailbox is read where it was written
+-- the status of the live mailbox of the first argument is read at the second
 abbrev pub MailboxStatusIsRead : Type 0
 MailboxStatusIsRead =
-    (b : Board) (id at place : ℕ) (o : LiveMailbox)
-    → words_place b.memory at MAILBOX_STATUS_WORDS ≡ Some place
-    → objects.object_of b.core.kernel.mailboxes.live id ≡ Some o
-    → HasMailboxStatus (refer_mbx_status b id at).left.state.memory.ram place o
+    (b : Board) (place : ℕ) (o : LiveMailbox)
+    → words_place b.memory (argument b.core 1) MAILBOX_STATUS_WORDS ≡ Some place
+    → objects.object_of b.core.kernel.mailboxes.live (argument b.core 0) ≡ Some o
+    → HasMailboxStatus (serves_thmsgbx b ReferMbxStatus).left.state.memory.ram place o

@@ -1,73 +1,39 @@
 -- What the laws of waking say: how the waits of threads end, and that all threads that waited for
 -- an object which is deleted are woken.
-use Rattle.std.specs.Prelude.{◌≡◌, ◌≢◌, ℕ, false, Some, None, option_map, Option, List, ◌∷◌, map, Contains, bit_or}
+use Rattle.std.specs.Prelude.{◌≡◌, ◌≢◌, ℕ, false, Some, None, List, ◌∷◌, map, Contains, bit_or}
 use Rattle.iop_base.specs.declared.code.TheConstants.Code.{OBJECT_DELETED, WAIT_RELEASED}
 use Rattle.iop_event.specs.WakeConditions.{settles}
-use Rattle.iop_exec.specs.declared.cpu.Cpu.{Cpu}
-use Rattle.iop_exec.specs.Row.{with_reg}
 use Rattle.iop_objects.specs.Objects.{Objects, object_of}
-use Rattle.iop_thread.specs.ThreadTable.{ThreadTable, thread_of}
+use Rattle.iop_services.specs.declared.thbase_service.ThbaseService.TheVariants.{ReleaseWaitThread, WakeupThread}
+use Rattle.iop_services.specs.declared.thevent_service.TheventService.TheVariants.{DeleteEventFlag, SetEventFlag}
+use Rattle.iop_services.specs.declared.thmsgbx_service.ThmsgbxService.TheVariants.{DeleteMbx, SendMbx}
+use Rattle.iop_services.specs.declared.thsemap_service.ThsemapService.TheVariants.{DeleteSema, SignalSema}
+use Rattle.iop_thread.specs.ThreadTable.{ThreadTable}
 use Rattle.iop_thread.specs.Waits.{wait_of}
 use Rattle.iop_thread.specs.Waking.{IsWoken, AreWoken}
 use Rattle.iop_thread.specs.declared.kind.Kind.{Kind}
 use Rattle.iop_thread.specs.declared.kind.Kind.TheVariants.{Semaphore, EventFlag, Mailbox}
-use Rattle.iop_thread.specs.declared.state.State.{State}
-use Rattle.iop_thread.specs.declared.state.State.TheVariants.{Ready, Waiting, Suspended, WaitingSuspended}
 use Rattle.iop_thread.specs.declared.wait.Wait.{Wait}
 use Rattle.iop_thread.specs.declared.wait.Wait.TheVariants.{Sleep, Delay, Object}
 use Rattle.iop_time.specs.declared.delay.Delay.{Delay as DelayOf}
 use Rattle.iop_kernel.specs.Boards.{Board}
 use Rattle.iop_kernel.specs.Deliveries.{Delivered}
 use Rattle.iop_kernel.specs.DeliveryLaws.{DeliversDelay}
-use Rattle.iop_kernel.specs.EventFlags.{delete_event_flag, set_event_flag}
+use Rattle.iop_kernel.specs.EventFlags.{serves_thevent}
 use Rattle.iop_kernel.specs.Kinds.{Live, table}
-use Rattle.iop_kernel.specs.Mailboxes.{delete_mbx, send_mbx}
+use Rattle.iop_kernel.specs.Mailboxes.{serves_thmsgbx}
 use Rattle.iop_kernel.specs.NamedThreads.{is_nobody_else}
 use Rattle.iop_kernel.specs.ObjectServices.{threads_in_order}
 use Rattle.iop_kernel.specs.Placing.{IsPlaced}
-use Rattle.iop_kernel.specs.Semaphores.{delete_sema, signal_sema}
-use Rattle.iop_kernel.specs.System.{Core, Left, code_word}
-use Rattle.iop_kernel.specs.ThreadWaits.{release_wait, wakeup_thread}
-
--- the state of the live thread of an id
-abbrev pub state_in : ThreadTable → ℕ → Option State
-state_in s id = option_map (λ t. t.state) (thread_of s.live id)
-
--- the registers with the word of OBJECT_DELETED in `$v0`
-abbrev pub told_deleted : Cpu → Cpu
-told_deleted own = with_reg own 2 (code_word OBJECT_DELETED)
-
--- an object, for which threads wait so, is deleted: what becomes of all threads
-pub record WakesAll {A W : Type 0} (id : ℕ) (wait : Wait) (old left : ThreadTable)
-    (s : Objects A W) : Type 0 where
-  -- each that waited for it is ready, and is told
-  pub ready : (thread : ℕ) (own : Cpu) → state_in old thread ≡ Some (Waiting wait own)
-      → state_in left thread ≡ Some (Ready (told_deleted own))
-  -- where it was suspended too, it is suspended alone, and is told
-  pub suspended : (thread : ℕ) (own : Cpu)
-      → state_in old thread ≡ Some (WaitingSuspended wait own)
-      → state_in left thread ≡ Some (Suspended (told_deleted own))
-  -- each other is in the state in which it was
-  pub others : (thread : ℕ) → wait_of old thread ≢ Some wait
-      → state_in left thread ≡ state_in old thread
-  -- none waits for it any more
-  pub none : (thread : ℕ) → wait_of left thread ≢ Some wait
-  -- it is no longer live
-  pub gone : object_of s.live id ≡ None
+use Rattle.iop_kernel.specs.Semaphores.{serves_thsemap}
+use Rattle.iop_kernel.specs.System.{System, Core, Done, argument, code_word}
+use Rattle.iop_kernel.specs.Thbase.{serves_thbase}
 
 -- the service that deletes an object of a kind
-abbrev pub deletes_of : Kind → Core → (id : ℕ) → Left Core
-deletes_of Semaphore c id = delete_sema c id
-deletes_of EventFlag c id = delete_event_flag c id
-deletes_of Mailbox c id = delete_mbx c id
-
--- so it is where a live object of any kind is deleted
-abbrev pub DeletionsWakeAll : Type 0
-DeletionsWakeAll =
-    (kind : Kind) (c : Core) (id : ℕ) (o : Live kind) → IsPlaced c.kernel
-    → object_of (table kind c.kernel).live id ≡ Some o
-    → let left = (deletes_of kind c id).state.kernel in
-    WakesAll id (Object kind id) c.kernel.threads left.threads (table kind left)
+abbrev pub deletes_of : Kind → Board → Done Board
+deletes_of Semaphore b = serves_thsemap b DeleteSema
+deletes_of EventFlag b = serves_thevent b DeleteEventFlag
+deletes_of Mailbox b = serves_thmsgbx b DeleteMbx
 
 -- a thread that waited so is woken with an answer
 pub record WakesOne (thread : ℕ) (wait : Wait) (answer : ℕ) (old left : ThreadTable) : Type 0 where
@@ -80,41 +46,63 @@ pub record WakesEach (threads : List ℕ) (wait : Wait) (answer : ℕ) (old left
   pub waited : (thread : ℕ) → Contains threads thread → wait_of old thread ≡ Some wait
   pub woken : AreWoken old left threads answer
 
--- in which ways the waits of threads end
+-- an object is deleted for which these threads wait
+pub record WakesAll {A W : Type 0} (id : ℕ) (threads : List ℕ) (wait : Wait)
+    (old left : ThreadTable) (s : Objects A W) : Type 0 where
+  -- they are woken with OBJECT_DELETED, one after the other
+  pub each : WakesEach threads wait (code_word OBJECT_DELETED) old left
+  -- each thread that waited for it is one of them
+  pub all : (thread : ℕ) → wait_of old thread ≡ Some wait → Contains threads thread
+  -- none waits for it any more, and it is no longer live
+  pub none : (thread : ℕ) → wait_of left thread ≢ Some wait
+  pub gone : object_of s.live id ≡ None
+
+-- so it is where a live object of any kind is deleted, whose id is the first argument: in the order
+-- in which they would be chosen
+abbrev pub DeletionsWakeAll : Type 0
+DeletionsWakeAll =
+    (kind : Kind) (b : Board) (o : Live kind) → let k = b.core.kernel in
+    let id = argument b.core 0 in
+    IsPlaced k → object_of (table kind k).live id ≡ Some o
+    → let left = (deletes_of kind b).left.state.core.kernel in
+    WakesAll id (threads_in_order kind o) (Object kind id) k.threads left.threads (table kind left)
+
+-- in which other ways the waits of threads end. The first argument is the id of the object or of
+-- the thread
 pub record WaitsEndSo : Type 0 where
-  -- a signal wakes the first in order of those that wait, with 0
-  pub signals : (c : Core) (id : ℕ) (o : Live Semaphore) (thread : ℕ) (rest : List ℕ)
-      → IsPlaced c.kernel → object_of c.kernel.semaphores.live id ≡ Some o
+  -- SignalSema wakes the first in order of those that wait, with 0
+  pub signals : (b : Board) (o : Live Semaphore) (thread : ℕ) (rest : List ℕ)
+      → let k = b.core.kernel in let id = argument b.core 0 in
+      IsPlaced k → object_of k.semaphores.live id ≡ Some o
       → threads_in_order Semaphore o ≡ thread ∷ rest
-      → WakesOne thread (Object Semaphore id) 0 c.kernel.threads
-      (signal_sema c id).state.kernel.threads
-  -- so does a message that is sent
-  pub sends : (b : Board) (id message : ℕ) (o : Live Mailbox) (thread : ℕ) (rest : List ℕ)
-      → IsPlaced b.core.kernel → object_of b.core.kernel.mailboxes.live id ≡ Some o
+      → WakesOne thread (Object Semaphore id) 0 k.threads
+      (serves_thsemap b SignalSema).left.state.core.kernel.threads
+  -- so does SendMbx
+  pub sends : (b : Board) (o : Live Mailbox) (thread : ℕ) (rest : List ℕ)
+      → let k = b.core.kernel in let id = argument b.core 0 in
+      IsPlaced k → object_of k.mailboxes.live id ≡ Some o
       → threads_in_order Mailbox o ≡ thread ∷ rest
-      → WakesOne thread (Object Mailbox id) 0 b.core.kernel.threads
-      (send_mbx b id message).left.state.core.kernel.threads
-  -- bits that are set wake all whose conditions they meet, in the order of their arrival, with 0
-  pub sets : (b : Board) (id bits : ℕ) (o : Live EventFlag) → IsPlaced b.core.kernel
-      → object_of b.core.kernel.event_flags.live id ≡ Some o
+      → WakesOne thread (Object Mailbox id) 0 k.threads
+      (serves_thmsgbx b SendMbx).left.state.core.kernel.threads
+  -- SetEventFlag sets the bits of its second argument: it wakes all whose conditions they meet, in
+  -- the order of their arrival, with 0
+  pub sets : (b : Board) (o : Live EventFlag) → let k = b.core.kernel in
+      let id = argument b.core 0 in let bits = argument b.core 1 in
+      IsPlaced k → object_of k.event_flags.live id ≡ Some o
       → WakesEach (map (λ one. one.thread) (settles (bit_or o.state.pattern bits) o.waiters).met)
-      (Object EventFlag id) 0 b.core.kernel.threads
-      (set_event_flag b id bits).left.state.core.kernel.threads
-  -- a deletion wakes all, in the order in which they would be chosen, with OBJECT_DELETED
-  pub deletes : (kind : Kind) (c : Core) (id : ℕ) (o : Live kind) → IsPlaced c.kernel
-      → object_of (table kind c.kernel).live id ≡ Some o
-      → WakesEach (threads_in_order kind o) (Object kind id) (code_word OBJECT_DELETED)
-      c.kernel.threads (deletes_of kind c id).state.kernel.threads
-  -- a thread is released from any wait, with WAIT_RELEASED
-  pub releases : (c : Core) (id : ℕ) (wait : Wait) → is_nobody_else c id ≡ false
-      → wait_of c.kernel.threads id ≡ Some wait
-      → IsWoken c.kernel.threads (release_wait c id).state.kernel.threads id
+      (Object EventFlag id) 0 k.threads
+      (serves_thevent b SetEventFlag).left.state.core.kernel.threads
+  -- ReleaseWaitThread ends any wait of another thread, with WAIT_RELEASED
+  pub releases : (s : System) (wait : Wait) → let id = argument s.core 0 in
+      let old = s.core.kernel.threads in
+      is_nobody_else s.core id ≡ false → wait_of old id ≡ Some wait
+      → IsWoken old (serves_thbase s ReleaseWaitThread).left.state.core.kernel.threads id
       (code_word WAIT_RELEASED)
-  -- one that sleeps is woken with 0
-  pub wakes_up : (c : Core) (id : ℕ) → is_nobody_else c id ≡ false
-      → wait_of c.kernel.threads id ≡ Some Sleep
-      → IsWoken c.kernel.threads (wakeup_thread c id).state.kernel.threads id 0
-  -- and one whose delay comes due
+  -- WakeupThread wakes one that sleeps, with 0
+  pub wakes_up : (s : System) → let id = argument s.core 0 in let old = s.core.kernel.threads in
+      is_nobody_else s.core id ≡ false → wait_of old id ≡ Some Sleep
+      → IsWoken old (serves_thbase s WakeupThread).left.state.core.kernel.threads id 0
+  -- a delay that comes due wakes its thread, with 0
   pub delays : (c : Core) (d : Delivered) (delay : DelayOf) → IsPlaced c.kernel
       → Contains c.kernel.timers.delays delay → DeliversDelay c d delay
       → WakesOne delay.thread Delay 0 c.kernel.threads d.core.kernel.threads

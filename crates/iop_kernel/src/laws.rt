@@ -1,13 +1,16 @@
 //! Facts about the definitions that no call computes. Each is the contract of a function that does
 //! nothing.
 
+ghost use Rattle.iop_kernel.specs.Callers.{CallersGoOn};
 ghost use Rattle.iop_kernel.specs.CodeLaws.{CodesStayApart};
 ghost use Rattle.iop_kernel.specs.DeliveryLaws.{DeliveriesAreInOrder};
 ghost use Rattle.iop_kernel.specs.HandlerLaws.{HandlersBeginWith, ResultsAreGiven};
-ghost use Rattle.iop_kernel.specs.Laws.{ServicesKeep, LibrariesStayApart, LibrariesFaultAtAddresses, DispatchesAreStrict};
+ghost use Rattle.iop_kernel.specs.Laws.{ServicesKeep, LibrariesFaultAtAddresses, DispatchesAreStrict};
+ghost use Rattle.iop_kernel.specs.MakerLaws.{MadeAsGiven};
 ghost use Rattle.iop_kernel.specs.StatusLaws.{StatusIsRead, SemaphoreStatusIsRead, FlagStatusIsRead, MailboxStatusIsRead};
 ghost use Rattle.iop_kernel.specs.SwitchLaws.{DispatchesAloneSwitch};
 ghost use Rattle.iop_kernel.specs.TimeLaws.{SystemTimeIsRead, TicksAreRead, SecondsAreRead};
+ghost use Rattle.iop_kernel.specs.WaitingLaws.{WaitsBeginSo, WaitsBeginWhere};
 ghost use Rattle.iop_kernel.specs.WakingLaws.{DeletionsWakeAll, WaitsEndSo};
 ghost use Rattle.iop_kernel.specs.WordLaws.{WordsAreRead};
 
@@ -22,21 +25,15 @@ pub fn services_keep()
     ensures { ServicesKeep }
 {}
 
-/// The services of interrupts, of threads and of what they wait for alone change the kernel, and
-/// they leave the libraries as they were; those of an object's own library alone change what is
-/// known of it, those of intrman alone the interrupt lines, those of thbase alone alarms, delays
-/// and whether dispatch is enabled, and those two alone whether interrupts are on. None begins or
-/// ends a handler.
-pub fn libraries_stay_apart()
-    ensures { LibrariesStayApart }
-{}
-
 /// Whatever a `syscall` calls, the return of a thread, a handler or a module among it: what is
 /// known of an object changes by the services of its own library alone, interrupt lines by
 /// intrman's, alarms and delays by thbase's, both also by a handler's return; threads by those of
-/// threads and of what they wait for, and by the return of a thread or a module; libraries by
-/// loadcore's, blocks by sysmem's and thbase's. Services of loadcore, sysmem and stdio, and
-/// returns, write nothing.
+/// threads and of what they wait for, and by the return of a thread or a module. No service begins
+/// or ends a handler. Whether interrupts are on changes by the services of intrman and thbase and
+/// by returns, whether dispatch is enabled by those of thbase and by the return of a thread or a
+/// module; libraries by loadcore's, blocks by sysmem's and thbase's. Services of loadcore, sysmem
+/// and stdio write nothing and leave the kernel as it was; those of intrman change nothing of it
+/// but whether interrupts are on, and their lines; returns write nothing, and time does not pass.
 pub fn codes_stay_apart()
     ensures { CodesStayApart }
 {}
@@ -45,6 +42,14 @@ pub fn codes_stay_apart()
 /// waits or ends its caller is listed for threads, and a number that is not listed answers.
 pub fn libraries_fault_at_addresses()
     ensures { LibrariesFaultAtAddresses }
+{}
+
+/// Whatever the code of a `syscall`, who calls goes on, or the `syscall` faults, but for the return
+/// of a thread or a module while no handler runs, that of a handler while one does, and eight
+/// services where their rows allow them: two end a thread, one gives way to others of a priority,
+/// and five wait.
+pub fn callers_go_on()
+    ensures { CallersGoOn }
 {}
 
 /// Each delivery is one of the lowest line that can be delivered, else of the alarm or the delay
@@ -60,6 +65,15 @@ pub fn deliveries_are_in_order()
 /// all other registers.
 pub fn handlers_begin_with()
     ensures { HandlersBeginWith }
+{}
+
+/// RegisterIntrHandler registers for its line the handler and its argument, and SetAlarm sets an
+/// alarm after the ticks that its two words say, with its handler and argument; both have the `$gp`
+/// of who called. CreateThread makes a thread with that `$gp` as its five words ask, wherever they
+/// can be met, and no other comes by it. CreateSema, CreateEventFlag and CreateMbx make an object
+/// of what their words say, each in its place.
+pub fn made_as_given()
+    ensures { MadeAsGiven }
 {}
 
 /// A handler that returns 0 disables its line, or removes its alarm. One that returns another word
@@ -124,25 +138,41 @@ pub fn seconds_are_read()
 /// The pattern that WaitEventFlag and PollEventFlag write where they answer 0, those that
 /// SetEventFlag writes for the threads that it wakes, the number of its line that DisableIntr
 /// writes, and the word of CpuSuspendIntr, 1 where interrupts were on, are read in memory at the
-/// place for each.
+/// place for each. Where WaitEventFlag and PollEventFlag answer 0 the flag is left with no bit if
+/// the mode clears it, else as it was.
 pub fn words_are_read()
     ensures { WordsAreRead }
 {}
 
-/// Where a live semaphore, event flag or mailbox is deleted, each thread that waited for it is
-/// ready, or suspended where it was suspended too, with `OBJECT_DELETED` in `$v0`. Each other
-/// thread is in the state in which it was, none waits for the object any more, and it is no longer
-/// live.
+/// Where DeleteSema, DeleteEventFlag or DeleteMbx deletes a live object, all threads that wait for
+/// it are woken with `OBJECT_DELETED`, in the order in which they would be chosen. None waits for
+/// it any more, and it is no longer live.
 pub fn deletions_wake_all()
     ensures { DeletionsWakeAll }
 {}
 
-/// How the waits of threads end: a signal and a message wake the first in order of those that wait,
-/// bits that are set wake all whose conditions they meet, in their order, a wakeup wakes one that
-/// sleeps, and a delay that comes due its thread, each with 0; a deletion wakes all with
-/// `OBJECT_DELETED`, and a release one with `WAIT_RELEASED`. A thread that is woken is ready behind
-/// all others, or suspended alone, with the answer in `$v0`; nothing else of it and of all other
-/// threads changes.
+/// How the waits of threads begin, where a call does not go on: SleepThread, DelayThread, WaitSema,
+/// WaitEventFlag and ReceiveMbx leave their caller waiting with the registers of its call, for what
+/// the arguments name: until the moment behind its microseconds, or behind all others that wait for
+/// the object, with its priority and what it asks for. RotateThreadReadyQueue leaves it ready
+/// behind all others, with 0 in `$v0`. Nothing else of a thread changes, and none runs.
+pub fn waits_begin_so()
+    ensures { WaitsBeginSo }
+{}
+
+/// A live thread that calls waits, or gives way, where another one may run: SleepThread where it
+/// has no wakeup, DelayThread however short the delay is, RotateThreadReadyQueue for 0 and its own
+/// priority, WaitSema where the count is 0, WaitEventFlag where some bits are asked for, no other
+/// thread is in the way and the condition does not hold, and ReceiveMbx where there is no message.
+pub fn waits_begin_where()
+    ensures { WaitsBeginWhere }
+{}
+
+/// How the waits of threads end: SignalSema and SendMbx wake the first in order of those that wait,
+/// SetEventFlag all whose conditions its bits meet, in their order, WakeupThread one that sleeps,
+/// and a delay that comes due its thread, each with 0, and ReleaseWaitThread one with
+/// `WAIT_RELEASED`. A thread that is woken is ready behind all others, or suspended alone, with the
+/// answer in `$v0`; nothing else of it and of all other threads changes.
 pub fn waits_end_so()
     ensures { WaitsEndSo }
 {}

@@ -101,7 +101,7 @@ module _ {w : World} {budget k : ℕ} {m : Program} {a b : Output}
         (most_between * budget + calls_by None false first.kernel)
     settled_waits_less machine =
         waits_less (next_coming (takes_events now))
-        (coming_later now (machine_now machine).core settled.delivery idle)
+        (coming_later now (machine_now machine).sound.core settled.delivery idle)
         (machine_now machine).events waits
 
   -- or the run stops, where no instruction is left
@@ -149,7 +149,7 @@ module _ {w : World} {budget k : ℕ} {m : Program} {a b : Output}
       pub size_behind : taken.blocks.size ≡ length taken.guest.ram
       size_behind =
           sym (ap (λ (x : Iop). x.blocks.size) behind.rest)
-          ∙ (machine_now machine).whole.same_size
+          ∙ (machine_now machine).sound.whole.same_size
           ∙ ap (λ (x : Iop). length x.memory.ram) behind.rest
 
       -- and a number is left for an alarm or a delay

@@ -19,7 +19,7 @@ use Rattle.iop_machine.specs.World.{beginning}
 use Rattle.iop_machine.proofs.Area.{HoldsArea, area_holds, store_holds}
 use Rattle.iop_machine.proofs.AreaReading.{area_is_read}
 use Rattle.iop_machine.proofs.ArgumentReading.{length-argument_block, stored}
-use Rattle.iop_machine.proofs.KeepingMachine.{area_blocks, begins_holding}
+use Rattle.iop_machine.proofs.KeepingMachine.{area_blocks, begins_sound}
 use Rattle.iop_machine.proofs.Stepping.{step_as, turn_boots}
 
 -- bytes that fit the argument block
@@ -100,7 +100,7 @@ boots_hold s room has none =
 pub booting_keeps_kernel : BootingKeepsKernel
 booting_keeps_kernel = λ size modules events sized room.
     let start = beginning size modules events in
-    let holds = begins_holding size modules events sized in
+    let holds = begins_sound size modules events sized in
     subst (λ (t : Transition _). HasKernel t.state.iop.memory.ram)
     (sym (step_as start Boots (turn_boots start refl refl)))
     (area_is_read (boots_hold start.iop room holds.whole (holds.none_live refl)))

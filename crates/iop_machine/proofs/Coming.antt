@@ -179,7 +179,7 @@ pub coming_after : {s : Iop} {found : Option ℕ} (moment clock : ℕ) → IsMac
 coming_after {s} moment clock machine none idle is some same =
     let v = takes_events s in
     let later = subst (λ o. IfSome o (IsComing s)) (sym is ∙ some)
-    (coming_later s machine.core none idle) in
+    (coming_later s machine.sound.core none idle) in
     let after = later.0 in omega (arith, after, same)
 
 module _ (s : Iop) where

@@ -39,6 +39,8 @@ use Rattle.iop_machine.proofs.Storing.{LiesInside, LieInside, range_by, number_i
 pub record Stays (clock : ℕ) (old new : Memory) (blocks : BlockMap) (pieces : List Piece)
     (bound : List Stub) : Type 0 where
   pub whole : HasBlocks new blocks
+  -- memory is as long as it was
+  pub size : length new.ram ≡ length old.ram
   -- no stub is live but those that were, and those that were bound
   pub live : (stub : Stub) → Contains new.live stub → Contains old.live stub ⊎ Contains bound stub
   -- each of these is live, or has its line
@@ -58,7 +60,12 @@ only_old live stub (inr none) = absurd (omega (arith, none.1))
 pub same : (clock : ℕ) (memory : Memory) (blocks : BlockMap) (pieces : List Piece)
     → HasBlocks memory blocks → Stays clock memory memory blocks pieces []
 same clock memory blocks pieces h =
-    record { whole = h; live = λ stub x. inl x; line = λ stub x. inl (only_old memory.live stub x) }
+    record {
+      whole = h;
+      size = refl;
+      live = λ stub x. inl x;
+      line = λ stub x. inl (only_old memory.live stub x);
+    }
 
 -- a store
 stays_store : (clock : ℕ) (old : Memory) (blocks : BlockMap) (place : Option ℕ) (bytes : List ℕ)
@@ -74,6 +81,7 @@ stays_store clock old blocks (Some p) bytes inside h =
         are_blocks = h.are_blocks;
         same_size = h.same_size ∙ sym (length-after_store old (Some p) bytes inside);
       };
+      size = length-after_store old (Some p) bytes inside;
       live = λ stub x. inl (All-contains (Contains old.live) _ stub
           (All-filter (λ y. not (test y)) (Contains old.live) old.live
           (All-contains_itself old.live)) x);
@@ -138,7 +146,8 @@ module _ {clock : ℕ} {a b c : Memory} {between blocks : BlockMap} {first secon
 
   -- both keep it
   stays_then : Stays clock a c blocks (first ++ second) (new ++ newer)
-  stays_then = record { whole = h.whole; live = live_then; line = line_then }
+  stays_then =
+      record { whole = h.whole; size = h.size ∙ g.size; live = live_then; line = line_then }
 
 -- a loading or a finishing
 stays_as : {clock : ℕ} {old new : Memory} {blocks : BlockMap} {bound : List Stub}
@@ -146,6 +155,7 @@ stays_as : {clock : ℕ} {old new : Memory} {blocks : BlockMap} {bound : List St
     → Stays clock old new blocks pieces bound
 stays_as {clock} {old} {new} {blocks} {bound} {pieces} h = record {
   whole = h.whole;
+  size = h.size;
   live = λ stub x.
       All-contains (λ y. Contains old.live y ⊎ Contains bound y) new.live stub h.others x;
   line = λ stub x. elim x [
@@ -233,6 +243,7 @@ stays_written s memory blocks pieces writes h =
     let stored = stays_stored clock s.memory blocks writes.stores writes.inside h in
     subst (λ (m : Memory). Stays clock s.memory m blocks pieces []) (sym writes.left) (record {
       whole = stored.whole;
+      size = stored.size;
       live = stored.live;
       line = λ stub x. elim (stored.line stub x) [
         | inl there ↦ inl there

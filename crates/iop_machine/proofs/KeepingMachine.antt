@@ -1,22 +1,27 @@
 -- A machine stays one over its steps, which take the clock on.
 use Rattle.std.proofs.Common.{◌≡◌, ℕ, zero, suc, ◌+◌, ◌-◌, ◌^◌, ◌<◌, ◌≤◌, max, true, List, [], All, length, refl, ap, sym, ◌∙◌, subst, arith, inl, inr}
 use Rattle.std.proofs.lemmas.List.Elements.{All-nil}
-use Rattle.iop_base.proofs.Memory.{length-with_bytes}
 use Rattle.iop_base.specs.Places.{IsRamSize}
+use Rattle.iop_base.proofs.Memory.{length-with_bytes}
 use Rattle.iop_exec.specs.Row.{row}
-use Rattle.iop_kernel.proofs.Keeping.Steps.{opening_core}
 use Rattle.iop_kernel.specs.Laws.{IsCore}
+use Rattle.iop_kernel.specs.System as kernel
+use Rattle.iop_kernel.specs.WaiterPlaces.{HasPlace, HavePlaces}
+use Rattle.iop_kernel.proofs.Keeping.Steps.{opening_core}
+use Rattle.iop_kernel.proofs.KeptPlaces.{places_in}
 use Rattle.iop_modload.specs.Laws.{HasBlocks}
 use Rattle.iop_script.specs.declared.raise.Raise.{Raise}
 use Rattle.iop_stubs.specs.Binding.{IsBound}
+use Rattle.iop_stubs.specs.Stubs.{Memory}
 use Rattle.iop_stubs.specs.declared.live_stub.Stub.{Stub}
 use Rattle.iop_sysmem.specs.BlockMap.{AreBlocks, IsBlockSize, block_of, end_of}
 use Rattle.iop_sysmem.specs.declared.blocks.TheConstants.{KERNEL}
+use Rattle.iop_thread.specs.declared.kind.Kind.TheVariants.{Semaphore, EventFlag, Mailbox}
 use Rattle.iop_thread.proofs.KeptRegisters.{begun_steady}
 use Rattle.iop_machine.specs.Events.{CanCome}
 use Rattle.iop_machine.specs.Iop.{Iop, Transition, core_of}
 use Rattle.iop_machine.specs.KernelArea.{kernel_area}
-use Rattle.iop_machine.specs.Laws.{IsMachine}
+use Rattle.iop_machine.specs.Laws.{IsSoundWorld, IsMachine}
 use Rattle.iop_machine.specs.Loading.{with_kernel, loads_first, boots}
 use Rattle.iop_machine.specs.Looking.{takes_events, next_coming}
 use Rattle.iop_machine.specs.Modules.{Module}
@@ -28,6 +33,8 @@ use Rattle.iop_machine.proofs.Keeping.{Stays, Keeps, same, loads_first_keeps, st
 use Rattle.iop_machine.proofs.LoadingLands.{events_after, turn_events}
 use Rattle.iop_machine.proofs.LookingLemmas.{taken_clock}
 use Rattle.iop_machine.proofs.Moving.{step_moves}
+use Rattle.iop_machine.proofs.ObjectSteps.{step_objects}
+use Rattle.iop_machine.proofs.PlacesKept.{go_with_places}
 use Rattle.iop_machine.proofs.Stepping.{IsTurn, stopped, unbooted, delivery, dispatch, execution, waiting, turn_is}
 
 -- memory behind the kernel's area
@@ -62,30 +69,22 @@ module _ (s : Iop) (has : HasBlocks s.memory s.blocks) where
       let left = (loads_first s.modules (with_kernel s)).state in
       starts_keep left left.begun (record {
         whole = loaded.whole;
+        size = loaded.size ∙ area_size;
         live = loaded.live;
         line = loaded.line;
       })
 
--- what holds of every machine, but for its alarms, its delays and the script's events
-pub record Holds (w : World) : Type 0 where
-  pub whole : HasBlocks w.iop.memory w.iop.blocks
-  pub none_live : w.is_new ≡ true → w.iop.memory.live ≡ []
-  pub core : IsCore (core_of w.iop)
-
-pub holds_of : {w : World} → IsMachine w → Holds w
-holds_of h = record { whole = h.whole; none_live = h.none_live; core = h.core }
-
--- what a step keeps of it
+-- what a step keeps
 abbrev StaysOver : World → Transition World → Type 0
 StaysOver w t =
     Stays w.iop.kernel.clock w.iop.memory t.state.iop.memory t.state.iop.blocks t.pieces t.bound
 
 pub record StepKeeps (w : World) (t : Transition World) : Type 0 where
   pub stays : StaysOver w t
-  pub holds : Holds t.state
+  pub sound : IsSoundWorld t.state
 
 -- a turn keeps memory with its blocks
-turn_stays : (w : World) {t : Turn} → Holds w → IsTurn w t → StaysOver w (takes_turn w t)
+turn_stays : (w : World) {t : Turn} → IsSoundWorld w → IsTurn w t → StaysOver w (takes_turn w t)
 turn_stays w h (stopped stop over) = same w.iop.kernel.clock w.iop.memory w.iop.blocks [] h.whole
 turn_stays w h (unbooted over new) = boots_keep w.iop h.whole (h.none_live new)
 turn_stays w h (delivery d goes is) = same w.iop.kernel.clock w.iop.memory w.iop.blocks _ h.whole
@@ -108,16 +107,19 @@ turn_none : (w : World) (t : Turn) → (w.is_new ≡ true → w.iop.memory.live 
 turn_none w StaysTurn none = none
 turn_none w other none = λ new. absurd (cc new)
 
-pub step_keeps : (w : World) → Holds w → StepKeeps w (step w)
+pub step_keeps : (w : World) → IsSoundWorld w → StepKeeps w (step w)
 unfolding step
 step_keeps w h =
     let stays = turn_stays w h (turn_is w) in
     record {
       stays = stays;
-      holds = record {
+      sound = record {
         whole = stays.whole;
         none_live = turn_none w (turn_of w) h.none_live;
         core = (step_moves w h.core).core;
+        places = places_in w.iop.memory (step w).state.iop.memory (step w).state.iop.kernel
+            stays.size (go_with_places w.iop (step w).state.iop.kernel h.places
+            (step_objects w h.core));
       };
     }
 
@@ -130,16 +132,12 @@ turn_comes w other come = left_comes w.iop.kernel.clock w.iop.events come
 -- each step keeps a machine
 pub keeps_machine : (w : World) → IsMachine w → IsMachine (step w).state
 unfolding step
-keeps_machine w machine =
-    let holds = (step_keeps w (holds_of machine)).holds in
-    record {
-      whole = holds.whole;
-      none_live = holds.none_live;
-      core = holds.core;
-      numbers = (step_moves w machine.core).numbers machine.numbers;
-      events = subst CanCome (sym (turn_events w (turn_of w)))
-          (turn_comes w (turn_of w) machine.events);
-    }
+keeps_machine w machine = record {
+  sound = (step_keeps w machine.sound).sound;
+  numbers = (step_moves w machine.sound.core).numbers machine.numbers;
+  events = subst CanCome (sym (turn_events w (turn_of w)))
+      (turn_comes w (turn_of w) machine.events);
+}
 
 -- so do all steps
 pub steps_keep_machine : (w : World) (k : ℕ) → IsMachine w → IsMachine (steps k w).state
@@ -163,7 +161,7 @@ steps_clock w (suc k) machine =
     let v = (steps k w).state in
     let before = steps_clock w k machine in
     let now = steps_keep_machine w k machine in
-    let next = step_moves v now.core in
+    let next = step_moves v now.sound.core in
     let latest = next.latest now.events in
     record {
       rises = omega (arith, before.rises, next.rises);
@@ -195,9 +193,15 @@ pub begins_as_core : (size : ℕ) (modules : List Module) (events : List Raise)
     → IsCore (core_of (reset size modules events))
 begins_as_core size modules events = opening_core _ (begun_steady _ _ refl refl)
 
+-- at first none waits
+none_waits : (memory : Memory) → HavePlaces memory kernel.beginning
+none_waits memory Semaphore id = All-nil (λ x. HasPlace Semaphore memory x.item.wants)
+none_waits memory EventFlag id = All-nil (λ x. HasPlace EventFlag memory x.item.wants)
+none_waits memory Mailbox id = All-nil (λ x. HasPlace Mailbox memory x.item.wants)
+
 module _ (size : ℕ) (modules : List Module) (events : List Raise) (sized : IsRamSize size) where
-  pub begins_holding : Holds (beginning size modules events)
-  begins_holding = record {
+  pub begins_sound : IsSoundWorld (beginning size modules events)
+  begins_sound = record {
     whole = record {
       sound = record {
         sized = subst IsRamSize (sym (length-zeros size)) sized;
@@ -210,16 +214,10 @@ module _ (size : ℕ) (modules : List Module) (events : List Raise) (sized : IsR
     };
     none_live = λ e. refl;
     core = begins_as_core size modules events;
+    places = none_waits (reset size modules events).memory;
   }
 
   -- it begins as a machine
   pub begins_as_machine : CanCome events → IsMachine (beginning size modules events)
   begins_as_machine come =
-      let holds = begins_holding in
-      record {
-        whole = holds.whole;
-        none_live = holds.none_live;
-        core = holds.core;
-        numbers = omega arith;
-        events = come;
-      }
+      record { sound = begins_sound; numbers = omega arith; events = come }

@@ -5,19 +5,20 @@ use Rattle.iop_base.specs.Places.{IsRamSize}
 use Rattle.iop_script.specs.declared.raise.Raise.{Raise}
 use Rattle.iop_stubs.specs.declared.live_stub.Stub.{Stub}
 use Rattle.iop_machine.specs.Iop.{Transition, and_then}
-use Rattle.iop_machine.specs.Laws.{IsTold, StaysSound, RunsStaySound, RunsKeepStubs, RunsTellStubs, StubsLeaveWithTheirLine}
+use Rattle.iop_machine.specs.Laws.{IsSoundWorld, StaysSound, RunsStaySound}
 use Rattle.iop_machine.specs.Modules.{Module}
 use Rattle.iop_machine.specs.Stepping.{step, steps}
+use Rattle.iop_machine.specs.StubLaws.{IsTold, RunsKeepStubs, RunsTellStubs, StubsLeaveWithTheirLine}
 use Rattle.iop_machine.specs.World.{World, beginning}
-use Rattle.iop_machine.proofs.KeepingMachine.{Holds, holds_of, step_keeps, begins_holding}
+use Rattle.iop_machine.proofs.KeepingMachine.{step_keeps, begins_sound}
 
 pub stubs_leave_with_their_line : StubsLeaveWithTheirLine
 stubs_leave_with_their_line = λ w stub machine has.
-    (step_keeps w (holds_of machine)).stays.line stub has
+    (step_keeps w machine.sound).stays.line stub has
 
 -- what steps leave of a machine
 record Descends (w : World) (t : Transition World) : Type 0 where
-  holds : Holds t.state
+  sound : IsSoundWorld t.state
   live : (stub : Stub) → Contains t.state.iop.memory.live stub
       → Contains w.iop.memory.live stub ⊎ Contains t.bound stub
   told : (stub : Stub) → Contains w.iop.memory.live stub ⊎ Contains t.bound stub
@@ -33,7 +34,7 @@ module _ (w : World) (t : Transition World) (h : Descends w t) (stub : Stub) whe
       Contains after.state.iop.memory.live stub ⊎ IsTold stub (t.pieces ++ after.pieces)
 
   told_next : Contains t.state.iop.memory.live stub ⊎ Contains after.bound stub → IsLiveOrTold
-  told_next x = elim ((step_keeps t.state h.holds).stays.line stub x) [
+  told_next x = elim ((step_keeps t.state h.sound).stays.line stub x) [
     | inl live ↦ inl live
     | inr line ↦ inr (record {
       moment = t.state.iop.kernel.clock;
@@ -58,10 +59,10 @@ module _ (w : World) (t : Transition World) (h : Descends w t) (stub : Stub) whe
 
 next_descends : (w : World) (t : Transition World) → Descends w t → Descends w (and_then t step)
 next_descends w t h =
-    let next = step_keeps t.state h.holds in
+    let next = step_keeps t.state h.sound in
     let after = step t.state in
     record {
-      holds = next.holds;
+      sound = next.sound;
       live = λ stub x. elim (next.stays.live stub x) [
         | inl there ↦ elim (h.live stub there) [
           | inl old ↦ inl old
@@ -72,34 +73,35 @@ next_descends w t h =
       told = λ stub x. told_then w t h stub x;
     }
 
-descends : (w : World) (k : ℕ) → Holds w → Descends w (steps k w)
+descends : (w : World) (k : ℕ) → IsSoundWorld w → Descends w (steps k w)
 unfolding steps
-descends w zero holds = record {
-  holds = holds;
+descends w zero sound = record {
+  sound = sound;
   live = λ stub x. inl x;
   told = λ stub x. elim x [ inl old ↦ inl old | inr none ↦ absurd (omega (arith, none.1)) ];
 }
-descends w (suc k) holds = next_descends w (steps k w) (descends w k holds)
+descends w (suc k) sound = next_descends w (steps k w) (descends w k sound)
 
 pub runs_keep_stubs : RunsKeepStubs
-runs_keep_stubs = λ w k stub machine. (descends w k (holds_of machine)).live stub
+runs_keep_stubs = λ w k stub machine. (descends w k machine.sound).live stub
 
 pub runs_tell_stubs : RunsTellStubs
-runs_tell_stubs = λ w k stub machine. (descends w k (holds_of machine)).told stub
+runs_tell_stubs = λ w k stub machine. (descends w k machine.sound).told stub
 
 -- what holds of all states that it reaches
 reached : (size : ℕ) (modules : List Module) (events : List Raise) (k : ℕ) → IsRamSize size
     → let run = steps k (beginning size modules events) in StaysSound run.bound run.state.iop
 reached size modules events k sized =
     let h = descends (beginning size modules events) k
-    (begins_holding size modules events sized) in
+    (begins_sound size modules events sized) in
     record {
-      whole = h.holds.whole;
+      whole = h.sound.whole;
       live = λ stub x. elim (h.live stub x) [
         | inl none ↦ absurd (omega (arith, none.1))
         | inr one ↦ one
       ];
-      core = h.holds.core;
+      core = h.sound.core;
+      places = h.sound.places;
     }
 
 pub runs_stay_sound : RunsStaySound

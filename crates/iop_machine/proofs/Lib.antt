@@ -32,6 +32,8 @@ mod LoadingLemmas
 pub mod Landing
 mod Strict
 mod Switching
+mod ObjectSteps
+mod PlacesKept
 mod ObjectsLeft
 mod EventsTaken
 mod EventsRaised

@@ -209,7 +209,7 @@ turn_moves w core (dispatch d goes none is) =
     let c = core_of (takes_events w.iop) in
     let kept = dispatches_are_strict.dispatched c d (takes_core w.iop core) is in
     behind_events w.iop (at_once 0 c d.core kept.core kept.clock
-    (ap (λ (k : Kernel). k.timers.next) kept.kernel))
+    (ap (λ (x : Core). x.kernel.timers.next) kept.switch.left))
 turn_moves w core (execution goes looks) =
     let v = takes_events w.iop in
     behind_events w.iop (performs_move v (row v.memory.ram v.cpu) (takes_core w.iop core)

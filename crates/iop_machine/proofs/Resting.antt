@@ -9,7 +9,7 @@ use Rattle.iop_exec.specs.Row.{row}
 use Rattle.iop_kernel.specs.Deliveries.{Delivered, delivers, may_deliver}
 use Rattle.iop_kernel.specs.Dispatching.{Dispatched, dispatches}
 use Rattle.iop_kernel.specs.Laws.{IsCore}
-use Rattle.iop_kernel.specs.System.{Kernel, is_active}
+use Rattle.iop_kernel.specs.System.{Kernel, Core, is_active}
 use Rattle.iop_kernel.proofs.Order.First.{deliveries_are_in_order}
 use Rattle.iop_kernel.proofs.Keeping.Settled.{settled_later}
 use Rattle.iop_kernel.proofs.Order.Strict.{dispatches_are_strict}
@@ -56,13 +56,16 @@ module _ (v : Iop) (core : IsCore (core_of v)) (later : AreLater v.kernel.clock 
   rest_dispatched d is =
       let t = with_core v d.core in
       let keeps = dispatches_are_strict.dispatched (core_of v) d core is in
-      let same : left_of t.kernel ≡ left_of v.kernel = ap left_of keeps.kernel in
+      let same : left_of t.kernel ≡ left_of v.kernel =
+      ap (λ (x : Core). left_of x.kernel) keeps.switch.left in
+      let runs : d.core.kernel.threads.running ≡ Some keeps.switch.is.thread.id =
+      ap (λ (x : Core). x.kernel.threads.running) keeps.switch.left ∙ keeps.switch.is.runs in
       let left = rest_later t (subst (λ n. AreLater n v.events) (sym keeps.clock) later) in
       let new = behind_is t in
       let old = behind_is v in
       let turning = turns_dispatched (is_active v.kernel) (is_some (delivers (core_of v)))
       (is_active t.kernel) (is_some (dispatches d.core))
-      (rw keeps.switch.runs (or-true (is_some t.kernel.handler)))
+      (rw runs (or-true (is_some t.kernel.handler)))
       (ap is_some keeps.switch.settled) (is_some (delivers d.core)) in
       let before = turns_are v (is_active v.kernel) (is_some (delivers (core_of v))) true refl refl
       (ap is_some is) in
@@ -145,12 +148,12 @@ turn_rests w machine over few (unbooted _ new) =
     omega (arith, left, events, before)
 turn_rests w machine over few (delivery d goes is) =
     let v = takes_events w.iop in
-    let less = rest_delivered v (takes_core w.iop machine.core) (taken_later w.iop) d is in
+    let less = rest_delivered v (takes_core w.iop machine.sound.core) (taken_later w.iop) d is in
     let before = rest_is w false over goes.booted in
     omega (arith, less, before)
 turn_rests w machine over few (dispatch d goes none is) =
     let v = takes_events w.iop in
-    let less = rest_dispatched v (takes_core w.iop machine.core) (taken_later w.iop) d is in
+    let less = rest_dispatched v (takes_core w.iop machine.sound.core) (taken_later w.iop) d is in
     let before = rest_is w false over goes.booted in
     omega (arith, less, before)
 turn_rests w machine over few (execution goes looks) =
@@ -163,7 +166,7 @@ turn_rests w machine over few (execution goes looks) =
     omega (arith, left, same, old, before)
 turn_rests w machine over few (waiting goes looks) =
     let v = takes_events w.iop in
-    let less = rest_waits v (takes_core w.iop machine.core) (taken_later w.iop)
+    let less = rest_waits v (takes_core w.iop machine.sound.core) (taken_later w.iop)
     looks.delivery_is looks.dispatch_is looks.active_is (next_coming v) refl in
     let before = rest_is w false over goes.booted in
     omega (arith, less, before)

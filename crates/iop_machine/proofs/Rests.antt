@@ -113,7 +113,7 @@ abbrev pub HasFewDelays : Iop → Type 0
 HasFewDelays s = length s.kernel.timers.delays ≤ MOST_DELAYS
 
 pub few_delays : (w : World) → IsMachine w → HasFewDelays w.iop
-few_delays w machine = machine.core.placed.delays.kept.few_delays
+few_delays w machine = machine.sound.core.placed.delays.kept.few_delays
 
 -- so the steps are few
 pub rest_bounded : (s : Iop) → HasFewDelays s → rest (booted s) < length s.events + most_between

@@ -112,10 +112,10 @@ is_awake s machine over =
     record { delivery_is = none; dispatch_is = still; active_is = idle } in
     (next_waits s 0 over looks).step_is in
     record {
-      switches = idle_switches (core_of v) (takes_core s machine.core);
+      switches = idle_switches (core_of v) (takes_core s machine.sound.core);
       later = λ idle none moment is.
           let next = subst (λ o. IfSome o (IsComing s)) is
-          (coming_later s machine.core none (sym (taken_active s) ∙ idle)) in
+          (coming_later s machine.sound.core none (sym (taken_active s) ∙ idle)) in
           (next.0, next.1 machine.events);
       goes_on = λ idle none still moment is.
           waits idle none still ∙ ap (λ x. with_state booted (waits_by v x)) is;

@@ -1,40 +1,40 @@
 -- A live stub that a thread or a handler executes, and the instruction behind it.
-use Rattle.std.proofs.Common.{◌≡◌, ℕ, ◌+◌, ◌*◌, ◌/◌, ◌%◌, ◌^◌, ◌<◌, ◌≤◌, nat_lt, Bool, true, false, cond, ◌&&◌, ◌||◌, not, Option, Some, None, length, refl, ap, ◌∙◌, subst, arith, inl, inr}
+use Rattle.std.proofs.Common.{◌≡◌, ℕ, ◌+◌, ◌*◌, ◌/◌, ◌%◌, ◌^◌, ◌<◌, ◌≤◌, nat_lt, Bool, true, false, cond, ◌&&◌, ◌||◌, not, Some, None, length, refl, ap, ◌∙◌, subst, arith, inl, inr}
 use Rattle.std.specs.Prelude.{option_map, is_some, Contains}
 use Rattle.std.proofs.lemmas.Bool.{le-leb}
 use Rattle.std.proofs.lemmas.Bool.Decides.{nat_tests}
 use Rattle.std.proofs.lemmas.List.Elements.{All-contains}
 use Rattle.iop_base.specs.Numbers.{number_at, wrapped}
 use Rattle.iop_base.specs.Places.{IsRamSize, is_mapped, phys, load_at}
-use Rattle.iop_base.specs.declared.width.Width.TheVariants.{Word}
 use Rattle.iop_base.specs.declared.guest_fault.GuestFault.TheVariants.{BranchInSlot}
-use Rattle.iop_exec.specs.declared.cpu.Cpu.{Cpu}
+use Rattle.iop_base.specs.declared.width.Width.TheVariants.{Word}
 use Rattle.iop_exec.specs.Processors.{IsStraight}
 use Rattle.iop_exec.specs.Row.{Row, Goes, Faults, effect_of, inst_row, after_jump, at_next, row, word_row}
+use Rattle.iop_exec.specs.declared.cpu.Cpu.{Cpu}
 use Rattle.iop_exec.proofs.Rows.{row_some}
-use Rattle.iop_isa.specs.declared.instruction.Inst.TheVariants.{Addiu, J}
 use Rattle.iop_isa.specs.Instructions.{inst_of}
 use Rattle.iop_isa.specs.Table.{row_of}
 use Rattle.iop_isa.specs.Targets.{jump_target}
 use Rattle.iop_isa.specs.Words.{opcode_of, rs_of, rt_of, imm_of, target_of}
-use Rattle.iop_kernel.proofs.Keeping.Settled.{settled_later}
+use Rattle.iop_isa.specs.declared.instruction.Inst.TheVariants.{Addiu, J}
 use Rattle.iop_kernel.specs.Deliveries.{may_deliver, delivers}
 use Rattle.iop_kernel.specs.System.{Core, in_handler}
+use Rattle.iop_kernel.proofs.Keeping.Settled.{settled_later}
 use Rattle.iop_kernel.proofs.Order.Nothing.{delivers_some, none_of}
-use Rattle.iop_stubs.proofs.Storing.{number_at-live}
 use Rattle.iop_stubs.specs.Binding.{IsBound, IsSound}
 use Rattle.iop_stubs.specs.Stubs.{Memory}
 use Rattle.iop_stubs.specs.declared.live_stub.Stub.{Stub}
-use Rattle.iop_machine.specs.Laws.{StubsReachTheirFunctions, stub_row, stub_target, IsFollowed, ExecutesStub, StubsAreFollowed, behind_stub}
-use Rattle.iop_machine.specs.Iop.{Iop, Transition, silent, with_state, core_of}
+use Rattle.iop_stubs.proofs.Storing.{number_at-live}
+use Rattle.iop_machine.specs.Iop.{Iop, silent, with_state, core_of}
 use Rattle.iop_machine.specs.Looking.{takes_events}
 use Rattle.iop_machine.specs.Services.{faults_with}
 use Rattle.iop_machine.specs.Stepping.{performs, step, steps}
+use Rattle.iop_machine.specs.StubLaws.{StubsReachTheirFunctions, stub_row, stub_target, IsFollowed, ExecutesStub, StubsAreFollowed, behind_stub}
 use Rattle.iop_machine.specs.World.{World, booted, beginning}
 use Rattle.iop_machine.proofs.Landing.{runs_stay_sound}
-use Rattle.iop_machine.proofs.Stepping.{IsToExecute, executes_so, executes_booted, next_performs}
 use Rattle.iop_machine.proofs.LookingLemmas.{taken_irqs, taken_active, taken_core, dispatches_taken}
 use Rattle.iop_machine.proofs.Raising.{dispatched_with}
+use Rattle.iop_machine.proofs.Stepping.{IsToExecute, executes_so, executes_booted, next_performs}
 
 -- an option that is there only if a test passes has no other value
 pub chosen : (b : Bool) (x y : ℕ) → cond b (Some x) None ≡ Some y → x ≡ y
@@ -171,11 +171,6 @@ performs_as s r h e =
     (next_performs s 1 h.over h.looks (omega arith)).step_is
     ∙ ap (λ x. with_state booted (performs (takes_events s) x)) e
 
--- two steps are a step and another one
-two_steps : (w : World) → (steps 2 w).state ≡ (step (step w).state).state
-unfolding steps
-two_steps w = refl
-
 -- in a slot nothing may be delivered to a thread that runs, and to a handler nothing may ever
 closed_by : (interrupts handler running slot : Bool) → (handler || running) ≡ true → slot ≡ true
     → (interrupts && not handler && not (running && slot)) ≡ false
@@ -205,9 +200,6 @@ module _ (s : Iop) (stub : Stub) (h : IsToExecute s) (sound : IsSound s.memory)
           reaches s.memory stub s.cpu sound has place
           ∙ ap (λ b. cond b (Faults BranchInSlot) (Goes behind.cpu None)) out
 
-      first : (step (booted s)).state ≡ booted behind
-      first = ap (λ (t : Transition World). t.state) (performs_as s (Goes behind.cpu None) h jumps)
-
       -- the same executes in the slot, where nothing is delivered or dispatched
       goes_on : IsToExecute behind
       goes_on = record {
@@ -229,22 +221,12 @@ module _ (s : Iop) (stub : Stub) (h : IsToExecute s) (sound : IsSound s.memory)
       abbrev onward : Row
       onward = Goes (at_next behind.cpu) None
 
-      second : (step (booted behind)).state
-          ≡ (with_state booted (performs (takes_events behind) onward)).state
-      second =
-          ap (λ (t : Transition World). t.state) (performs_as behind onward goes_on
-          (second_row s.memory stub s.cpu sound has place behind.cpu (straight out) refl))
-
-      both : (steps 2 (booted s)).state
-          ≡ (with_state booted (performs (takes_events behind) onward)).state
-      both =
-          two_steps (booted s) ∙ ap (λ (w : World). (step w).state) first ∙ second
-
       followed : IsFollowed (booted s) stub
       followed = record {
-        slot = first;
-        target = ap (λ (w : World). w.iop.cpu) both;
-        memory = ap (λ (w : World). w.iop.memory) both;
+        slot = performs_as s (Goes behind.cpu None) h jumps;
+        between = (next_performs behind 1 goes_on.over goes_on.looks (omega arith)).executing_is;
+        target = performs_as behind onward goes_on
+            (second_row s.memory stub s.cpu sound has place behind.cpu (straight out) refl);
       }
 
 -- in each state that a run reaches

@@ -19,7 +19,7 @@ use Rattle.iop_kernel.specs.Dispatching.{Dispatched}
 use Rattle.iop_kernel.specs.Laws.{IsCore}
 use Rattle.iop_kernel.specs.Serving.{services}
 use Rattle.iop_kernel.specs.SwitchLaws.{IsNoRun, SwitchesNone}
-use Rattle.iop_kernel.specs.System.{Kernel, Served, is_active}
+use Rattle.iop_kernel.specs.System.{Kernel, Core, Served, is_active}
 use Rattle.iop_kernel.specs.declared.after.After.{After}
 use Rattle.iop_kernel.specs.declared.after.After.TheVariants.{Resume, Switch, ModuleReturned, Fault}
 use Rattle.iop_modload.specs.Finishing.{finishes}
@@ -178,10 +178,10 @@ turn_shows w core (dispatch d goes none is) =
     let switch = (dispatches_are_strict.dispatched c d (takes_core w.iop core) is).switch in
     inr (
       d,
-      switch.thread.id,
+      switch.is.thread.id,
       refl,
-      switch.runs,
-      switch.line ∙ ap (λ n. Traced (line_bytes n (lines.Run switch.thread.id)))
+      ap (λ (x : Core). x.kernel.threads.running) switch.left ∙ switch.is.runs,
+      switch.line ∙ ap (λ n. Traced (line_bytes n (lines.Run switch.is.thread.id)))
           (taken_clock w.iop),
     )
 turn_shows w core (execution goes looks) =

@@ -12,6 +12,7 @@ pub mod Histories
 pub mod Running
 pub mod Advancing
 pub mod Laws
+pub mod StubLaws
 pub mod EventLaws
 pub mod Standing
 pub mod ArgumentLaws

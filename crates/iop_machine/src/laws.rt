@@ -6,7 +6,8 @@ ghost use Rattle.iop_machine.specs.AreaLaws.{KernelAreaIsRead, BootingKeepsKerne
 ghost use Rattle.iop_machine.specs.EventLaws.{StepsTakeTheirEvents, EventsRaiseTheirLines, NextComingIsLeast};
 ghost use Rattle.iop_machine.specs.ObjectLaws.{StepsKeepObjects};
 ghost use Rattle.iop_machine.specs.SwitchLaws.{RunsSwitchByDispatch, RunningThreadsWereTaken};
-ghost use Rattle.iop_machine.specs.Laws.{StepsCompose, RunsCompose, RunsAreDetermined, OverStays, RunsBeginAsMachines, RunsStayMachines, RunsEnd, RunsAreComputed, StubsReachTheirFunctions, RunsStaySound, StubsLeaveWithTheirLine, RunsKeepStubs, RunsTellStubs, StubsAreFollowed, RunsAreStrict, RunsAreOnTime, RunsAreAwake, RunsKeepEvents, RunsAreCounted, RunsAreDelivered};
+ghost use Rattle.iop_machine.specs.Laws.{StepsCompose, RunsCompose, RunsAreDetermined, OverStays, RunsBeginAsMachines, RunsStayMachines, RunsEnd, RunsAreComputed, RunsStaySound, RunsAreStrict, RunsAreOnTime, RunsAreAwake, RunsKeepEvents, RunsAreCounted, RunsAreDelivered};
+ghost use Rattle.iop_machine.specs.StubLaws.{StubsReachTheirFunctions, StubsLeaveWithTheirLine, RunsKeepStubs, RunsTellStubs, StubsAreFollowed};
 
 /// The steps of a run are those of its first part, and then those of the rest.
 pub fn steps_compose()

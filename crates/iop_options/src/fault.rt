@@ -9,7 +9,7 @@ pub enum WordFault {
     /// The words are no command.
     #[error("bad words")]
     Bad,
-    /// Host memory ran out.
+    /// Stands for want of host memory.
     #[error("out of memory")]
     Memory,
 }

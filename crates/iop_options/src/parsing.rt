@@ -50,8 +50,8 @@ fn options_of(alloc: Global, matches: &ArgMatches) -> Result<Options, WordFault>
 /// - `--generate` is decimal, 1 to `MOST_WORKERS`, and then there is no module. Else there are 1 to
 ///   `MOST_MODULES` of them, each of 1 to `LONGEST_WORD` bytes.
 ///
-/// Answers `Bad` exactly where the words are no command, and `Memory` only where host memory runs
-/// out.
+/// Answers `Bad` exactly where the words are no command. Or it answers `Memory`, which stands for
+/// want of host memory.
 #[tactic(auto, unfolding(crate::specs::Commands::command_of))]
 pub fn parse_options(alloc: Global, words: &[String]) -> Result<Options, WordFault>
     ensures { Gives result (command_of (map string_bytes words.now)) }

@@ -1,7 +1,7 @@
 -- The parts of a text that is joined of them.
 use Rattle.std.proofs.Common.{◌≡◌, ℕ, suc, ◌<◌, ◌==◌, Bool, true, false, not, List, [], ◌∷◌, ◌++◌, length, take, refl, ap, sym, ◌∙◌, subst, arith}
 use Rattle.std.specs.List.{All, join_with_byte, list_all, onto_first}
-use Rattle.std.proofs.lemmas.Bool.{and_parts, eq-eqb}
+use Rattle.std.proofs.lemmas.Bool.{and_parts, eq-eqb, not-true}
 use Rattle.std.proofs.lemmas.List.Elements.{All-nil, All-cons, All-head, All-tail, All-take, All-append}
 use Rattle.std.proofs.lemmas.List.Splits.{length-slice_split, slice_split_at, slice_split_none, slice_split-cons_yes, slice_split-cons_no}
 use Rattle.iop_script.specs.Texts.{parts}
@@ -23,14 +23,10 @@ lacks_by c p other (b ∷ rest) all =
     All-cons (Differs c) b rest (other b tests.0) (lacks_by c p other rest tests.1)
 
 -- by the test itself
-not_true : (b : Bool) → not b ≡ true → b ≡ false
-not_true true is = absurd (cc)
-not_true false is = refl
-
 pub lacks_tested : (c : ℕ) (part : List ℕ) → list_all (λ b. not (b == c)) part ≡ true
     → Lacks c part
 lacks_tested c part all =
-    lacks_by c (λ b. not (b == c)) (λ b is. not_true (b == c) is) part all
+    lacks_by c (λ b. not (b == c)) (λ b is. not-true (b == c) is) part all
 
 module _ (c : ℕ) where
   -- also of parts that are joined by something else

@@ -10,7 +10,7 @@ pub enum ScriptFault {
     /// 2^32 - 1.
     #[error("line {0}")]
     Line(u32),
-    /// Host memory ran out.
+    /// Stands for want of host memory.
     #[error("out of memory")]
     Memory,
 }

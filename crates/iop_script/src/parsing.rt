@@ -52,8 +52,8 @@ fn take_line(
 ///
 /// The script is one that a machine can run.
 ///
-/// Answers `Line` exactly where a line is bad, with the number of the first such line, and `Memory`
-/// only where host memory runs out.
+/// Answers `Line` exactly where a line is bad, with the number of the first such line. Or it
+/// answers `Memory`, which stands for want of host memory.
 #[tactic(auto, using(crate::proofs::LineLemmas::lines))]
 pub fn parse(alloc: Global, bytes: &[u8]) -> Result<Script, ScriptFault>
     ensures script { Gives result (script_of bytes.now) }

@@ -1,11 +1,11 @@
 -- What changes when a thread is made, deleted, started, ended or given a priority.
-use Rattle.std.proofs.Common.{◌≡◌, ◌≢◌, ℕ, ◌+◌, Bool, true, false, not, if◌then◌else◌, is_ok, IfOk, Option, Some, None, Result, Ok, Err, [], ◌∷◌, ◌++◌, refl, ap, sym, ◌∙◌, arith}
+use Rattle.std.proofs.Common.{◌≡◌, ◌≢◌, ℕ, ◌+◌, Bool, true, false, not, if◌then◌else◌, is_ok, IfOk, option_map, Option, Some, None, Result, Ok, Err, [], ◌∷◌, ◌++◌, refl, ap, sym, ◌∙◌, arith}
 use Rattle.std.proofs.lemmas.Bool.{cond_both, ne_eqb}
 use Rattle.std.proofs.lemmas.Bool.Decides.{nat_tests}
 use Rattle.iop_base.specs.declared.code.Code.{Code}
 use Rattle.iop_base.specs.declared.code.TheConstants.Code.{OK, UNKNOWN_THREAD, DORMANT, NOT_DORMANT, NOT_SUSPENDED}
 use Rattle.iop_exec.specs.declared.cpu.Cpu.{Cpu}
-use Rattle.iop_thread.specs.Changes.{is_begun, started, ready_after, TurnsInPlace, TurnsWhere, TurnsRunning, Makes, Deletes, ChangesPriority}
+use Rattle.iop_thread.specs.Changes.{is_begun, started, part_of, ready_after, TurnsInPlace, TurnsWhere, TurnsRunning, Makes, Deletes, ChangesPriority}
 use Rattle.iop_thread.specs.Operations.{dormant_thread, creates, deletes_it, starts_it, begins_it, ends_it, terminates_it, changes_it}
 use Rattle.iop_thread.specs.Placing.{IsPlaced, is_in_state}
 use Rattle.iop_thread.specs.States.{is_dormant, is_ready, wait_in}
@@ -15,7 +15,7 @@ use Rattle.iop_thread.specs.declared.state.State.{State}
 use Rattle.iop_thread.specs.declared.state.State.TheVariants.{Dormant, Ready}
 use Rattle.iop_thread.specs.declared.thread.Thread.{Thread}
 use Rattle.iop_thread.specs.declared.wait.Wait.{Wait}
-use Rattle.iop_thread.proofs.Changing.{told, without_moved, ready_leaving, next_leaving, one_same, unturned, refuses, answers_not, told_of, turned, takes_place, answers_so, runs_on, runs_not}
+use Rattle.iop_thread.proofs.Changing.{told, ready_leaving, next_leaving, one_same, unturned, refuses, answers_not, told_of, turned, takes_place, answers_so, runs_on, runs_not}
 use Rattle.iop_thread.proofs.FindingThreads.{dormant_state, running_thread_runs, none_runs, running_id}
 use Rattle.iop_thread.proofs.LiveThreads.{changed, without_thread, thread_of_added, thread_of_id, thread_of_without, none_of_next}
 use Rattle.iop_thread.proofs.Moving.{live_leaving}
@@ -47,8 +47,8 @@ IsCodeOk code = code ≡ OK
 
 module _ (s : ThreadTable) (id : ℕ) where
   -- an operation that is done where the thread of an id is in such a state
-  abbrev pub Does : {A : Type 0} → (A → Type 0) → (State → Bool) → (Thread → Thread) → A × ThreadTable
-      → Type 0
+  abbrev pub Does : {A : Type 0} → (A → Type 0) → (State → Bool) → (Thread → Thread)
+      → A × ThreadTable → Type 0
   Does answered p change done = TurnsWhere (answered done.0) s done.1 id p change
 
   -- one that was dormant is ready behind all others
@@ -126,12 +126,7 @@ module _ (s : ThreadTable) (id : ℕ) where
       → IsChanged priority (Ok (wait_in t.state), with_priority s t priority)
   is_changed priority t found holds = record {
     answer = sym holds;
-    turns = turned s id t found true (λ t. record t { priority = priority }) _ refl refl refl refl
-        (cond_both (is_ready t.state) (without t.id s.ready ++ t.id ∷ []) s.ready
-        (λ ready. without id ready ≡ without id s.ready)
-        (λ ready. ap (λ one. without id (without one s.ready ++ one ∷ []))
-        (thread_of_id s.live id t found) ∙ without_moved id s.ready)
-        (λ other. refl));
+    turns = turned s id t found true (λ t. record t { priority = priority }) _ refl refl refl refl;
     moved = λ ready.
         by_ready true (sym (told_of s id t found is_ready) ∙ ready)
         ∙ ap (λ one. without one s.ready ++ one ∷ []) (thread_of_id s.live id t found);
@@ -156,36 +151,42 @@ module _ (s : ThreadTable) (id : ℕ) where
 
   -- a dormant thread is deleted
   abbrev IsDeleted : Result ℕ Code × ThreadTable → Type 0
-  IsDeleted done = Deletes s done.1 id (is_ok done.0)
+  IsDeleted done =
+      Deletes s done.1 id (is_ok done.0)
+      × IfOk done.0 (λ stack. part_of (λ t. t.stack) s id ≡ Some stack)
 
   not_deleted : (code : Code) → is_in_state is_dormant s.live id ≡ false → IsDeleted (Err code, s)
-  not_deleted code fails = record {
-    answer = sym fails;
-    one = one_same s id;
-    gone = λ so. cc;
-    ready = refl;
-    refused = λ none. refl;
-  }
+  not_deleted code fails = (
+    record {
+      answer = sym fails;
+      one = one_same s id;
+      gone = λ so. cc;
+      ready = refl;
+      refused = λ none. refl;
+    },
+    tt,
+  )
 
   is_deleted : (t : Thread) → thread_of s.live id ≡ Some t → is_in_state is_dormant s.live id ≡ true
       → IsDeleted (Ok t.stack, record s { live = without_thread t.id s.live })
   is_deleted t found holds =
-      let same = thread_of_id s.live id t found in
-      record {
-        answer = sym holds;
-        one = record {
-          others = λ other apart.
-              let left = thread_of_without s.live t.id other in
-              let fails = ne_eqb other t.id (λ it. apart (it ∙ same)) in
-              grind (arith, left, fails);
-          order = refl;
-          next = refl;
-        };
-        gone = λ so. let left = thread_of_without s.live t.id id in
-            grind (arith, nat_tests, left, same);
-        ready = refl;
-        refused = λ so. cc;
-      }
+      let same = thread_of_id s.live id t found in (
+        record {
+          answer = sym holds;
+          one = record {
+            others = λ other apart.
+                let left = thread_of_without s.live t.id other in
+                let fails = ne_eqb other t.id (λ it. apart (it ∙ same)) in
+                grind (arith, left, fails);
+            next = refl;
+          };
+          gone = λ so. let left = thread_of_without s.live t.id id in
+              grind (arith, nat_tests, left, same);
+          ready = refl;
+          refused = λ so. cc;
+        },
+        ap (option_map (λ (t : Thread). t.stack)) found,
+      )
 
   pub one_deletes_it : (o : Option Thread) → thread_of s.live id ≡ o → IsDeleted (deletes_it s o)
   one_deletes_it None found = not_deleted UNKNOWN_THREAD (ap (told is_dormant) found)
@@ -221,7 +222,8 @@ module _ (s : ThreadTable) (placed : IsPlaced s) where
           → Makes s (record s { live = s.live ++ t ∷ []; next = s.next + 1 }) true t
       made t none same = record {
         free = none;
-        own = λ so. let added = thread_of_added s.live t s.next (ap (thread_of s.live) same ∙ none) in
+        own = λ so.
+            let added = thread_of_added s.live t s.next (ap (thread_of s.live) same ∙ none) in
             grind (arith, nat_tests, added, same);
         next = λ so. refl;
         others = λ other apart.

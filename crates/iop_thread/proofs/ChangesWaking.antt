@@ -1,10 +1,10 @@
 -- What changes when a thread waits, is woken, suspended or resumed, or its wakeups change.
-use Rattle.std.proofs.Common.{◌≡◌, ℕ, ◌+◌, ◌-◌, min, nat_lt, Bool, true, false, if◌then◌else◌, is_ok, is_some, Option, Some, None, Result, [], ◌∷◌, ◌++◌, refl, ap, sym, ◌∙◌, arith}
+use Rattle.std.proofs.Common.{◌≡◌, ℕ, ◌+◌, ◌-◌, min, nat_lt, Bool, true, false, if◌then◌else◌, is_ok, is_some, IfOk, option_map, Option, Some, None, Result, Err, [], ◌∷◌, ◌++◌, refl, ap, sym, ◌∙◌, arith}
 use Rattle.std.proofs.lemmas.Bool.{cond_both, ltb-false}
 use Rattle.iop_base.specs.declared.code.Code.{Code}
 use Rattle.iop_base.specs.declared.code.TheConstants.Code.{OK, UNKNOWN_THREAD, DORMANT, NOT_SUSPENDED}
 use Rattle.iop_exec.specs.declared.cpu.Cpu.{Cpu}
-use Rattle.iop_thread.specs.Changes.{is_begun, is_waiting, is_suspended, in_new_state, woken_state, resumed_state, woken_up, has_wakeup, ready_after, TurnsInPlace, TurnsRunning}
+use Rattle.iop_thread.specs.Changes.{is_begun, is_waiting, is_suspended, in_new_state, woken_state, resumed_state, woken_up, has_wakeup, part_of, ready_after, TurnsInPlace, TurnsRunning}
 use Rattle.iop_thread.specs.Operations.{blocks_it, wakes_in, wakes_it, suspends_it, resumes_in, resumes_it, wakes_up_by, wakes_up_it, cancels_it, takes_wakeup_it}
 use Rattle.iop_thread.specs.Placing.{IsPlaced, is_in_state}
 use Rattle.iop_thread.specs.States.{is_dormant, is_ready, wait_in, sleeps, suspended_state}
@@ -172,19 +172,27 @@ module _ (s : ThreadTable) (id : ℕ) where
 
   -- the wakeups of a thread are forgotten
   abbrev Cancels : Result ℕ Code × ThreadTable → Type 0
-  Cancels = Does s id (λ r. is_ok r ≡ true) is_begun (λ t. record t { wakeups = 0 })
+  Cancels done =
+      Does s id (λ r. is_ok r ≡ true) is_begun (λ t. record t { wakeups = 0 }) done
+      × IfOk done.0 (λ wakeups. part_of (λ t. t.wakeups) s id ≡ Some wakeups)
+
+  cancels_not : (code : Code) → is_in_state is_begun s.live id ≡ false → Cancels (Err code, s)
+  cancels_not code fails = (
+    answers_not s id (false ≡ true) is_begun (λ t. record t { wakeups = 0 }) (λ so. cc) fails,
+    tt,
+  )
 
   pub one_cancels_it : (o : Option Thread) → thread_of s.live id ≡ o → Cancels (cancels_it s o)
-  one_cancels_it None found =
-      answers_not s id (false ≡ true) is_begun (λ t. record t { wakeups = 0 }) (λ so. cc)
-      (ap (told is_begun) found)
+  one_cancels_it None found = cancels_not UNKNOWN_THREAD (ap (told is_begun) found)
   one_cancels_it (Some t) found =
       cond_both (is_dormant t.state) _ _ Cancels
-      (λ dormant. answers_not s id (false ≡ true) is_begun (λ t. record t { wakeups = 0 })
-      (λ so. cc) (told_of s id t found is_begun ∙ not_begun (is_dormant t.state) dormant))
+      (λ dormant. cancels_not DORMANT
+      (told_of s id t found is_begun ∙ not_begun (is_dormant t.state) dormant))
       (λ other.
-      let holds = told_of s id t found is_begun ∙ begun (is_dormant t.state) other in
-      answers_so is_begun refl holds (one_has_wakeups _ t found holds (λ t. 0)))
+      let holds = told_of s id t found is_begun ∙ begun (is_dormant t.state) other in (
+        answers_so is_begun refl holds (one_has_wakeups _ t found holds (λ t. 0)),
+        ap (option_map (λ (t : Thread). t.wakeups)) found,
+      ))
 
 module _ (s : ThreadTable) (placed : IsPlaced s) where
   -- the running thread waits

@@ -1,5 +1,5 @@
 -- One thread changes, or none: what each id finds, and the ready list.
-use Rattle.std.proofs.Common.{◌≡◌, ◌≢◌, ℕ, Bool, true, false, option_map, unwrap_or, Option, Some, None, List, [], ◌∷◌, ◌++◌, refl, ap, sym, ◌∙◌, subst, arith}
+use Rattle.std.proofs.Common.{◌≡◌, ◌≢◌, ℕ, Bool, true, false, option_map, unwrap_or, Option, Some, None, List, refl, ap, sym, ◌∙◌, subst, arith}
 use Rattle.std.proofs.lemmas.Bool.Decides.{nat_tests}
 use Rattle.std.proofs.lemmas.Bool.{ne_eqb}
 use Rattle.std.proofs.lemmas.Option.{same_Some}
@@ -11,26 +11,6 @@ use Rattle.iop_thread.specs.declared.state.State.{State}
 use Rattle.iop_thread.specs.declared.state.State.TheVariants.{Dormant, Running, Ready, Waiting, Suspended, WaitingSuspended}
 use Rattle.iop_thread.specs.declared.thread.Thread.{Thread}
 use Rattle.iop_thread.proofs.LiveThreads.{changed, thread_of_changed, thread_of_id}
-
--- an id that comes last, or is taken out, leaves the others in their order
-without_last : (id : ℕ) (ids : List ℕ) → without id (ids ++ id ∷ []) ≡ without id ids
-without_last id [] = grind (arith, nat_tests)
-without_last id (one ∷ ids) = grind (arith, nat_tests, without_last id ids)
-
-without_again : (id : ℕ) (ids : List ℕ) → without id (without id ids) ≡ without id ids
-without_again id [] = refl
-without_again id (one ∷ ids) = grind (arith, nat_tests, without_again id ids)
-
-pub without_moved : (id : ℕ) (ids : List ℕ)
-    → without id (without id ids ++ id ∷ []) ≡ without id ids
-without_moved id ids = without_last id (without id ids) ∙ without_again id ids
-
-order_after : (was is : Bool) (id : ℕ) (ids : List ℕ)
-    → without id (ready_after was is id ids) ≡ without id ids
-order_after false true id ids = without_last id ids
-order_after true false id ids = without_again id ids
-order_after true true id ids = refl
-order_after false false id ids = refl
 
 -- a thread that changed is found so by its id, every other is found as before
 pub own_changed : (live : List Thread) (t u : Thread) (id : ℕ) → thread_of live id ≡ Some t
@@ -70,7 +50,7 @@ next_leaving s t (WaitingSuspended wait own) = refl
 module _ (s : ThreadTable) (id : ℕ) where
   -- nothing changes
   pub one_same : ChangesOne s s id
-  one_same = record { others = λ other apart. refl; order = refl; next = refl }
+  one_same = record { others = λ other apart. refl; next = refl }
 
   pub ready_same : (b : Bool) → s.ready ≡ ready_after b b id s.ready
   ready_same true = refl
@@ -114,15 +94,14 @@ module _ (s : ThreadTable) (id : ℕ) where
           ap (λ live. thread_of live id) live
           ∙ own_changed s.live t (change t) id found (same ∙ thread_of_id s.live id t found)
 
-      -- the rest of the ready list stands in its order
-      pub turned : without id left.ready ≡ without id s.ready → Turns s left id may change
-      turned order = record {
+      -- all others are as they were
+      pub turned : Turns s left id may change
+      turned = record {
         one = record {
           others = λ other apart.
               ap (λ live. thread_of live other) live
               ∙ other_changed s.live (change t) other
               (λ it. apart (it ∙ same ∙ thread_of_id s.live id t found));
-          order = order;
           next = next;
         };
         own = λ so. now_found ∙ sym (ap (option_map change) found);
@@ -134,8 +113,7 @@ module _ (s : ThreadTable) (id : ℕ) where
           ≡ ready_after (is_ready t.state) (is_ready (change t).state) id s.ready
           → TurnsInPlace s left id may change
       takes_place ready = record {
-        turns = turned (ap (without id) ready
-            ∙ order_after (is_ready t.state) (is_ready (change t).state) id s.ready);
+        turns = turned;
         ready = ready
             ∙ sym (ap (λ is. ready_after (is_in_state is_ready s.live id) is id s.ready)
             (ap (told is_ready) now_found)

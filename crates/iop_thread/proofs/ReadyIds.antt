@@ -1,5 +1,6 @@
 -- How often an id is in a list, when one comes or goes.
-use Rattle.std.proofs.Common.{◌≡◌, ℕ, zero, suc, ◌+◌, ◌<◌, ◌≤◌, ◌==◌, Bool, if◌then◌else◌, Option, Some, None, List, [], ◌∷◌, ◌++◌, find, Contains, arith}
+use Rattle.std.proofs.Common.{◌≡◌, ℕ, zero, suc, ◌+◌, ◌<◌, ◌≤◌, ◌==◌, Bool, true, false, if◌then◌else◌, Option, Some, None, List, [], ◌∷◌, ◌++◌, find, Contains, refl, arith}
+use Rattle.std.proofs.lemmas.Bool.{eqb-true}
 use Rattle.std.proofs.lemmas.Bool.Decides.{nat_tests}
 use Rattle.iop_base.specs.Choosing.{better, best}
 use Rattle.iop_base.specs.Numbers.{one_if}
@@ -49,6 +50,19 @@ not_contained id (one ∷ ids) none (suc k, below, here) =
     let inside : Contains ids id = (k, omega (arith, below), here) in
     let rest : times id ids ≡ 0 = grind (arith, nat_tests, none) in
     not_contained id ids rest inside
+
+-- and one that is there some times is
+contained_by : (id one : ℕ) (ids : List ℕ) (b : Bool) → (one == id) ≡ b
+    → 0 < times id (one ∷ ids) → (0 < times id ids → Contains ids id) → Contains (one ∷ ids) id
+contained_by id one ids true is some rest = (0, omega arith, eqb-true one id is)
+contained_by id one ids false is some rest =
+    let more = rest (grind (arith, nat_tests, is, some)) in
+    (suc more.0, omega (arith, more.1), more.2)
+
+pub contained : (id : ℕ) (ids : List ℕ) → 0 < times id ids → Contains ids id
+contained id [] some = absurd (omega (arith, some))
+contained id (one ∷ ids) some =
+    contained_by id one ids (one == id) refl some (contained id ids)
 
 -- the id that is found first is there
 pub times_found : (p : ℕ → Bool) (ids : List ℕ) (id : ℕ) → find p ids ≡ Some id → 0 < times id ids

@@ -1,134 +1,121 @@
 -- A wait that ends with an answer.
-use Rattle.std.proofs.Common.{◌≡◌, ◌≢◌, ℕ, true, false, option_map, Option, Some, None, [], ◌∷◌, ◌++◌, refl, ap, sym, ◌∙◌}
+use Rattle.std.proofs.Common.{◌≡◌, ℕ, Bool, true, false, option_map, unwrap_or, Option, Some, None, refl, ap, sym, ◌∙◌, subst}
+use Rattle.std.specs.Prelude.{is_some}
 use Rattle.std.proofs.lemmas.Bool.{cond_both}
-use Rattle.iop_exec.specs.declared.cpu.Cpu.{Cpu}
+use Rattle.iop_thread.specs.Changes.{is_waiting, in_new_state, woken_state, ready_after, TurnsInPlace}
 use Rattle.iop_thread.specs.declared.state.State.{State}
-use Rattle.iop_thread.specs.declared.state.State.TheVariants.{Dormant, Running, Ready, Waiting, Suspended, WaitingSuspended}
+use Rattle.iop_thread.specs.declared.state.State.TheVariants.{Waiting, WaitingSuspended}
 use Rattle.iop_thread.specs.declared.thread.Thread.{Thread}
-use Rattle.iop_thread.specs.declared.wait.Wait.{Wait}
 use Rattle.iop_thread.specs.declared.wait.Wait.TheVariants.{Sleep}
 use Rattle.iop_thread.specs.Operations.{wakes_in, wakes_it, wakes, wakes_up_it, wakes_up}
-use Rattle.iop_thread.specs.States.{is_dormant, sleeps, wait_in, with_answer}
+use Rattle.iop_thread.specs.Placing.{is_in_state}
+use Rattle.iop_thread.specs.States.{is_dormant, is_ready, sleeps, wait_in}
 use Rattle.iop_thread.specs.ThreadTable.{ThreadTable, thread_of}
 use Rattle.iop_thread.specs.Waits.{wait_of}
 use Rattle.iop_thread.specs.Waking.{state_in, but_state, IsWoken, WakingEndsOneWait}
-use Rattle.iop_thread.proofs.Changing.{own_changed, other_changed}
+use Rattle.iop_thread.proofs.Changing.{told}
+use Rattle.iop_thread.proofs.ChangesWaking.{one_wakes_it}
 use Rattle.iop_thread.proofs.FindingThreads.{dormant_state, either_way}
-use Rattle.iop_thread.proofs.LiveThreads.{thread_of_id}
 use Rattle.iop_thread.proofs.WaitingOn.{found_wait}
 
 -- the state of the thread that is found, if one is
 abbrev pub found_state : Option Thread → Option State
 found_state o = option_map (λ t. t.state) o
 
-module _ (s : ThreadTable) (id answer : ℕ) where
-  -- where it does not wait, nothing changes
-  wakes_none : ((wait : Wait) (own : Cpu) → state_in s id ≢ Some (Waiting wait own))
-      → ((wait : Wait) (own : Cpu) → state_in s id ≢ Some (WaitingSuspended wait own))
-      → IsWoken s s id answer
-  wakes_none not_so nor_so = record {
-    ready = λ wait own is. absurd (not_so wait own is);
-    last = λ wait own is. absurd (not_so wait own is);
-    suspended = λ wait own is. absurd (nor_so wait own is);
-    kept = λ wait own is. refl;
-    rest = refl;
-    idle = λ none. refl;
-    others = λ other apart. refl;
-    running = refl;
-    next = refl;
+-- what is told of a state that is found
+told_in : (p : State → Bool) (o : Option Thread) (state : State) → found_state o ≡ Some state
+    → told p o ≡ p state
+told_in p None state is = absurd (cc is)
+told_in p (Some t) state is = ap (λ (s : Option State). unwrap_or (option_map p s) false) is
+
+-- the state of a thread that has a new one
+new_state : (change : State → State) (o : Option Thread) (state : State)
+    → found_state o ≡ Some state
+    → found_state (option_map (in_new_state change) o) ≡ Some (change state)
+new_state change None state is = absurd (cc is)
+new_state change (Some t) state is = ap (option_map change) is
+
+-- all but its state is as it was
+new_rest : (change : State → State) (o : Option Thread)
+    → option_map but_state (option_map (in_new_state change) o) ≡ option_map but_state o
+new_rest change None = refl
+new_rest change (Some t) = refl
+
+-- a thread waits where its wait is found
+waits_in : (o : Option Thread) → told is_waiting o ≡ is_some (found_wait o)
+waits_in None = refl
+waits_in (Some t) = refl
+
+module _ (s left : ThreadTable) (id answer : ℕ) (running : left.running ≡ s.running)
+    (turned : TurnsInPlace s left id (is_in_state is_waiting s.live id)
+    (in_new_state (woken_state answer))) where
+  -- one that waited has its new state
+  now : (state : State) → is_waiting state ≡ true → state_in s id ≡ Some state
+      → state_in left id ≡ Some (woken_state answer state)
+  now state waits is =
+      ap found_state (turned.turns.own (told_in is_waiting (thread_of s.live id) state is ∙ waits))
+      ∙ new_state (woken_state answer) (thread_of s.live id) state is
+
+  -- and its place by both
+  place : (was is : State) → state_in s id ≡ Some was → state_in left id ≡ Some is
+      → left.ready ≡ ready_after (is_ready was) (is_ready is) id s.ready
+  place was is before after =
+      turned.ready
+      ∙ ap (λ b. ready_after b (is_in_state is_ready left.live id) id s.ready)
+      (told_in is_ready (thread_of s.live id) was before)
+      ∙ ap (λ b. ready_after (is_ready was) b id s.ready)
+      (told_in is_ready (thread_of left.live id) is after)
+
+  -- nothing else of it changes, by whether it waited
+  rest_by : (b : Bool) → is_in_state is_waiting s.live id ≡ b
+      → option_map but_state (thread_of left.live id)
+      ≡ option_map but_state (thread_of s.live id)
+  rest_by true waits =
+      ap (option_map but_state) (turned.turns.own waits)
+      ∙ new_rest (woken_state answer) (thread_of s.live id)
+  rest_by false fails =
+      ap (λ (t : ThreadTable). option_map but_state (thread_of t.live id))
+      (turned.turns.refused fails)
+
+  turned_so : IsWoken s left id answer
+  turned_so = record {
+    ready = λ wait own is. now (Waiting wait own) refl is;
+    last = λ wait own is. let new = now (Waiting wait own) refl is in place _ _ is new;
+    suspended = λ wait own is. now (WaitingSuspended wait own) refl is;
+    kept = λ wait own is. let new = now (WaitingSuspended wait own) refl is in place _ _ is new;
+    rest = rest_by (is_in_state is_waiting s.live id) refl;
+    idle = λ none. turned.turns.refused (waits_in (thread_of s.live id) ∙ ap is_some none);
+    others = turned.turns.one.others;
+    running = running;
+    next = turned.turns.one.next;
   }
 
-  module _ (t : Thread) (found : thread_of s.live id ≡ Some t) where
-    -- it is in the state that it is found in
-    in_state_of : (state : State) → t.state ≡ state → state_in s id ≡ Some state
-    in_state_of state is = ap found_state found ∙ ap Some is
+-- the same thread runs
+running_in : (s : ThreadTable) (answer : ℕ) (t : Thread) (state : State)
+    → (wakes_in s answer t state).running ≡ s.running
+running_in s answer t (Waiting wait own) = refl
+running_in s answer t (WaitingSuspended wait own) = refl
+running_in s answer t other = refl
 
-    -- a wait ends, by the state that the thread is in
-    woken_in : (state : State) → t.state ≡ state → IsWoken s (wakes_in s answer t state) id answer
-    woken_in Dormant is =
-        let at = in_state_of Dormant is in
-        wakes_none (λ wait own so. cc (at, so)) (λ wait own so. cc (at, so))
-    woken_in Running is =
-        let at = in_state_of Running is in
-        wakes_none (λ wait own so. cc (at, so)) (λ wait own so. cc (at, so))
-    woken_in (Ready kept) is =
-        let at = in_state_of (Ready kept) is in
-        wakes_none (λ wait own so. cc (at, so)) (λ wait own so. cc (at, so))
-    woken_in (Suspended kept) is =
-        let at = in_state_of (Suspended kept) is in
-        wakes_none (λ wait own so. cc (at, so)) (λ wait own so. cc (at, so))
-    woken_in (Waiting why kept) is =
-        let at = in_state_of (Waiting why kept) is in
-        let same = thread_of_id s.live id t found in
-        let u = record t { state = Ready (with_answer kept answer) } in
-        let now = own_changed s.live t u id found same in
-        record {
-          ready = λ wait own so. ap found_state now
-              ∙ ap (λ own. Some (Ready (with_answer own answer)))
-              (same_own why wait kept own (sym at ∙ so));
-          last = λ wait own so. ap (λ one. s.ready ++ one ∷ []) same;
-          suspended = λ wait own so. absurd (cc (at, so));
-          kept = λ wait own so. absurd (cc (at, so));
-          rest = ap (option_map but_state) now ∙ sym (ap (option_map but_state) found);
-          idle = λ none. absurd (waits (Some why) why refl
-              (sym (ap found_wait found ∙ ap wait_in is) ∙ none));
-          others = λ other apart. other_changed s.live u other (λ it. apart (it ∙ same));
-          running = refl;
-          next = refl;
-        }
-      where
-        same_own : (why wait : Wait) (kept own : Cpu)
-            → Some (Waiting why kept) ≡ Some (Waiting wait own) → kept ≡ own
-        same_own why wait kept own both = cc
-
-        waits : (o : Option Wait) (why : Wait) → o ≡ Some why → o ≡ None → ⊥
-        waits o why some none = cc
-    woken_in (WaitingSuspended why kept) is =
-        let at = in_state_of (WaitingSuspended why kept) is in
-        let same = thread_of_id s.live id t found in
-        let u = record t { state = Suspended (with_answer kept answer) } in
-        let now = own_changed s.live t u id found same in
-        record {
-          ready = λ wait own so. absurd (cc (at, so));
-          last = λ wait own so. absurd (cc (at, so));
-          suspended = λ wait own so. ap found_state now
-              ∙ ap (λ own. Some (Suspended (with_answer own answer)))
-              (same_own why wait kept own (sym at ∙ so));
-          kept = λ wait own so. refl;
-          rest = ap (option_map but_state) now ∙ sym (ap (option_map but_state) found);
-          idle = λ none. absurd (waits (Some why) why refl
-              (sym (ap found_wait found ∙ ap wait_in is) ∙ none));
-          others = λ other apart. other_changed s.live u other (λ it. apart (it ∙ same));
-          running = refl;
-          next = refl;
-        }
-      where
-        same_own : (why wait : Wait) (kept own : Cpu)
-            → Some (WaitingSuspended why kept) ≡ Some (WaitingSuspended wait own) → kept ≡ own
-        same_own why wait kept own both = cc
-
-        waits : (o : Option Wait) (why : Wait) → o ≡ Some why → o ≡ None → ⊥
-        waits o why some none = cc
-
-  -- the wait of a thread ends, if one is found
-  woken_it : (o : Option Thread) → thread_of s.live id ≡ o → IsWoken s (wakes_it s answer o) id answer
-  woken_it None found =
-      wakes_none (λ wait own so. cc (found, so)) (λ wait own so. cc (found, so))
-  woken_it (Some t) found = woken_in t found t.state refl
+running_it : (s : ThreadTable) (answer : ℕ) (o : Option Thread)
+    → (wakes_it s answer o).running ≡ s.running
+running_it s answer None = refl
+running_it s answer (Some t) = running_in s answer t t.state
 
 pub wakes_so : (s : ThreadTable) (id answer : ℕ) → IsWoken s (wakes s id answer) id answer
-wakes_so s id answer = woken_it s id answer (thread_of s.live id) refl
+wakes_so s id answer =
+    turned_so s (wakes s id answer) id answer (running_it s answer (thread_of s.live id))
+    (one_wakes_it s id answer (thread_of s.live id) refl)
 
--- one that sleeps is woken
-module _ (s : ThreadTable) (id : ℕ) where
-  sleeper_by : (t : Thread) → thread_of s.live id ≡ Some t → wait_in t.state ≡ Some Sleep
-      → IsWoken s (wakes_up_it s (Some t)).1 id 0
-  sleeper_by t found asleep =
-      either_way (λ left. IsWoken s left id 0) (is_dormant t.state) _ _
+-- a wakeup of one that sleeps ends its wait
+module _ (s : ThreadTable) where
+  sleeper_by : (t : Thread) → wait_in t.state ≡ Some Sleep
+      → (wakes_up_it s (Some t)).1 ≡ wakes_in s 0 t t.state
+  sleeper_by t asleep =
+      either_way (λ left. left ≡ wakes_in s 0 t t.state) (is_dormant t.state) _ _
       (λ dormant. absurd (not_dormant (ap wait_in (dormant_state t.state dormant))))
-      (λ other. cond_both (sleeps (wait_in t.state)) _ _ (λ left. IsWoken s left id 0)
-      (λ sleeping. woken_in s id 0 t found t.state refl)
-      (λ awake. absurd (not_awake (ap sleeps asleep) awake)))
+      (λ other. cond_both (sleeps (wait_in t.state)) _ _ (λ left. left ≡ wakes_in s 0 t t.state)
+      (λ sleeping. refl) (λ awake. absurd (not_awake (ap sleeps asleep) awake)))
     where
       not_dormant : wait_in t.state ≡ None → ⊥
       not_dormant none = cc (asleep, none)
@@ -136,18 +123,15 @@ module _ (s : ThreadTable) (id : ℕ) where
       not_awake : sleeps (wait_in t.state) ≡ true → sleeps (wait_in t.state) ≡ false → ⊥
       not_awake holds fails = cc
 
-  sleeper_it : (o : Option Thread) → thread_of s.live id ≡ o → found_wait o ≡ Some Sleep
-      → IsWoken s (wakes_up_it s o).1 id 0
-  sleeper_it None found asleep = absurd (cc asleep)
-  sleeper_it (Some t) found asleep = sleeper_by t found asleep
+  sleeper_it : (o : Option Thread) → found_wait o ≡ Some Sleep
+      → (wakes_up_it s o).1 ≡ wakes_it s 0 o
+  sleeper_it None asleep = absurd (cc asleep)
+  sleeper_it (Some t) asleep = sleeper_by t asleep
 
-  pub wakes_sleeper : wait_of s id ≡ Some Sleep → IsWoken s (wakes_up s id).1 id 0
-  wakes_sleeper asleep = sleeper_it (thread_of s.live id) refl asleep
+  pub wakes_sleeper : (id : ℕ) → wait_of s id ≡ Some Sleep → IsWoken s (wakes_up s id).1 id 0
+  wakes_sleeper id asleep =
+      subst (λ (left : ThreadTable). IsWoken s left id 0)
+      (sym (sleeper_it (thread_of s.live id) asleep)) (wakes_so s id 0)
 
 pub waking_ends_one_wait : WakingEndsOneWait
 waking_ends_one_wait = record { wakes = wakes_so; wakes_up = wakes_sleeper }
-
--- a thread that is not woken waits as it did
-pub waits_as_before : (s left : ThreadTable) (id answer other : ℕ) → IsWoken s left id answer
-    → other ≢ id → state_in left other ≡ state_in s other
-waits_as_before s left id answer other woken apart = ap found_state (woken.others other apart)

@@ -35,8 +35,11 @@ in_new_state change t = record t { state = change t.state }
 
 -- started anew: ready, with its first registers, the priority that it was made with, and no wakeups
 abbrev pub started : (argument : ℕ) → Thread → Thread
-started argument t =
-    record t { priority = t.param.priority; wakeups = 0; state = Ready (first_registers t argument) }
+started argument t = record t {
+  priority = t.param.priority;
+  wakeups = 0;
+  state = Ready (first_registers t argument);
+}
 
 -- its wait ended with an answer: it is ready, or suspended alone
 abbrev pub woken_state : (answer : ℕ) → State → State
@@ -61,6 +64,10 @@ abbrev pub has_wakeup : Option Thread → Bool
 has_wakeup None = false
 has_wakeup (Some t) = nat_lt 0 t.wakeups
 
+-- a part of the thread of an id
+abbrev pub part_of : (Thread → ℕ) → ThreadTable → (id : ℕ) → Option ℕ
+part_of part s id = option_map part (thread_of s.live id)
+
 -- the ready list when a thread changed, by whether it was ready, and whether it is: one that comes
 -- stands behind all others, one that goes is taken out, and any other leaves the list as it was
 abbrev pub ready_after : (was is : Bool) → (id : ℕ) → List ℕ → List ℕ
@@ -68,11 +75,9 @@ ready_after false true id ready = ready ++ id ∷ []
 ready_after true false id ready = without id ready
 ready_after was is id ready = ready
 
--- one thread alone changes, or none: all others are as they were, the rest of the ready list stands
--- in its order, and the next id is as it was
+-- one thread alone changes, or none: all others are as they were, and the next id is
 pub record ChangesOne (s left : ThreadTable) (id : ℕ) : Type 0 where
   pub others : (other : ℕ) → other ≢ id → thread_of left.live other ≡ thread_of s.live other
-  pub order : without id left.ready ≡ without id s.ready
   pub next : left.next ≡ s.next
 
 -- where it may be done, the thread of an id becomes another so, and no other does; else nothing
@@ -157,7 +162,9 @@ pub record MovesOne (s : ThreadTable) : Type 0 where
   pub creates : (param : Param) (stack gp : ℕ) → let done = creates s param stack gp in
       Makes s done.1 (is_ok done.0) (dormant_thread s.next param stack gp)
       × IfOk done.0 (λ id. id ≡ s.next)
-  pub deletes : (id : ℕ) → let done = deletes s id in Deletes s done.1 id (is_ok done.0)
+  pub deletes : (id : ℕ) → let done = deletes s id in
+      Deletes s done.1 id (is_ok done.0)
+      × IfOk done.0 (λ stack. part_of (λ t. t.stack) s id ≡ Some stack)
   pub starts : (id argument : ℕ) → let done = starts s id argument in
       TurnsWhere (done.0 ≡ OK) s done.1 id is_dormant (started argument)
   pub begins : (registers : Cpu) → TurnsInPlace s (begins s registers) LOADER
@@ -181,6 +188,7 @@ pub record MovesOne (s : ThreadTable) : Type 0 where
       TurnsWhere (done.0 ≡ OK) s done.1 id is_begun woken_up
   pub cancels : (id : ℕ) → let done = cancels s id in
       TurnsWhere (is_ok done.0 ≡ true) s done.1 id is_begun (λ t. record t { wakeups = 0 })
+      × IfOk done.0 (λ wakeups. part_of (λ t. t.wakeups) s id ≡ Some wakeups)
   pub takes_wakeup : let done = takes_wakeup s in
       TurnsRunning s done.1 (λ t. record t { wakeups = t.wakeups - 1 })
       × (done.0 ≡ has_wakeup (running_thread s))

@@ -25,6 +25,7 @@ fn append_byte_digits(text: &mut ArrayVec<u8, DUMP_ROOM>, bytes: &[u8])
 {
     let mut room = [0; 2 * BYTES_IN_LINE];
     let digits = &mut room[..2 * bytes.len()];
+    // two digits of room a byte are there, so this never fails
     let _ = encode_to_slice(bytes, digits);
     append(text, digits);
 }

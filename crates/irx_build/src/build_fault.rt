@@ -15,7 +15,7 @@ pub enum BuildFault {
     /// The image in memory or the relocation entries are too long: how many bytes the longer has.
     #[error("{0} bytes are too many")]
     TooLong(u64),
-    /// Host memory ran out.
+    /// Stands for want of host memory.
     #[error("out of memory")]
     Memory,
 }

@@ -31,7 +31,7 @@ pub const LARGEST_UNIT: u64 = 2_097_152;
 ///   bytes each, are more than 2,097,152 bytes, with the greater of the two numbers, at most
 ///   2^64 - 1.
 ///
-/// `Memory` only where host memory runs out.
+/// Or it answers `Memory`, which stands for want of host memory.
 pub fn build(alloc: Global, unit: &AsmUnit) -> Result<Vec<u8>, BuildFault>
     ensures file { Gives result (file_or_refusal unit.now) }
     ensures parts { IfOk result (λ file. parts_or_rule file.items ≡ Ok (unit_parts unit.now)) }

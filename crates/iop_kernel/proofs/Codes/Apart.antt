@@ -1,31 +1,34 @@
 -- What each code leaves as it was.
-use Rattle.std.proofs.Common.{◌≡◌, ◌≢◌, ℕ, ◌==◌, Bool, true, false, Option, Some, None, List, refl, ap, sym, subst, arith}
-use Rattle.std.proofs.lemmas.Bool.{cond_both}
+use Rattle.std.proofs.Common.{◌≡◌, ◌≢◌, ℕ, ◌==◌, ◌||◌, Bool, true, false, Option, Some, None, refl, ap, sym, subst, arith}
+use Rattle.std.proofs.lemmas.Bool.{cond_both, eqb-true}
 use Rattle.std.proofs.lemmas.Bool.Decides.{nat_tests}
 use Rattle.iop_exec.specs.Row.{reg}
-use Rattle.iop_registry.specs.declared.registry.Entry.{Entry}
 use Rattle.iop_services.specs.declared.codes.TheConstants.{INTRMAN}
 use Rattle.iop_thread.specs.declared.kind.Kind.{Kind}
 use Rattle.iop_thread.specs.declared.thread.TheConstants.{LOADER}
-use Rattle.iop_kernel.specs.CodeLaws.{serves_threads, CodeStaysApart, CodesStayApart}
+use Rattle.iop_kernel.specs.CodeLaws.{serves_kernel, serves_threads, calls_into, ends_thread, calls_threads, changes_kernel, KeepsObjects, CodeStaysApart, CodesStayApart}
 use Rattle.iop_kernel.specs.Handlers.{returns_handler, handler_returned}
 use Rattle.iop_kernel.specs.Kinds.{table}
-use Rattle.iop_kernel.specs.Laws.{KeepsObjects, ServicesStayApart}
 use Rattle.iop_kernel.specs.Serving.{call_of, calls_library, calls}
 use Rattle.iop_kernel.specs.System.{Kernel, Core, Left, System, caller, on_core}
 use Rattle.iop_kernel.specs.ThreadStarts.{exits_by, returns_by}
 use Rattle.iop_kernel.specs.declared.active_handler.ActiveHandler.{ActiveHandler}
 use Rattle.iop_kernel.specs.declared.call.Call.{Call}
 use Rattle.iop_kernel.specs.declared.call.Call.TheVariants.{Library, ThreadReturn, HandlerReturn, ModuleReturn}
-use Rattle.iop_kernel.proofs.Apart.{libraries_stay_apart}
+use Rattle.iop_kernel.proofs.Codes.Libraries.{IsApart, library_stays}
 use Rattle.iop_kernel.proofs.Keeping.Handlers.{gives_to}
 use Rattle.iop_kernel.proofs.Keeping.Stores.{services_store}
 use Rattle.iop_kernel.proofs.Placing.ObjectsKept.{same_objects}
-use Rattle.iop_kernel.proofs.Codes.Owners.{owners_apart, library_writes_nothing}
+use Rattle.iop_kernel.proofs.Codes.Writing.{library_writes_nothing}
 
 -- numbers that are not found equal differ
 differs : (m n : ℕ) → (m == n) ≡ false → m ≢ n
 differs m n other same = absurd (grind (arith, nat_tests, other, same))
+
+-- where nothing returns, none that may change the kernel is called
+writes_none : (b : Bool) → (b || false || false) ≡ false → b ≡ false
+writes_none true none = cc
+writes_none false none = refl
 
 -- a kernel that has the objects of another keeps them
 module _ (k : Kernel) where
@@ -43,13 +46,14 @@ module _ (s : System) where
   k = s.core.kernel
 
   -- intrman leaves the threads, and so do the libraries that leave the kernel
-  threads_by : (library : ℕ) (left : Kernel) (entries : List Entry)
-      → ServicesStayApart s library left entries → serves_threads library ≡ false → (b : Bool)
-      → (library == INTRMAN) ≡ b → left.threads ≡ k.threads
-  threads_by library left entries h none true is =
+  threads_by : (library : ℕ) (left : System)
+      → IsApart s library left.core.kernel left.libraries left.blocks
+      → serves_threads library ≡ false → (b : Bool) → (library == INTRMAN) ≡ b
+      → left.core.kernel.threads ≡ k.threads
+  threads_by library left h none true is =
       let same : library ≡ INTRMAN = grind (arith, nat_tests, is) in
       ap (λ (l : Kernel). l.threads) (h.intrman same)
-  threads_by library left entries h none false is =
+  threads_by library left h none false is =
       ap (λ (l : Kernel). l.threads) (h.kernel (grind (arith, nat_tests, none, is)))
 
   -- a call of a library
@@ -60,12 +64,12 @@ module _ (s : System) where
     library_apart : left.core.kernel.clock ≡ k.clock
         → CodeStaysApart s (Some (Library library number)) left
     library_apart clock =
-        let h = libraries_stay_apart s library number in
-        let owners = owners_apart s library number in
+        let h = library_stays s library number in
         record {
+          kernel = λ none. h.kernel (writes_none (serves_kernel library) none);
+          intrman = λ is. h.intrman (eqb-true library INTRMAN is);
           objects = λ kind other. h.objects kind (differs _ _ other);
-          threads = λ other.
-              threads_by library left.core.kernel left.libraries h other (library == INTRMAN) refl;
+          threads = λ other. threads_by library left h other (library == INTRMAN) refl;
           irqs = λ other plain. h.irqs (differs _ _ other);
           timers = λ other plain. h.timers (differs _ _ other);
           handler = λ plain. h.handler;
@@ -73,8 +77,8 @@ module _ (s : System) where
               h.interrupts (differs _ _ other) (differs _ _ another);
           dispatching = λ other ends. h.dispatching (differs _ _ other);
           clock = clock;
-          libraries = λ other. owners.0 (differs _ _ other);
-          blocks = λ other another. owners.1 (differs _ _ other) (differs _ _ another);
+          libraries = λ other. h.libraries (differs _ _ other);
+          blocks = λ other another. h.blocks (differs _ _ other) (differs _ _ another);
           memory = library_writes_nothing s library number;
         }
 
@@ -95,32 +99,19 @@ module _ (s : System) where
   returns_only None = refl
   returns_only (Some id) = cond_both (id == LOADER) _ _ EndsOnly (λ loader. refl) (λ other. refl)
 
-  thread_apart : (left : Left Core) → EndsOnly left
-      → CodeStaysApart s (Some ThreadReturn) (on_core s left).state
-  thread_apart left only = record {
+  ended_apart : (call : Option Call) → ends_thread call ≡ true → calls_threads call ≡ true
+      → changes_kernel call ≡ true → calls_into INTRMAN call ≡ false → (left : Left Core)
+      → EndsOnly left → CodeStaysApart s call (on_core s left).state
+  ended_apart call ending threading changing no_intrman left only = record {
+    kernel = λ none. absurd (cc (none, changing));
+    intrman = λ is. absurd (cc (is, no_intrman));
     objects = λ kind other. keeps_by k _ _ only (own_objects k) kind;
-    threads = λ ends. absurd (cc ends);
+    threads = λ none. absurd (cc (none, threading));
     irqs = λ other plain. ap (λ (l : Kernel). l.irqs) only;
     timers = λ other plain. ap (λ (l : Kernel). l.timers) only;
     handler = λ plain. ap (λ (l : Kernel). l.handler) only;
-    interrupts = λ other another plain ends. absurd (cc ends);
-    dispatching = λ other ends. absurd (cc ends);
-    clock = ap (λ (l : Kernel). l.clock) only;
-    libraries = λ other. refl;
-    blocks = λ other another. refl;
-    memory = λ none. refl;
-  }
-
-  module_apart : (left : Left Core) → EndsOnly left
-      → CodeStaysApart s (Some ModuleReturn) (on_core s left).state
-  module_apart left only = record {
-    objects = λ kind other. keeps_by k _ _ only (own_objects k) kind;
-    threads = λ ends. absurd (cc ends);
-    irqs = λ other plain. ap (λ (l : Kernel). l.irqs) only;
-    timers = λ other plain. ap (λ (l : Kernel). l.timers) only;
-    handler = λ plain. ap (λ (l : Kernel). l.handler) only;
-    interrupts = λ other another plain ends. absurd (cc ends);
-    dispatching = λ other ends. absurd (cc ends);
+    interrupts = λ other another plain ends. absurd (cc (ends, ending));
+    dispatching = λ other ends. absurd (cc (ends, ending));
     clock = ap (λ (l : Kernel). l.clock) only;
     libraries = λ other. refl;
     blocks = λ other another. refl;
@@ -130,6 +121,8 @@ module _ (s : System) where
   -- nothing changes
   nothing_apart : (call : Option Call) → CodeStaysApart s call s
   nothing_apart call = record {
+    kernel = λ none. refl;
+    intrman = λ is. refl;
     objects = λ kind other. own_objects k kind;
     threads = λ other. refl;
     irqs = λ other plain. refl;
@@ -150,6 +143,8 @@ module _ (s : System) where
   handler_apart handler value =
       let is = (gives_to k handler.cause value).is in
       record {
+        kernel = λ none. absurd (cc none);
+        intrman = λ is. absurd (cc is);
         objects = λ kind other. keeps_by k _ _
             (ap (λ (l : Kernel). record l { interrupts = true; handler = None }) is)
             (own_objects k) kind;
@@ -175,10 +170,12 @@ module _ (s : System) where
       → CodeStaysApart s o (calls s o).left.state
   calls_apart None clock = nothing_apart None
   calls_apart (Some ThreadReturn) clock =
-      thread_apart (exits_by s.core (caller s.core)) (exits_only (caller s.core))
+      ended_apart (Some ThreadReturn) refl refl refl refl (exits_by s.core (caller s.core))
+      (exits_only (caller s.core))
   calls_apart (Some HandlerReturn) clock = handlers_apart k.handler
   calls_apart (Some ModuleReturn) clock =
-      module_apart (returns_by s.core (caller s.core)) (returns_only (caller s.core))
+      ended_apart (Some ModuleReturn) refl refl refl refl (returns_by s.core (caller s.core))
+      (returns_only (caller s.core))
   calls_apart (Some (Library library number)) clock = library_apart library number clock
 
 pub codes_stay_apart : CodesStayApart

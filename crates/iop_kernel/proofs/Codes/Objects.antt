@@ -7,10 +7,9 @@ use Rattle.iop_services.specs.declared.service.Service.{Service}
 use Rattle.iop_services.specs.declared.service.Service.TheVariants.{Thsemap, Thevent, Thmsgbx}
 use Rattle.iop_thread.specs.declared.kind.Kind.{Kind}
 use Rattle.iop_thread.specs.declared.kind.Kind.TheVariants.{Semaphore, EventFlag, Mailbox}
-use Rattle.iop_kernel.specs.CodeLaws.{is_of_kind, calls_kind, CodeStaysApart}
+use Rattle.iop_kernel.specs.CodeLaws.{is_of_kind, calls_kind, KeepsObjects, CodeStaysApart}
 use Rattle.iop_kernel.specs.Histories.{called_by, called_of, called}
 use Rattle.iop_kernel.specs.Kinds.{library_of, table}
-use Rattle.iop_kernel.specs.Laws.{KeepsObjects}
 use Rattle.iop_kernel.specs.Serving.{call_of, calls_row, calls_library, calls, services}
 use Rattle.iop_kernel.specs.System.{Kernel, System}
 use Rattle.iop_kernel.specs.declared.call.Call.{Call}

@@ -24,10 +24,10 @@ use Rattle.iop_thread.specs.declared.kind.Kind.{Kind}
 use Rattle.iop_thread.specs.declared.kind.Kind.TheVariants.{Semaphore, EventFlag, Mailbox}
 use Rattle.iop_thread.specs.declared.thread.TheConstants.{LOADER}
 use Rattle.iop_kernel.specs.Boards.{Board}
+use Rattle.iop_kernel.specs.CodeLaws.{KeepsObjects}
 use Rattle.iop_kernel.specs.Handlers.{gives_result, returns_handler}
 use Rattle.iop_kernel.specs.Histories.{Called, answer_of, succeeds_by, call_with, message_by, called_by, called_of, called}
 use Rattle.iop_kernel.specs.Kinds.{State, Wants, Live, Table, table, library_of}
-use Rattle.iop_kernel.specs.Laws.{KeepsObjects}
 use Rattle.iop_kernel.specs.ObjectServices.{unknown, waits_for, deletes_object, refers_to, refers_at}
 use Rattle.iop_kernel.specs.Serving.{call_of, serves, calls_row, calls_library, calls, services}
 use Rattle.iop_kernel.specs.System.{Core, Left, System, Done, Served, answered, answers, faults, caller, code_word, in_handler}
@@ -37,7 +37,7 @@ use Rattle.iop_kernel.specs.declared.active_handler.Cause.{Cause}
 use Rattle.iop_kernel.specs.declared.active_handler.Cause.TheVariants.{Line, Alarm}
 use Rattle.iop_kernel.specs.declared.call.Call.{Call}
 use Rattle.iop_kernel.specs.declared.call.Call.TheVariants.{Library, ThreadReturn, HandlerReturn, ModuleReturn}
-use Rattle.iop_kernel.proofs.Apart.{serves_apart, exits_apart}
+use Rattle.iop_kernel.proofs.Codes.Libraries.{serves_apart, exits_apart}
 use Rattle.iop_kernel.proofs.Bodies.KindTables.{own_table}
 use Rattle.iop_kernel.proofs.Histories.Telling.{Tells, TellsBy, none_changes, deletes_told}
 use Rattle.iop_kernel.proofs.Placing.Objects.{waiters_leave_states}

@@ -1,5 +1,6 @@
 -- Each service of the kernel does to the messages of mailboxes what the history of calls tells.
-use Rattle.std.proofs.Common.{◌≡◌, ℕ, ◌<◌, ◌==◌, not, true, false, inl, inr, Option, Some, None, Result, Ok, Err, [], ◌∷◌, ◌++◌, length, refl, ap, ◌∙◌, subst, arith}
+use Rattle.std.proofs.Common.{◌≡◌, ℕ, ◌<◌, ◌==◌, not, true, false, inl, inr, Option, Some, None, All, Result, Ok, Err, [], ◌∷◌, ◌++◌, length, refl, ap, ◌∙◌, subst, arith}
+use Rattle.std.specs.Prelude.{is_some}
 use Rattle.std.proofs.lemmas.Bool.{and_left, and_right, cond_both, eq-eqb}
 use Rattle.iop_base.specs.Numbers.{wrapped}
 use Rattle.iop_base.specs.declared.code.Code.{Code}
@@ -18,11 +19,12 @@ use Rattle.iop_services.specs.declared.thmsgbx_service.ThmsgbxService.TheVariant
 use Rattle.iop_stubs.specs.Stubs.{Memory, after_store}
 use Rattle.iop_thread.specs.declared.kind.Kind.TheVariants.{Mailbox as MailboxOf}
 use Rattle.iop_kernel.specs.Boards.{Board, board_of, word_in, bytes_of_words}
-use Rattle.iop_kernel.specs.Histories.{is_send, is_receive, has_waiter, word_or, received_by, message_by, call_with, called}
+use Rattle.iop_kernel.specs.Histories.{is_send, is_receive, has_waiter, word_at, received_by, message_by, call_with, called}
 use Rattle.iop_kernel.specs.Mailboxes.{creates_mbx_at, leaves_mailboxes, message_priority, queues_by, queues_message, sends_by, receives_by, receives_or_waits, waits_mbx_at, polls_mbx_at, mailbox_words, serves_thmsgbx}
 use Rattle.iop_kernel.specs.Overdue.{AreIdle, NoneOverdue}
 use Rattle.iop_kernel.specs.Serving.{serves, services}
 use Rattle.iop_kernel.specs.System.{Core, Left, System, Done, argument, answers, faults, caller, may_switch, code_word, words_place}
+use Rattle.iop_kernel.specs.WaiterPlaces.{HavePlaces}
 use Rattle.iop_kernel.specs.declared.mailboxes.TheConstants.{MAILBOX_WORDS, MAILBOX_STATUS_WORDS}
 use Rattle.iop_kernel.proofs.Histories.Calls.{board_core, word_tells, one_waits, none_waits, TellsOf, CoreTells, waits_tell, deletes_tell, status_tells, ItTells, others_tell, services_tell}
 use Rattle.iop_kernel.proofs.Histories.Calls as telling
@@ -30,6 +32,7 @@ use Rattle.iop_kernel.proofs.Histories.DeliveredHistories.{delivers, elsewhere_d
 use Rattle.iop_kernel.proofs.Histories.Telling.{TellsBy, one_becomes, one_changes, creates_told, unless}
 use Rattle.iop_kernel.proofs.Keeping.Memory.{words_inside}
 use Rattle.iop_kernel.proofs.Placing.Objects.{waiters_leave_states}
+use Rattle.iop_kernel.proofs.Placing.ObjectsKept.{chosen_one}
 use Rattle.iop_kernel.proofs.Placing.Queues.{none_chosen}
 use Rattle.iop_kernel.proofs.Readings.WordBytes.{first_at}
 
@@ -61,12 +64,11 @@ module _ (b : Board) (registers : 2 < length b.core.cpu.regs) where
   abbrev BoardDelivers : Service → Done Board → Type 0
   BoardDelivers x d = TellsOf MailboxOf delivers c x (board_core d) (message_in x d)
 
-  -- a word that was written at a place, if there is one, stands there
-  word_there : (at word : ℕ) (o : Option ℕ) → words_place b.memory at 1 ≡ o
-      → word_or (after_store b.memory o (bytes_of_words (word ∷ []))) o (wrapped word)
-      ≡ wrapped word
-  word_there at word None is = refl
-  word_there at word (Some place) is =
+  -- a word that was written at a place stands there
+  word_there : (at word : ℕ) (o : Option ℕ) → words_place b.memory at 1 ≡ o → is_some o ≡ true
+      → word_at (after_store b.memory o (bytes_of_words (word ∷ []))) o ≡ wrapped word
+  word_there at word None is there = absurd (cc there)
+  word_there at word (Some place) is there =
       first_at b.memory.ram place (word ∷ []) (words_inside b.memory at 1 place is) (omega arith)
 
   -- a call that answers a code other than 0 delivers nothing, nor does one that faults
@@ -132,7 +134,12 @@ module _ (b : Board) (registers : 2 < length b.core.cpu.regs) where
         (λ room. queues_delivers (message_priority b.memory x.attr message))
         (λ full. refused Send NO_MEMORY refl)
 
-  module _ (idle : AreIdle MailboxOf boxes) where
+  -- a thread that waits for a message has a place for it
+  abbrev HasItsPlace : Queued (Waiter ℕ) → Type 0
+  HasItsPlace x = is_some (words_place b.memory x.item.wants 1) ≡ true
+
+  module _ (idle : AreIdle MailboxOf boxes)
+      (places : All HasItsPlace (waiters_of boxes to_id)) where
     -- where a thread is chosen among those that wait there is no message
     no_message : (x : Mailbox) → state_of boxes to_id ≡ Some x → (one : Choice (Waiter ℕ))
         → chooses (is_by_priority boxes to_id) (waiters_of boxes to_id) ≡ Some one
@@ -163,7 +170,9 @@ module _ (b : Board) (registers : 2 < length b.core.cpu.regs) where
         let did = word_tells c registers 0 in
         let waited = one_waits (is_by_priority boxes to_id) (waiters_of boxes to_id) one is in
         let its : message_in Send d ≡ wrapped message =
-        rw (did, is) (word_there at message (words_place b.memory at 1) refl) in
+        rw (did, is) (word_there at message (words_place b.memory at 1) refl
+        (chosen_one HasItsPlace (is_by_priority boxes to_id) (waiters_of boxes to_id) one is
+        places)) in
         let sent : sent_of to_id (Some call) ≡ wrapped message ∷ [] = rw (own, did) refl in
         let received : received_of to_id (Some call) ≡ wrapped message ∷ [] =
         ap (λ (m : ℕ). received_of to_id (Some (call_with c Send (board_core d) m))) its
@@ -193,7 +202,7 @@ module _ (b : Board) (registers : 2 < length b.core.cpu.regs) where
 
   -- a message is received
   module _ (x : Service) (no_send : is_send x ≡ false) (receipt : is_receive x ≡ true)
-      (reads : (after : Memory) → received_by c b.memory after x ≡ word_or after place_of 0) where
+      (reads : (after : Memory) → received_by c b.memory after x ≡ word_at after place_of) where
     got_delivers : (place : ℕ) → place_of ≡ Some place → (box : Mailbox)
         → state_of boxes from_id ≡ Some box → (one : Choice ℕ)
         → next_message box ≡ Some one → BoardDelivers x (receives_by b place
@@ -206,8 +215,8 @@ module _ (b : Board) (registers : 2 < length b.core.cpu.regs) where
         let own = eq-eqb from_id from_id refl in
         let did = word_tells c registers 0 in
         let its : message_in x d ≡ wrapped item =
-        rw did (reads d.left.state.memory ∙ ap (λ o. word_or d.left.state.memory o 0) stands
-        ∙ word_there (argument c 0) item (Some place) stands) in
+        rw did (reads d.left.state.memory ∙ ap (word_at d.left.state.memory) stands
+        ∙ word_there (argument c 0) item (Some place) stands refl) in
         let none : sent_of from_id (Some call) ≡ [] = rw no_send refl in
         let received : received_of from_id (Some call) ≡ wrapped item ∷ [] =
         ap (λ (m : ℕ). received_of from_id (Some (call_with c x (board_core d) m))) its
@@ -253,7 +262,7 @@ module _ (b : Board) (registers : 2 < length b.core.cpu.regs) where
       (λ cannot. refused Receive CANNOT_WAIT refl _)
 
 module _ (s : System) (registers : 2 < length s.core.cpu.regs)
-    (overdue : NoneOverdue s.core.kernel) where
+    (overdue : NoneOverdue s.core.kernel) (places : HavePlaces s.memory s.core.kernel) where
   -- each service
   each : (x : Service) → ItTells MailboxOf delivers s x (serves s x)
   unfolding serves serves_thmsgbx
@@ -265,6 +274,7 @@ module _ (s : System) (registers : 2 < length s.core.cpu.regs)
       (object_of s.core.kernel.mailboxes.live (argument s.core 0)) _
   each (Thmsgbx SendMbx) =
       sends_delivered (board_of s) registers (overdue.objects MailboxOf)
+      (places MailboxOf (argument s.core 0))
       (state_of s.core.kernel.mailboxes (argument s.core 0)) refl
   each (Thmsgbx ReceiveMbx) =
       let at = argument s.core 0 in
@@ -279,8 +289,8 @@ module _ (s : System) (registers : 2 < length s.core.cpu.regs)
 
 -- each service delivers as it is called, where the processor has its registers
 pub services_deliver : (s : System) (code : ℕ) → 2 < length s.core.cpu.regs
-    → NoneOverdue s.core.kernel
+    → NoneOverdue s.core.kernel → HavePlaces s.memory s.core.kernel
     → TellsBy delivers s.core.kernel.mailboxes (services s code).left.state.core.kernel.mailboxes
     (called s code)
-services_deliver s code registers overdue =
-    services_tell MailboxOf delivers s registers (each s registers overdue) code
+services_deliver s code registers overdue places =
+    services_tell MailboxOf delivers s registers (each s registers overdue places) code

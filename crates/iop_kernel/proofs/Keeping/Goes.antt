@@ -3,6 +3,7 @@
 use Rattle.std.proofs.Common.{◌≡◌, ℕ, ◌+◌, ◌≤◌, Bool, true, false, not, ◌&&◌, ◌||◌, is_some, Option, Some, None, List, [], ◌∷◌, refl, ap, sym, ◌∙◌, subst, arith}
 use Rattle.std.proofs.lemmas.Bool.Decides.{nat_tests}
 use Rattle.iop_base.specs.Piece.{Piece}
+use Rattle.iop_base.specs.declared.guest_fault.GuestFault.{GuestFault}
 use Rattle.iop_exec.specs.declared.cpu.Cpu.{Cpu}
 use Rattle.iop_exec.proofs.RowKeeps.{steadies}
 use Rattle.iop_thread.specs.Laws.{AreSteady}
@@ -21,10 +22,10 @@ use Rattle.iop_kernel.specs.ThreadWaits.{waits}
 use Rattle.iop_kernel.specs.Waits.{wakes_all, core_leaves, core_requeues}
 use Rattle.iop_kernel.specs.declared.active_handler.ActiveHandler.{ActiveHandler}
 use Rattle.iop_kernel.specs.declared.after.After.{After}
-use Rattle.iop_kernel.specs.declared.after.After.TheVariants.{Resume, Switch}
+use Rattle.iop_kernel.specs.declared.after.After.TheVariants.{Resume, Switch, Fault}
 use Rattle.iop_kernel.proofs.Keeping.Core.{HoldsAlone, Alone, WouldSwitch, would_switch, with_them, running_steady}
 use Rattle.iop_kernel.proofs.Keeping.Leaving.{blocked_waits}
-use Rattle.iop_kernel.proofs.Keeping.RunningThread.{RunsOn, running_suspends, caller_runs, no_caller}
+use Rattle.iop_kernel.proofs.Keeping.RunningThread.{RunsOn, running_suspends, caller_runs, no_caller, registers_by}
 
 -- by the thread and the handler that run, one does
 pub one_runs : (o : Option ActiveHandler) (running : Option ℕ)
@@ -116,6 +117,16 @@ module _ (s : System) where
   pub still : Goes now
   still = numbered now.kernel.timers.next (omega arith)
 
+  -- and nothing where the `syscall` faults
+  pub faulted : (kind : GuestFault) → Went (Fault kind) s []
+  faulted kind = record {
+    alone = λ placed h. h;
+    answers = λ resumes. absurd (cc resumes);
+    numbers = omega arith;
+    follows = λ id placed is. (refl, refl);
+    handler_follows = λ handler is. (refl, refl);
+  }
+
   -- other threads stand there, of which the same one runs
   pub threads_go : (t : ThreadTable) → (AreSteady table → AreSteady t)
       → (IsPlaced table → RunsOn table t) → Goes (with_threads now t)
@@ -161,7 +172,8 @@ module _ (s : System) where
   pub leaves : (d : System) → Called → (IsPlaced table → Alone now → Alone d.core)
       → d.core.kernel.timers.next ≤ now.kernel.timers.next + 1
       → (IsPlaced table → d.core.kernel.threads.running ≡ None)
-      → ((id : ℕ) → IsPlaced table → caller now ≡ Some id → HasLeft d.core.kernel.threads id)
+      → ((id : ℕ) → IsPlaced table → caller now ≡ Some id
+      → HasLeft now.cpu d.core.kernel.threads id)
       → Went Switch d []
   leaves d called alone numbers none left = record {
     alone = alone;
@@ -186,8 +198,10 @@ module _ (s : System) where
       (λ placed. ((moves_waits c.kernel.threads (subst IsPlaced (sym same) placed)).blocks wait
       registers).running)
       (λ id placed is.
-      blocked_waits c.kernel.threads (subst IsPlaced (sym same) placed) id
-      (ap (λ (t : ThreadTable). t.running) same ∙ caller_runs now id is) wait registers)
+      subst (λ (own : Cpu). HasLeft own (threads.blocks c.kernel.threads wait registers) id)
+      (registers_by now id is c.kernel.handler g.handler c.cpu ∙ g.processor)
+      (blocked_waits c.kernel.threads (subst IsPlaced (sym same) placed) id
+      (ap (λ (t : ThreadTable). t.running) same ∙ caller_runs now id is) wait registers))
 
   -- a thread that does not call does not run, where one calls
   pub runs_not : (at id : ℕ) → caller now ≡ Some id → is_it (caller now) at ≡ false

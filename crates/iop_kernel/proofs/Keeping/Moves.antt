@@ -7,6 +7,7 @@ use Rattle.std.proofs.lemmas.Bool.Decides.{nat_tests}
 use Rattle.iop_base.specs.Piece.{Piece}
 use Rattle.iop_base.specs.declared.code.Code.{Code}
 use Rattle.iop_base.specs.declared.code.TheConstants.Code.{OK, OBJECT_DELETED, WAIT_RELEASED}
+use Rattle.iop_base.specs.declared.guest_fault.GuestFault.TheVariants.{Address, Service}
 use Rattle.iop_exec.specs.Row.{reg, with_reg}
 use Rattle.iop_exec.specs.declared.cpu.Cpu.{Cpu}
 use Rattle.iop_thread.specs.Laws.{AreSteady}
@@ -20,6 +21,7 @@ use Rattle.iop_thread.proofs.Placed.{keeps_places}
 use Rattle.iop_thread.proofs.Waits.{moves_waits}
 use Rattle.iop_time.specs.Timers.{Timers, is_alarm_of, sets_alarm, cancels}
 use Rattle.iop_time.specs.declared.clock.TheConstants.{MOST_ALARMS}
+use Rattle.iop_kernel.specs.Callers.{HasLeft}
 use Rattle.iop_kernel.specs.Callers.HasLeft.{ends, goes}
 use Rattle.iop_kernel.specs.Handlers.{handler_returned}
 use Rattle.iop_kernel.specs.Laws.{HasReturned}
@@ -29,11 +31,11 @@ use Rattle.iop_kernel.specs.ThreadStarts.{ended}
 use Rattle.iop_kernel.specs.Waits.{wakes_with}
 use Rattle.iop_kernel.specs.declared.active_handler.ActiveHandler.{ActiveHandler}
 use Rattle.iop_kernel.proofs.Keeping.Core.{would_switch, with_them, ended_alone, running_steady}
-use Rattle.iop_kernel.proofs.Keeping.Goes.{Called, Goes, Went, one_runs, is_there, caller_runs_by, answered_alone, numbered, still, threads_go, made, woken, wakes_go, leaving_goes, requeueing_goes, leaves, waits_go, runs_not, suspended_awake, rotated, rotated_alone}
+use Rattle.iop_kernel.proofs.Keeping.Goes.{Called, Goes, Went, one_runs, is_there, caller_runs_by, answered_alone, numbered, still, faulted, threads_go, made, woken, wakes_go, leaving_goes, requeueing_goes, leaves, waits_go, runs_not, suspended_awake, rotated, rotated_alone}
 use Rattle.iop_kernel.proofs.Keeping.Handlers.{gives_to, returned_alone, kept_steady, returns_handler_follows}
 use Rattle.iop_kernel.proofs.Keeping.Leaving.{ended_dormant, rotated_ready, deleted_gone}
 use Rattle.iop_kernel.proofs.Keeping.Meetings.{met_of, threads_met}
-use Rattle.iop_kernel.proofs.Keeping.RunningThread.{running_rotates, none_rotates, running_terminates, running_suspends, caller_runs, no_caller}
+use Rattle.iop_kernel.proofs.Keeping.RunningThread.{running_rotates, none_rotates, running_terminates, running_suspends, caller_runs, no_caller, own_registers}
 use Rattle.iop_kernel.proofs.Walk.Moves.{Moves, CallMoves}
 
 -- to set an alarm takes one number at most
@@ -93,13 +95,8 @@ module _ (s : System) (active : is_active s.core.kernel ≡ true) where
         follows = λ id placed is. h.runs id placed is ∙ caller_runs now id is;
         handler_follows = λ handler is. h.handler ∙ is;
       };
-      faults = λ kind. record {
-        alone = λ placed h. h;
-        answers = λ resumes. absurd (cc resumes);
-        numbers = omega arith;
-        follows = λ id placed is. (refl, refl);
-        handler_follows = λ handler is. (refl, refl);
-      };
+      bad_place = faulted s Address;
+      no_thread = λ asks none. faulted s Service;
       prints = λ text. still s;
     };
     registry = λ own_library. record { registers = λ libraries. still s };
@@ -152,11 +149,12 @@ module _ (s : System) (active : is_active s.core.kernel ≡ true) where
           (λ h. ((moves_waits table h).deletes id).running));
       starts = λ id argument. threads_go s _ (λ h. (keeps_steady table h).starts id argument)
           (λ h. ((moves_waits table h).starts id argument).running);
-      ends = λ id is other. leaves s _ (is_there _ id is) (λ placed. ended_alone now) (omega arith)
+      ends = λ id is other leave.
+          leaves s _ (is_there _ id is) (λ placed. ended_alone now) (omega arith)
           (λ h. (moves_waits table h).ends_running.running)
           (λ at h calls. ends (no_loader at id is calls other)
           (ended_dormant table h at (caller_runs now at calls)));
-      ends_deleted = λ id stack left is other did.
+      ends_deleted = λ id stack left is other did leave.
           let ended_table = (ended now).kernel.threads in
           leaves s _ (is_there _ id is) (λ placed h. let alone = ended_alone now h in
           with_them (ended now) alone left (subst AreSteady (ap (λ r. r.1) did)
@@ -167,10 +165,11 @@ module _ (s : System) (active : is_active s.core.kernel ≡ true) where
           ∙ (moves_waits table h).ends_running.running)
           (λ at h calls.
           let same : id ≡ at = cc (is, calls) in
-          let gone = deleted_gone ended_table (keeps_places table h).ends_running id stack left did in
+          let gone =
+          deleted_gone ended_table (keeps_places table h).ends_running id stack left did in
           goes (no_loader at id is calls other)
           (subst (λ (n : ℕ). is_live left n ≡ false) same gone));
-      returns = λ id word is loader. record {
+      returns = λ id word is loader leave. record {
         alone = λ placed h. record {
           awake = λ none. (refl, λ outside. refl);
           steady = h.steady;
@@ -224,20 +223,22 @@ module _ (s : System) (active : is_active s.core.kernel ≡ true) where
         numbers = omega arith;
         runs = λ at placed calls. absurd (cc (is, calls));
       };
-      rotates_own = λ priority id own may is.
+      rotates_own = λ priority id own may is leave.
           leaves s _ (is_there _ id is) (λ placed h.
           answered_alone (with_threads now (rotated s priority)) 0
           (rotated_alone s priority h (λ none. would_switch _ _ _ may)))
           (omega arith) (λ placed. none_rotates table placed priority _ own)
           (λ at placed calls.
-          rotated_ready table placed at (caller_runs now at calls) priority _ own);
+          subst (λ (given : Cpu). HasLeft now.cpu (threads.rotates table priority given) at)
+          (sym (own_registers now at calls (with_reg now.cpu 2 0)))
+          (rotated_ready table placed at (caller_runs now at calls) priority now.cpu own));
       releases = λ id t wait found is.
           leaving_goes s (wakes_with now t.id WAIT_RELEASED) t.id (Some wait)
           (wakes_go s t.id (code_word WAIT_RELEASED));
       takes_wakeup = λ left is. made s (threads.takes_wakeup table) _ left is
           (threads_go s _ (λ h. (keeps_steady table h).takes_wakeup)
           (λ h. (moves_waits table h).takes_wakeup.running));
-      sleeps = λ left is may asks. waits_go s now Sleep (still s) refl may asks;
+      sleeps = λ left is may asks leave. waits_go s now Sleep (still s) refl may asks;
       wakes_up = λ id other. threads_go s _ (λ h. (keeps_steady table h).wakes_up id)
           (λ h. ((moves_waits table h).wakes_up id).running);
       cancels = λ id. threads_go s _ (λ h. (keeps_steady table h).cancels id)
@@ -256,7 +257,7 @@ module _ (s : System) (active : is_active s.core.kernel ≡ true) where
           };
       resumes = λ id other. threads_go s _ (λ h. (keeps_steady table h).resumes id)
           (λ h. ((moves_waits table h).resumes id).running);
-      delays = λ moment thread is may.
+      delays = λ moment thread is may leave.
           waits_go s _ Delay (numbered s (now.kernel.timers.next + 1) (omega arith)) refl may
           (is_there _ thread is);
     };
@@ -265,7 +266,7 @@ module _ (s : System) (active : is_active s.core.kernel ≡ true) where
       deletes = λ o found. woken s (threads_in_order kind o) deleted;
       changes = λ id x y known how. still s;
       wakes = λ id x one known chosen. wakes_go s one.one.item.thread _;
-      waits = λ id thread x wants is may known must.
+      waits = λ id thread x wants is may known must place leave.
           waits_go s _ (Object kind id) (still s) refl may (is_there _ thread is);
     };
     sets = λ own_library bits o found. woken s (threads_met (met_of o bits)) (code_word OK);
@@ -276,6 +277,7 @@ module _ (s : System) (active : is_active s.core.kernel ≡ true) where
   pub kept_calls : CallMoves P (Went s) (Called s) s
   kept_calls = record {
     unlisted = λ library number. still s;
+    no_service = faulted s Service;
     handler = λ handler is. let gives = gives_to now.kernel handler.cause (reg now.cpu 2) in
         record {
           alone = λ placed h. returned_alone now _ handler.kept gives

@@ -1,34 +1,39 @@
 -- What holds by what becomes of the caller: a service that faults leaves all as it was; and where
 -- one returns the module of the loader's thread, another thread may run.
-use Rattle.std.proofs.Common.{◌≡◌, ℕ, true, List, [], refl}
+use Rattle.std.proofs.Common.{◌≡◌, ℕ, true, None, List, [], refl}
 use Rattle.std.specs.Prelude.{⊤}
 use Rattle.iop_base.specs.Piece.{Piece}
 use Rattle.iop_base.specs.declared.guest_fault.GuestFault.{GuestFault}
+use Rattle.iop_base.specs.declared.guest_fault.GuestFault.TheVariants.{Address, Service}
 use Rattle.iop_kernel.specs.Serving.{services}
-use Rattle.iop_kernel.specs.System.{System, may_switch, opened}
+use Rattle.iop_kernel.specs.System.{System, may_switch, caller, opened}
 use Rattle.iop_kernel.specs.declared.after.After.{After}
 use Rattle.iop_kernel.specs.declared.after.After.TheVariants.{Resume, Switch, ModuleReturned, Fault}
-use Rattle.iop_kernel.proofs.Walk.Aside.{looks_aside}
-use Rattle.iop_kernel.proofs.Walk.Moves.{Ends}
+use Rattle.iop_kernel.proofs.Walk.Looks.{looks_aside}
+use Rattle.iop_kernel.proofs.Walk.Moves.{ServiceMoves, Ends}
 use Rattle.iop_kernel.proofs.Walk.Services.{services_go, asked_not}
 
 -- nothing is said before the end
-abbrev Nothing : System → List Piece → Type 0
+abbrev pub Nothing : System → List Piece → Type 0
 Nothing d given = ⊤
 
-module _ (Q : After → System → List Piece → Type 0) (s : System)
-    (resumes : (d : System) (given : List Piece) → Q Resume d given)
-    (switches : (d : System) → Q Switch d []) (faults : (kind : GuestFault) → Q (Fault kind) s [])
-    (returns : (word : ℕ) → Q (ModuleReturned word) (record s { core = opened s.core }) []) where
-  -- a `syscall` of any code ends so
-  outcomes_go : (code : ℕ) → Ends Q (services s code)
-  outcomes_go =
-      services_go (looks_aside Nothing Q ⊤ s (record {
+module _ (Q : After → System → List Piece → Type 0) (Asks MayLeave : Type 0) (s : System)
+    (switches : (d : System) → MayLeave → Q Switch d [])
+    (returns : (word : ℕ) → MayLeave
+    → Q (ModuleReturned word) (record s { core = opened s.core }) []) where
+  -- a service of a library ends so, where the cause of a fault is told
+  pub services_end : (resumes : (d : System) (given : List Piece) → Q Resume d given)
+      → (bad_place : Q (Fault Address) s [])
+      → (no_thread : Asks → caller s.core ≡ None → Q (Fault Service) s [])
+      → (library : ℕ) → ServiceMoves Nothing Q Asks s MayLeave library
+  services_end resumes bad_place no_thread =
+      looks_aside Nothing Q Asks s (record {
         each = record {
           begins = tt;
           stores = λ d given place bytes inside h. tt;
           goes_on = λ d given word h. resumes _ given;
-          faults = faults;
+          bad_place = bad_place;
+          no_thread = no_thread;
           prints = λ text. tt;
         };
         cores = λ c same. tt;
@@ -37,8 +42,19 @@ module _ (Q : After → System → List Piece → Type 0) (s : System)
         registers = λ libraries. tt;
         switches = λ d h. switches d;
         returns = returns;
-      })) (record {
+      })
+
+module _ (Q : After → System → List Piece → Type 0) (s : System)
+    (resumes : (d : System) (given : List Piece) → Q Resume d given)
+    (switches : (d : System) → Q Switch d []) (faults : (kind : GuestFault) → Q (Fault kind) s [])
+    (returns : (word : ℕ) → Q (ModuleReturned word) (record s { core = opened s.core }) []) where
+  -- a `syscall` of any code ends so
+  outcomes_go : (code : ℕ) → Ends Q (services s code)
+  outcomes_go =
+      services_go (services_end Q ⊤ ⊤ s (λ d leave. switches d) (λ word leave. returns word) resumes
+      (faults Address) (λ asks none. faults Service)) (record {
         unlisted = λ library number. tt;
+        no_service = faults Service;
         handler = λ handler is. switches _;
       }) (asked_not s)
 

@@ -1,12 +1,12 @@
 -- Which operations leave the thread that runs, and after which none runs; and that it is the one
 -- that calls, where one does.
-use Rattle.std.proofs.Common.{◌≡◌, ℕ, true, false, Option, Some, None, refl, ◌∙◌}
+use Rattle.std.proofs.Common.{◌≡◌, ℕ, true, false, Option, Some, None, refl, sym, ◌∙◌}
 use Rattle.iop_exec.specs.declared.cpu.Cpu.{Cpu}
 use Rattle.iop_thread.specs.Operations.{terminates, rotates, suspends}
 use Rattle.iop_thread.specs.Placing.{IsPlaced}
 use Rattle.iop_thread.specs.ThreadTable.{ThreadTable, is_it, has_priority, running_thread}
 use Rattle.iop_thread.proofs.Waits.{moves_waits}
-use Rattle.iop_kernel.specs.System.{Core, caller, caller_beside}
+use Rattle.iop_kernel.specs.System.{Core, caller, caller_beside, registers_beside}
 use Rattle.iop_kernel.specs.declared.active_handler.ActiveHandler.{ActiveHandler}
 
 -- the same thread runs
@@ -51,3 +51,13 @@ caller_runs c id calls = runs_beside c.kernel.handler c.kernel.threads.running i
 pub no_caller : (c : Core) (handler : ActiveHandler) → c.kernel.handler ≡ Some handler
     → caller c ≡ None
 no_caller c handler e = rw e refl
+
+-- where a thread calls, its registers are the processor's
+pub registers_by : (c : Core) (id : ℕ) → caller c ≡ Some id → (o : Option ActiveHandler)
+    → o ≡ c.kernel.handler → (cpu : Cpu) → registers_beside o cpu ≡ cpu
+registers_by c id calls None is cpu = refl
+registers_by c id calls (Some handler) is cpu = absurd (cc (calls, no_caller c handler (sym is)))
+
+pub own_registers : (c : Core) (id : ℕ) → caller c ≡ Some id → (cpu : Cpu)
+    → registers_beside c.kernel.handler cpu ≡ cpu
+own_registers c id calls = registers_by c id calls c.kernel.handler refl

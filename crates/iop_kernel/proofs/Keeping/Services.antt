@@ -9,6 +9,7 @@ use Rattle.iop_kernel.proofs.Keeping.Goes.{Went}
 use Rattle.iop_kernel.proofs.Keeping.Moves.{kept_moves, kept_calls}
 use Rattle.iop_kernel.proofs.Keeping.Stores.{services_store, has_written}
 use Rattle.iop_kernel.proofs.Overdue.Services.{services_overdue}
+use Rattle.iop_kernel.proofs.KeptPlaces.{places_in, services_have_places}
 use Rattle.iop_kernel.proofs.Placing.Services.{services_place}
 use Rattle.iop_kernel.proofs.Walk.Services.{services_go, asked_active}
 
@@ -35,4 +36,8 @@ services_keep s code active =
       clock = stored.clock;
       memory = has_written s _ _ stored;
       blocks = stored.blocks;
+      places = λ have.
+          let left = (services s code).left.state in
+          places_in s.memory left.memory left.core.kernel stored.stored.size
+          (services_have_places s code have);
     }

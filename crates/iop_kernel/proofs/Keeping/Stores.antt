@@ -12,7 +12,7 @@ use Rattle.iop_kernel.proofs.Keeping.Blocks.{same_blocks, allocating_keeps, free
 use Rattle.iop_kernel.proofs.Keeping.Handlers.{gives_to}
 use Rattle.iop_kernel.proofs.Keeping.Meetings.{stored_then}
 use Rattle.iop_kernel.proofs.Keeping.Memory.{Stored, none_stored, one_stored}
-use Rattle.iop_kernel.proofs.Walk.Aside.{looks_aside}
+use Rattle.iop_kernel.proofs.Walk.Looks.{looks_aside}
 use Rattle.iop_kernel.proofs.Walk.Moves.{Moves, CallMoves}
 use Rattle.iop_kernel.proofs.Walk.Services.{services_go, asked_not}
 
@@ -49,6 +49,9 @@ module _ (s : System) where
     blocks = kept;
   }
 
+  nothing : HasStored s []
+  nothing = none s [] refl refl (same_blocks s.blocks)
+
   -- more is
   more : (d : System) (given : List Piece) (place : ℕ) (bytes : List ℕ)
       → place + length bytes ≤ length d.memory.ram → HasStored d given
@@ -72,7 +75,7 @@ module _ (s : System) where
   stored_moves : (library : ℕ) → Moves HasStored Left ⊤ s library
   stored_moves = looks_aside HasStored Left ⊤ s (record {
     each = record {
-      begins = none s [] refl refl (same_blocks s.blocks);
+      begins = nothing;
       stores = more;
       goes_on = λ d given word h. record {
         clock = h.clock;
@@ -81,7 +84,8 @@ module _ (s : System) where
         told = h.told;
         blocks = h.blocks;
       };
-      faults = λ kind. none s [] refl refl (same_blocks s.blocks);
+      bad_place = nothing;
+      no_thread = λ asked none. nothing;
       prints = λ text. none s _ refl refl (same_blocks s.blocks);
     };
     cores = λ c same. none _ [] same refl (same_blocks s.blocks);
@@ -90,13 +94,14 @@ module _ (s : System) where
         (allocating_keeps s.blocks mode size at));
     frees = λ stack c same. none _ [] same refl (freeing_keeps s.blocks stack);
     registers = λ libraries. none _ [] refl refl (same_blocks s.blocks);
-    switches = λ d h. h;
-    returns = λ word. none _ [] refl refl (same_blocks s.blocks);
+    switches = λ d h leave. h;
+    returns = λ word leave. none _ [] refl refl (same_blocks s.blocks);
   })
 
   stored_calls : CallMoves HasStored Left ⊤ s
   stored_calls = record {
     unlisted = λ library number. none _ _ refl refl (same_blocks s.blocks);
+    no_service = nothing;
     handler = λ handler is.
         none _ [] (ap (λ (k : Kernel). k.clock) (gives_to s.core.kernel handler.cause _).is) refl
         (same_blocks s.blocks);

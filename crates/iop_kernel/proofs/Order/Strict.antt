@@ -72,14 +72,12 @@ dispatches_are_strict = record {
         core = (core_steps core).dispatches did made;
         clock = refl;
         switch = record {
-          thread = so.thread;
-          best = so.best;
+          did = did;
+          is = so;
+          left = refl;
           line = ap (λ id. Traced (line_bytes c.kernel.clock (Run id))) so.id;
-          runs = so.runs;
-          better = so.better;
           settled = none_dispatched next (λ still. so.settled next.cpu);
         };
-        kernel = refl;
         handler = none_of c.kernel.handler (grind (arith, nat_tests, may));
       }) d;
   settled = λ c core none may.

@@ -65,7 +65,8 @@ module _ (s : System) (h : NoneOverdue s.core.kernel) where
       begins = h;
       stores = λ d given place bytes inside now. now;
       goes_on = λ d given word now. now;
-      faults = λ kind. h;
+      bad_place = h;
+      no_thread = λ asked none. h;
       prints = λ text. h;
     };
     registry = λ own_library. record { registers = λ libraries. h };
@@ -84,10 +85,10 @@ module _ (s : System) (h : NoneOverdue s.core.kernel) where
           with_other_threads k h _ ((sleepers k h).creates param stack (reg s.core.cpu 28));
       deletes = λ id stack left is. threads_come k h is ((sleepers k h).deletes id);
       starts = λ id argument. with_other_threads k h _ ((sleepers k h).starts id argument);
-      ends = λ id is other. ended_so;
-      ends_deleted = λ id stack left is other did. let e = (ended s.core).kernel in
+      ends = λ id is other leave. ended_so;
+      ends_deleted = λ id stack left is other did leave. let e = (ended s.core).kernel in
           threads_come e ended_so did ((sleepers e ended_so).deletes id);
-      returns = λ id word is loader. opened_in_time k h;
+      returns = λ id word is loader leave. opened_in_time k h;
       terminates = λ id wait left other is rests.
           leaves_in_time _ (threads_come k h is ((sleepers k h).terminates id)) id wait;
       terminates_running = λ id wait left other is runs.
@@ -98,13 +99,13 @@ module _ (s : System) (h : NoneOverdue s.core.kernel) where
           wait;
       rotates = λ priority other. rotated priority;
       rotates_beside = λ priority own may is. rotated priority;
-      rotates_own = λ priority id own may is. rotated priority;
+      rotates_own = λ priority id own may is leave. rotated priority;
       releases = λ id t wait found is.
           leaves_in_time _
           (with_other_threads k h _ ((sleepers k h).wakes t.id (code_word WAIT_RELEASED))) t.id
           (Some wait);
       takes_wakeup = λ left is. threads_come k h is (sleepers k h).takes_wakeup;
-      sleeps = λ left is may asks.
+      sleeps = λ left is may asks leave.
           with_other_threads k h _
           ((sleepers k h).blocks Sleep (running_registers s.core) tt (λ asleep.
           none_to_take k.threads (running_thread k.threads)
@@ -114,7 +115,7 @@ module _ (s : System) (h : NoneOverdue s.core.kernel) where
       suspends = λ id other may.
           with_other_threads k h _ ((sleepers k h).suspends id (running_registers s.core) tt);
       resumes = λ id other. with_other_threads k h _ ((sleepers k h).resumes id);
-      delays = λ moment thread is may.
+      delays = λ moment thread is may leave.
           blocked_in_time _ (beside_in_time k h _ _ _ _ (delays k.timers moment thread) _) Delay
           (running_registers s.core) (λ asleep. cc asleep);
     };
@@ -130,7 +131,7 @@ module _ (s : System) (h : NoneOverdue s.core.kernel) where
           (with_other_objects k h kind _
           (chosen_in_time kind t due id (waits_by_priority kind x) one chosen)) _
           ((sleepers k h).wakes one.one.item.thread (code_word OK));
-      waits = λ id thread x wants is may known must.
+      waits = λ id thread x wants is may known must place leave.
           blocked_in_time _ (with_other_objects k h kind _
           (waits_in_time kind t due id x _ known must)) (Object kind id)
           (running_registers s.core) (λ asleep. cc asleep);
@@ -144,6 +145,7 @@ module _ (s : System) (h : NoneOverdue s.core.kernel) where
   in_time_calls : CallMoves InTimeSystem InTimeAfter ⊤ s
   in_time_calls = record {
     unlisted = λ library number. h;
+    no_service = h;
     handler = λ handler is.
         subst (λ (left : Kernel). NoneOverdue (record left { interrupts = true; handler = None }))
         (sym (gives_to k handler.cause (reg s.core.cpu 2)).is)

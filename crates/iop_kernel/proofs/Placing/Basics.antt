@@ -15,9 +15,8 @@ use Rattle.iop_kernel.specs.Placing.{IsPlaced}
 use Rattle.iop_kernel.specs.System.{Kernel, Core}
 use Rattle.iop_kernel.specs.ThreadStarts.{ended}
 use Rattle.iop_kernel.specs.declared.active_handler.ActiveHandler.{ActiveHandler}
-use Rattle.iop_kernel.proofs.Placing.KeptPriorities.{KeepsPriorities, keeps_priorities}
 use Rattle.iop_kernel.proofs.Placing.Live.{live_room}
-use Rattle.iop_kernel.proofs.Placing.Priorities.{KeepPriorities}
+use Rattle.iop_kernel.proofs.Placing.Priorities.{KeepPriorities, KeepsPriorities, keeps_priorities}
 use Rattle.iop_kernel.proofs.Placing.Queues.{delayed}
 use Rattle.iop_kernel.proofs.Placing.Threads.{stand}
 

@@ -27,10 +27,9 @@ use Rattle.iop_kernel.specs.System.{Kernel}
 use Rattle.iop_kernel.specs.Waits.{threads_of, wakes_all}
 use Rattle.iop_kernel.proofs.Bodies.KindTables.{for_object, own_object}
 use Rattle.iop_kernel.proofs.Placing.Basics.{places, moves, keeps, same_live}
-use Rattle.iop_kernel.proofs.Placing.KeptPriorities.{keep_blocks}
 use Rattle.iop_kernel.proofs.Placing.Objects.{IsBut, with_waiters_but}
 use Rattle.iop_kernel.proofs.Placing.ObjectsKept.{all_but_chosen}
-use Rattle.iop_kernel.proofs.Placing.Priorities.{all_waiting}
+use Rattle.iop_kernel.proofs.Placing.Priorities.{all_waiting, keeps_priorities}
 use Rattle.iop_kernel.proofs.Placing.QueuedPriorities.{queued_on}
 use Rattle.iop_kernel.proofs.Placing.Queues.{times_added, times_in, times_in_last, times_in_order, chosen_split}
 use Rattle.iop_kernel.proofs.Placing.Rooms.{fewer_delays, runs_undelayed}
@@ -52,7 +51,7 @@ module _ (k : Kernel) (h : IsPlaced k) (wait : Wait) (registers : Cpu) where
         before = running_waits_not k.threads h.threads;
         after = moved.waits;
         alike = λ asks same. sym same;
-        priorities = (keeps k h).blocks wait registers;
+        priorities = all_waiting ((keeps k h).blocks wait registers);
       }
 
   -- a list of the threads for whose waits something is true has the running one more
@@ -99,7 +98,7 @@ module _ (kind : Kind) (k : Kernel) (h : IsPlaced k) (id : ℕ) where
       })))
   blocked_placed registers thread runs x known wants =
       let left = threads.blocks k.threads (Object kind id) registers in
-      let keep = keep_blocks k.threads h.threads (Object kind id) registers in
+      let keep = (keeps_priorities k.threads h.threads).blocks (Object kind id) registers in
       let last : Queued (Waiter (Wants kind)) = record {
         priority = priority_of k.threads.live thread;
         item = record { thread = thread; wants = wants };

@@ -31,8 +31,8 @@ use Rattle.iop_kernel.specs.System.{Kernel}
 use Rattle.iop_kernel.specs.Waits.{leaves_object, requeues_at}
 use Rattle.iop_kernel.proofs.Keeping.Meetings.{threads_met}
 use Rattle.iop_kernel.proofs.Placing.Basics.{second, places, moves, keeps, same_live, timers_placed}
-use Rattle.iop_kernel.proofs.Placing.KeptPriorities.{changes_priority}
 use Rattle.iop_kernel.proofs.Placing.Live.{no_more_live}
+use Rattle.iop_kernel.proofs.Placing.Priorities.{changes_priority}
 use Rattle.iop_kernel.proofs.Placing.Queues.{times_in}
 use Rattle.iop_kernel.proofs.Placing.Threads.{stand, placed_changes, placed_leaves, asleep_turns}
 use Rattle.iop_kernel.proofs.Placing.Turns.{one_turns}
@@ -94,7 +94,7 @@ changed_placed k h id priority wait left is =
     let moved = (moves k h).changes id priority in
     second (λ left. IsPlaced (requeues_at (record k { threads = left }) id priority wait)) is
     (placed_changes k h _ placed (same_live k h placed moved.live) moved.waits id priority wait
-    (changes_priority k.threads id priority wait
+    (changes_priority k.threads h.threads id priority wait
     (ap (λ (r : Result (Option Wait) Code × ThreadTable). r.0) is)))
 
 -- a wakeup ends sleep alone

@@ -11,7 +11,7 @@ use Rattle.iop_objects.specs.WaiterQueues.{is_thread, without, with_priority, re
 use Rattle.iop_objects.specs.declared.queued.Queued.{Queued}
 use Rattle.iop_objects.specs.declared.waiter.Waiter.{Waiter}
 use Rattle.iop_objects.proofs.QueuesChosen.{queues_chosen}
-use Rattle.iop_kernel.specs.Laws.{KeepsObjects}
+use Rattle.iop_kernel.specs.CodeLaws.{KeepsObjects}
 use Rattle.iop_kernel.proofs.Placing.Objects.{with_waiters_but, waiters_now, waiters_leave_states}
 
 module _ {W : Type 0} where
@@ -65,7 +65,25 @@ module _ {W : Type 0} where
       All-cons Each y (ys ++ behind) (All-head Each y (ys ++ x ∷ behind) all)
       (without_one Each ys behind x (All-tail Each y (ys ++ x ∷ behind) all))
 
-  -- what holds of each holds of those that are not chosen
+  -- or stands there
+  the_one : (Each : Queued (Waiter W) → Type 0) (before behind : List (Queued (Waiter W)))
+      (x : Queued (Waiter W)) → All Each (before ++ x ∷ behind) → Each x
+  the_one Each [] behind x all = All-head Each x behind all
+  the_one Each (y ∷ ys) behind x all =
+      the_one Each ys behind x (All-tail Each y (ys ++ x ∷ behind) all)
+
+  -- what holds of each holds of the one that is chosen
+  pub chosen_one : (Each : Queued (Waiter W) → Type 0) (by_priority : Bool)
+      (waiters : List (Queued (Waiter W))) (c : Choice (Waiter W))
+      → chooses by_priority waiters ≡ Some c → All Each waiters → Each c.one
+  chosen_one Each true waiters c chosen all =
+      let taken = (queues_chosen.by_priority waiters c chosen).taken in
+      the_one Each taken.before taken.behind c.one (subst (All Each) taken.queue_is all)
+  chosen_one Each false [] c chosen all = absurd (cc chosen)
+  chosen_one Each false (x ∷ xs) c chosen all =
+      let same : x ≡ c.one = cc in subst Each same (All-head Each x xs all)
+
+  -- and of those that are not
   pub all_but_chosen : (Each : Queued (Waiter W) → Type 0) (by_priority : Bool)
       (waiters : List (Queued (Waiter W))) (c : Choice (Waiter W))
       → chooses by_priority waiters ≡ Some c → All Each waiters → All Each c.others

@@ -1,25 +1,24 @@
 -- The priorities of threads after each operation: only that of the thread whose priority changes is
 -- another, and that of one that is made, started or deleted, which waits for nothing.
-use Rattle.std.proofs.Common.{◌≡◌, ℕ, ◌-◌, ◌+◌, ◌==◌, min, nat_lt, Bool, true, false, if◌then◌else◌, Option, Some, None, refl, ap, sym, ◌∙◌}
+use Rattle.std.proofs.Common.{◌≡◌, ◌≢◌, ℕ, ◌==◌, Bool, true, false, is_ok, Option, Some, None, Result, Ok, refl, ap, sym, ◌∙◌}
 use Rattle.std.specs.Prelude.{option_map, unwrap_or}
-use Rattle.std.proofs.lemmas.Bool.{cond_both, eqb-true, ne_eqb}
+use Rattle.std.proofs.lemmas.Bool.{cases_eq, cond_both, eqb-false, ne_eqb}
+use Rattle.std.proofs.lemmas.Option.{same_Some}
+use mathlib.Core.Logic.{◌⊎◌, inl, inr}
+use Rattle.iop_base.specs.declared.code.Code.{Code}
 use Rattle.iop_exec.specs.declared.cpu.Cpu.{Cpu}
-use Rattle.iop_thread.specs.Operations.{dormant_thread, creates, deletes_it, starts_it, begins_it, ends_it, terminates_it, rotates_ready, rotates_it, blocks_it, wakes, wakes_in, wakes_it, suspends_it, resumes_in, resumes_it, wakes_up_it, cancels_it, takes_wakeup_it}
-use Rattle.iop_thread.specs.Placing.{IsPlaced}
-use Rattle.iop_thread.specs.States.{is_dormant, wait_in, sleeps, suspended_state, with_answer, first_registers}
-use Rattle.iop_thread.specs.ThreadTable.{ThreadTable, thread_of, priority_of, as_at_first, first_ready, with_wakeups, leaves, ready_last, runs, has_room}
+use Rattle.iop_thread.specs.Changes.{woken_up, Turns, TurnsRunning, Rotates, Switches}
+use Rattle.iop_thread.specs.Operations.{Dispatch, creates, deletes, starts, begins, ends_running, terminates, changes, changes_it, rotates, blocks, wakes, suspends, resumes, wakes_up, cancels, takes_wakeup, dispatches}
+use Rattle.iop_thread.specs.Placing.{IsPlaced, is_in_state}
+use Rattle.iop_thread.specs.States.{is_dormant, wait_in, sleeps}
+use Rattle.iop_thread.specs.ThreadTable.{ThreadTable, thread_of, priority_of, has_priority, running_thread}
 use Rattle.iop_thread.specs.Waits.{wait_of}
 use Rattle.iop_thread.specs.declared.kind.Kind.{Kind}
 use Rattle.iop_thread.specs.declared.param.Param.{Param}
-use Rattle.iop_thread.specs.declared.state.State.{State}
-use Rattle.iop_thread.specs.declared.state.State.TheVariants.{Dormant, Running, Ready, Waiting, Suspended, WaitingSuspended}
 use Rattle.iop_thread.specs.declared.thread.Thread.{Thread}
-use Rattle.iop_thread.specs.declared.thread.TheConstants.{MOST_WAKEUPS}
 use Rattle.iop_thread.specs.declared.wait.Wait.{Wait}
 use Rattle.iop_thread.specs.declared.wait.Wait.TheVariants.{Object}
-use Rattle.iop_thread.proofs.FindingThreads.{Finds, finds_by_id, either_way}
-use Rattle.iop_thread.proofs.LiveThreads.{changed, thread_of_changed, thread_of_without, thread_of_added, none_of_next}
-use Rattle.iop_thread.proofs.Moving.{found_there, live_leaving}
+use Rattle.iop_thread.proofs.Changes.{moves_one}
 use Rattle.iop_thread.proofs.WaitingOn.{found_wait}
 use Rattle.iop_thread.proofs.WaitsStarting.{dormant_waits}
 
@@ -48,202 +47,200 @@ other_wait s t thread wait now is was apart =
     ne_eqb t thread (λ same. apart (sym is ∙ ap (wait_of s) same ∙ was))
 
 -- the priority of the thread that was found, if one was
-abbrev pub found_priority : Option Thread → ℕ
+abbrev found_priority : Option Thread → ℕ
 found_priority o = unwrap_or (option_map (λ t. t.priority) o) 0
 
--- that of a thread after a change, by whether it is the one that changed
-priority_by : (old u : Thread) (o : Option Thread) (b : Bool) → (b ≡ true → o ≡ Some old)
-    → found_priority (if b then option_map (λ v. u) o else o)
-    ≡ (if b then u.priority else found_priority o)
-priority_by old u o true found = rw (found refl) refl
-priority_by old u o false found = refl
+-- what a change of a thread leaves
+abbrev KeepsIts : (Thread → Thread) → Type 0
+KeepsIts change = (t : Thread) → (change t).priority ≡ t.priority
+
+found_changed : (change : Thread → Thread) → KeepsIts change → (o : Option Thread)
+    → found_priority (option_map change o) ≡ found_priority o
+found_changed change kept None = refl
+found_changed change kept (Some t) = kept t
+
+-- a thread in that state waits for nothing
+dormant_none : (o : Option Thread) → unwrap_or (option_map (λ t. is_dormant t.state) o) false ≡ true
+    → found_wait o ≡ None
+dormant_none None is = refl
+dormant_none (Some t) is = dormant_waits t.state is
 
 module _ (s : ThreadTable) where
-  -- one thread changes
-  module _ (t u : Thread) (found : thread_of s.live u.id ≡ Some t) (left : ThreadTable)
-      (same : left.live ≡ changed u s.live) where
-    pub priority_changed : (id : ℕ) → priority_of left.live id
-        ≡ (if id == u.id then u.priority else priority_of s.live id)
-    priority_changed id =
-        ap (λ live. priority_of live id) same ∙ ap found_priority (thread_of_changed s.live u id)
-        ∙ priority_by t u (thread_of s.live id) (id == u.id) (found_there s.live t u id found)
+  -- nothing changes
+  kept_same : (left : ThreadTable) → left ≡ s → KeepAll s left
+  kept_same left same = record { each = λ t. ap (λ (u : ThreadTable). priority_of u.live t) same }
 
-    -- but not its priority
-    keep_changed : u.priority ≡ t.priority → KeepAll s left
-    keep_changed kept = record { each = λ id. priority_changed id ∙ by id (id == u.id) refl }
-      where
-        by : (id : ℕ) (b : Bool) → (id == u.id) ≡ b
-            → (if b then u.priority else priority_of s.live id) ≡ priority_of s.live id
-        by id true it = kept ∙ sym (ap found_priority (found_there s.live t u id found it))
-        by id false other = refl
+  -- the thread of an id changes, but not its priority
+  kept_own : (left : ThreadTable) (id : ℕ) (change : Thread → Thread) → KeepsIts change
+      → thread_of left.live id ≡ option_map change (thread_of s.live id)
+      → priority_of left.live id ≡ priority_of s.live id
+  kept_own left id change kept is =
+      ap found_priority is ∙ found_changed change kept (thread_of s.live id)
 
-  -- its state does
-  pub keep_state : (t : Thread) → thread_of s.live t.id ≡ Some t → (state : State)
-      → (left : ThreadTable) → left.live ≡ changed (record t { state = state }) s.live
-      → KeepAll s left
-  keep_state t found state left same =
-      keep_changed t (record t { state = state }) found left same refl
+  kept_turned : (left : ThreadTable) (id : ℕ) (may : Bool) (change : Thread → Thread)
+      → KeepsIts change → Turns s left id may change → KeepAll s left
+  kept_turned left id false change kept turns = kept_same left (turns.refused refl)
+  kept_turned left id true change kept turns = record {
+    each = λ t. elim (cases_eq t id) [
+      | inl same ↦
+          ap (priority_of left.live) same ∙ kept_own left id change kept (turns.own refl)
+          ∙ ap (priority_of s.live) (sym same)
+      | inr other ↦ ap found_priority (turns.one.others t other)
+    ];
+  }
 
-  -- how often it was woken does
-  keep_wakeups : (t : Thread) → thread_of s.live t.id ≡ Some t → (wakeups : ℕ)
-      → KeepAll s (with_wakeups s t wakeups)
-  keep_wakeups t found wakeups =
-      keep_changed t (record t { wakeups = wakeups }) found (with_wakeups s t wakeups) refl refl
+  -- the running thread does
+  kept_running : (left : ThreadTable) (change : Thread → Thread) → KeepsIts change
+      → TurnsRunning s left change → KeepAll s left
+  kept_running left change kept turns = by s.running refl
+    where
+      by : (o : Option ℕ) → s.running ≡ o → KeepAll s left
+      by None is = kept_same left (turns.idle is)
+      by (Some id) is = kept_turned left id true change kept (turns.running id is).turns
 
-  -- a thread that waits for nothing comes, goes or is another
-  keep_beside : (at : ℕ) → wait_of s at ≡ None → (left : ThreadTable) (now : ℕ → Option Thread)
-      → ((id : ℕ) → thread_of left.live id ≡ (if id == at then now id else thread_of s.live id))
-      → KeepPriorities s left
-  keep_beside at none left now finds = record {
-    waiting = λ kind n id is. ap found_priority (finds id) ∙ by kind n id is (id == at) refl;
+  -- a thread that waits for nothing comes, goes or is another, or nothing changes
+  kept_beside : (left : ThreadTable) (id : ℕ)
+      → ((other : ℕ) → other ≢ id → thread_of left.live other ≡ thread_of s.live other)
+      → (wait_of s id ≡ None) ⊎ (left ≡ s) → KeepPriorities s left
+  kept_beside left id others how = record {
+    waiting = λ kind n t is. elim (cases_eq t id) [
+      | inl same ↦ elim how [
+        | inl none ↦ let waits = ap (wait_of s) same in absurd (cc (is, waits, none))
+        | inr stays ↦ (kept_same left stays).each t
+      ]
+      | inr other ↦ ap found_priority (others t other)
+    ];
+  }
+
+  -- it does so where it is dormant
+  kept_dormant : (left : ThreadTable) (id : ℕ) (may : Bool) → may ≡ is_in_state is_dormant s.live id
+      → ((other : ℕ) → other ≢ id → thread_of left.live other ≡ thread_of s.live other)
+      → (may ≡ false → left ≡ s) → KeepPriorities s left
+  kept_dormant left id true is others refused =
+      kept_beside left id others (inl (dormant_none (thread_of s.live id) (sym is)))
+  kept_dormant left id false is others refused = kept_beside left id others (inr (refused refl))
+
+  -- the ready threads of a priority are rotated
+  kept_rotated : (left : ThreadTable) (priority : ℕ) (registers : Cpu)
+      → Rotates s left priority registers → KeepAll s left
+  kept_rotated left priority registers turns =
+      by (has_priority priority (running_thread s)) refl s.running refl
+    where
+      by : (own : Bool) → has_priority priority (running_thread s) ≡ own → (o : Option ℕ)
+          → s.running ≡ o → KeepAll s left
+      by false other o is = record { each = λ t. ap found_priority (turns.stays other t) }
+      by true own None is =
+          absurd (cc (own, is))
+      by true own (Some id) is =
+          kept_turned left id true _ (λ t. refl) (turns.gives_way id is own).turns
+
+  -- one is dispatched, and the one that ran gives way
+  kept_dispatched : (registers : Cpu) (d : Dispatch) → Switches s registers d
+      → KeepAll s d.threads
+  kept_dispatched registers d turns = record {
+    each = λ t. elim (cases_eq t d.id) [
+      | inl same ↦
+          ap (priority_of d.threads.live) same ∙ kept_own d.threads d.id _ (λ u. refl) turns.runs
+          ∙ ap (priority_of s.live) (sym same)
+      | inr other ↦ by t other s.running refl
+    ];
   }
     where
-      by : (kind : Kind) (n id : ℕ) → wait_of s id ≡ Some (Object kind n) → (b : Bool)
-          → (id == at) ≡ b
-          → found_priority (if b then now id else thread_of s.live id) ≡ priority_of s.live id
-      by kind n id is true it =
-          let same = ap (wait_of s) (eqb-true id at it) in absurd (cc (is, same, none))
-      by kind n id is false other = refl
+      by : (t : ℕ) → t ≢ d.id → (o : Option ℕ) → s.running ≡ o
+          → priority_of d.threads.live t ≡ priority_of s.live t
+      by t other None is =
+          ap found_priority (turns.others t other (λ runs. absurd (cc (runs, is))))
+      by t other (Some r) is = elim (cases_eq t r) [
+        | inl same ↦
+            ap (priority_of d.threads.live) same
+            ∙ kept_own d.threads r _ (λ u. refl) (turns.gave_way r is)
+            ∙ ap (priority_of s.live) (sym same)
+        | inr apart ↦ ap found_priority
+            (turns.others t other (λ runs. apart (same_Some t r (sym runs ∙ is))))
+      ]
 
-  -- none does
-  same_all : KeepAll s s
-  same_all = record { each = λ t. refl }
+-- each operation but a change of a priority leaves those of the threads that wait for objects
+pub record KeepsPriorities (s : ThreadTable) : Type 0 where
+  pub creates : (param : Param) (stack gp : ℕ) → KeepPriorities s (creates s param stack gp).1
+  pub deletes : (id : ℕ) → KeepPriorities s (deletes s id).1
+  pub starts : (id argument : ℕ) → KeepPriorities s (starts s id argument).1
+  pub begins : (registers : Cpu) → KeepPriorities s (begins s registers)
+  pub ends_running : KeepPriorities s (ends_running s)
+  pub terminates : (id : ℕ) → KeepPriorities s (terminates s id).1
+  pub rotates : (priority : ℕ) (registers : Cpu) → KeepPriorities s (rotates s priority registers)
+  pub blocks : (wait : Wait) (registers : Cpu) → KeepAll s (blocks s wait registers)
+  pub wakes : (id answer : ℕ) → KeepAll s (wakes s id answer)
+  pub suspends : (id : ℕ) (registers : Cpu) → KeepPriorities s (suspends s id registers).1
+  pub resumes : (id : ℕ) → KeepPriorities s (resumes s id).1
+  pub wakes_up : (id : ℕ) → KeepPriorities s (wakes_up s id).1
+  pub cancels : (id : ℕ) → KeepPriorities s (cancels s id).1
+  pub takes_wakeup : KeepPriorities s (takes_wakeup s).1
+  pub dispatches : (registers : Cpu) (d : Dispatch) → dispatches s registers ≡ Some d
+      → KeepPriorities s d.threads
 
-  same_priorities : KeepPriorities s s
-  same_priorities = all_waiting same_all
+-- one that is woken keeps its own
+woken : KeepsIts woken_up
+woken t =
+    cond_both (sleeps (wait_in t.state)) _ _ (λ (u : Thread). u.priority ≡ t.priority)
+    (λ asleep. refl) (λ awake. refl)
 
-  -- a dormant thread waits for nothing
-  dormant_at : (t : Thread) → thread_of s.live t.id ≡ Some t → is_dormant t.state ≡ true
-      → wait_of s t.id ≡ None
-  dormant_at t found dormant = ap found_wait found ∙ dormant_waits t.state dormant
+pub keeps_priorities : (s : ThreadTable) → IsPlaced s → KeepsPriorities s
+keeps_priorities s placed = let moves = moves_one s placed in record {
+  creates = λ param stack gp. let made = (moves.creates param stack gp).0 in
+      kept_beside s _ s.next made.others (inl (ap found_wait made.free));
+  deletes = λ id. let gone = (moves.deletes id).0 in
+      kept_dormant s _ id _ gone.answer gone.one.others gone.refused;
+  starts = λ id argument. let turns = (moves.starts id argument).turns.turns in
+      kept_dormant s _ id _ refl turns.one.others turns.refused;
+  begins = λ registers.
+      all_waiting (kept_turned s _ _ _ _ (λ t. refl) (moves.begins registers).turns);
+  ends_running = all_waiting (kept_running s _ _ (λ t. refl) moves.ends_running);
+  terminates = λ id.
+      all_waiting (kept_turned s _ id _ _ (λ t. refl) (moves.terminates id).turns.turns);
+  rotates = λ priority registers.
+      all_waiting (kept_rotated s _ priority registers (moves.rotates priority registers));
+  blocks = λ wait registers. kept_running s _ _ (λ t. refl) (moves.blocks wait registers);
+  wakes = λ id answer. kept_turned s _ id _ _ (λ t. refl) (moves.wakes id answer).turns;
+  suspends = λ id registers.
+      all_waiting (kept_turned s _ id _ _ (λ t. refl) (moves.suspends id registers).turns.turns);
+  resumes = λ id. all_waiting (kept_turned s _ id _ _ (λ t. refl) (moves.resumes id).turns.turns);
+  wakes_up = λ id. all_waiting (kept_turned s _ id _ _ woken (moves.wakes_up id).turns.turns);
+  cancels = λ id. all_waiting (kept_turned s _ id _ _ (λ t. refl) (moves.cancels id).0.turns.turns);
+  takes_wakeup = all_waiting (kept_running s _ _ (λ t. refl) moves.takes_wakeup.0);
+  dispatches = λ registers d did.
+      all_waiting (kept_dispatched s registers d (moves.dispatches registers d did));
+}
 
-  pub keep_creates : IsPlaced s → (param : Param) (stack gp : ℕ)
-      → KeepPriorities s (creates s param stack gp).1
-  keep_creates placed param stack gp =
-      let none = none_of_next s.live s.next placed.given in
-      let made = dormant_thread s.next param stack gp in
-      either_way (KeepPriorities s) (has_room s) _ _
-      (λ room. keep_beside s.next (ap found_wait none) _ (λ id. Some made)
-      (λ id. thread_of_added s.live made id none))
-      (λ full. same_priorities)
+-- the priority of one thread is another, which waits for this; all others have theirs
+pub record IsChanged (s left : ThreadTable) (id priority : ℕ) (wait : Option Wait) : Type 0 where
+  pub waits : wait_of s id ≡ wait
+  pub own : priority_of left.live id ≡ priority
+  pub others : (t : ℕ) → (t == id) ≡ false → priority_of left.live t ≡ priority_of s.live t
 
-  pub keep_deletes_it : (o : Option Thread) → Finds s o → KeepPriorities s (deletes_it s o).1
-  keep_deletes_it None finds = same_priorities
-  keep_deletes_it (Some t) finds =
-      either_way (KeepPriorities s) (is_dormant t.state) _ _
-      (λ dormant. keep_beside t.id (dormant_at t (finds t refl) dormant) _ (λ id. None)
-      (thread_of_without s.live t.id))
-      (λ other. same_priorities)
+module _ (s : ThreadTable) (placed : IsPlaced s) (id priority : ℕ) (wait : Option Wait) where
+  abbrev Done : Type 0
+  Done = Result (Option Wait) Code × ThreadTable
 
-  pub keep_starts_it : (argument : ℕ) (o : Option Thread) → Finds s o
-      → KeepPriorities s (starts_it s argument o).1
-  keep_starts_it argument None finds = same_priorities
-  keep_starts_it argument (Some t) finds =
-      let u = record (as_at_first t) { state = Ready (first_registers t argument) } in
-      either_way (KeepPriorities s) (is_dormant t.state) _ _
-      (λ dormant. keep_beside t.id (dormant_at t (finds t refl) dormant) _
-      (λ id. option_map (λ v. u) (thread_of s.live id)) (thread_of_changed s.live u))
-      (λ other. same_priorities)
+  -- the thread is found, and what it waits for is answered
+  changed_waits : (o : Option Thread) → (changes_it s priority o).0 ≡ Ok wait
+      → (t : Thread) × ((o ≡ Some t) × (wait_in t.state ≡ wait))
+  changed_waits None = λ did. cc
+  changed_waits (Some t) =
+      cond_both (is_dormant t.state) _ _ (λ (r : Done). r.0 ≡ Ok wait
+      → (u : Thread) × ((Some t ≡ Some u) × (wait_in u.state ≡ wait)))
+      (λ dormant did. cc) (λ other did. let is : wait_in t.state ≡ wait = cc in
+      (t, (refl, is)))
 
-  pub keep_begins_it : (registers : Cpu) (o : Option Thread) → Finds s o
-      → KeepAll s (begins_it s registers o)
-  keep_begins_it registers None finds = same_all
-  keep_begins_it registers (Some t) finds =
-      cond_both (is_dormant t.state) (ready_last s t registers) s (KeepAll s)
-      (λ dormant. keep_state t (finds t refl) (Ready registers) _ refl) (λ other. same_all)
-
-  pub keep_ends_it : (o : Option Thread) → Finds s o → KeepAll s (ends_it s o)
-  keep_ends_it None finds = same_all
-  keep_ends_it (Some t) finds = keep_state t (finds t refl) Dormant _ refl
-
-  -- one that leaves where it is goes into another state
-  keep_leaving : (t : Thread) → thread_of s.live t.id ≡ Some t → (state : State)
-      → (left : ThreadTable)
-      → left.live ≡ changed (record t { state = state }) (leaves s t t.state).live
-      → KeepAll s left
-  keep_leaving t found state left same =
-      keep_state t found state left
-      (same ∙ ap (changed (record t { state = state })) (live_leaving s t t.state))
-
-  pub keep_terminates_it : (o : Option Thread) → Finds s o → KeepAll s (terminates_it s o).1
-  keep_terminates_it None finds = same_all
-  keep_terminates_it (Some t) finds =
-      either_way (KeepAll s) (is_dormant t.state) _ _ (λ dormant. same_all)
-      (λ other. keep_leaving t (finds t refl) Dormant _ refl)
-
-  keep_rotates_ready : (o : Option ℕ) → KeepAll s (rotates_ready s o)
-  keep_rotates_ready None = same_all
-  keep_rotates_ready (Some first) = record { each = λ t. refl }
-
-  pub keep_rotates_it : (priority : ℕ) (registers : Cpu) (o : Option Thread) → Finds s o
-      → KeepAll s (rotates_it s priority registers o)
-  keep_rotates_it priority registers None finds = keep_rotates_ready (first_ready s priority)
-  keep_rotates_it priority registers (Some t) finds =
-      cond_both (t.priority == priority) (ready_last (leaves s t Running) t registers)
-      (rotates_ready s (first_ready s priority)) (KeepAll s)
-      (λ its. keep_state t (finds t refl) (Ready registers) _ refl)
-      (λ other. keep_rotates_ready (first_ready s priority))
-
-  pub keep_blocks_it : (wait : Wait) (registers : Cpu) (o : Option Thread) → Finds s o
-      → KeepAll s (blocks_it s wait registers o)
-  keep_blocks_it wait registers None finds = same_all
-  keep_blocks_it wait registers (Some t) finds =
-      keep_state t (finds t refl) (Waiting wait registers) _ refl
-
-  keep_wakes_in : (answer : ℕ) (t : Thread) → thread_of s.live t.id ≡ Some t → (state : State)
-      → KeepAll s (wakes_in s answer t state)
-  keep_wakes_in answer t found (Waiting wait own) =
-      keep_state t found (Ready (with_answer own answer)) _ refl
-  keep_wakes_in answer t found (WaitingSuspended wait own) =
-      keep_state t found (Suspended (with_answer own answer)) _ refl
-  keep_wakes_in answer t found other = same_all
-
-  keep_wakes_it : (answer : ℕ) (o : Option Thread) → Finds s o → KeepAll s (wakes_it s answer o)
-  keep_wakes_it answer None finds = same_all
-  keep_wakes_it answer (Some t) finds = keep_wakes_in answer t (finds t refl) t.state
-
-  -- a wait ends
-  pub keep_wakes : (id answer : ℕ) → KeepAll s (wakes s id answer)
-  keep_wakes id answer = keep_wakes_it answer _ (finds_by_id s id)
-
-  pub keep_suspends_it : (registers : Cpu) (o : Option Thread) → Finds s o
-      → KeepAll s (suspends_it s registers o).1
-  keep_suspends_it registers None finds = same_all
-  keep_suspends_it registers (Some t) finds =
-      either_way (KeepAll s) (is_dormant t.state) _ _ (λ dormant. same_all)
-      (λ other. keep_leaving t (finds t refl) (suspended_state registers t.state) _ refl)
-
-  keep_resumes_in : (t : Thread) → thread_of s.live t.id ≡ Some t → (state : State)
-      → KeepAll s (resumes_in s t state).1
-  keep_resumes_in t found (Suspended own) = keep_state t found (Ready own) _ refl
-  keep_resumes_in t found (WaitingSuspended wait own) =
-      keep_state t found (Waiting wait own) _ refl
-  keep_resumes_in t found other = same_all
-
-  pub keep_resumes_it : (o : Option Thread) → Finds s o → KeepAll s (resumes_it s o).1
-  keep_resumes_it None finds = same_all
-  keep_resumes_it (Some t) finds = keep_resumes_in t (finds t refl) t.state
-
-  pub keep_wakes_up_it : (o : Option Thread) → Finds s o → KeepAll s (wakes_up_it s o).1
-  keep_wakes_up_it None finds = same_all
-  keep_wakes_up_it (Some t) finds =
-      either_way (KeepAll s) (is_dormant t.state) _ _ (λ dormant. same_all)
-      (λ other. cond_both (sleeps (wait_in t.state)) _ _ (KeepAll s)
-      (λ asleep. keep_wakes_in 0 t (finds t refl) t.state)
-      (λ awake. keep_wakeups t (finds t refl) (min (t.wakeups + 1) MOST_WAKEUPS)))
-
-  pub keep_cancels_it : (o : Option Thread) → Finds s o → KeepAll s (cancels_it s o).1
-  keep_cancels_it None finds = same_all
-  keep_cancels_it (Some t) finds =
-      either_way (KeepAll s) (is_dormant t.state) _ _ (λ dormant. same_all)
-      (λ other. keep_wakeups t (finds t refl) 0)
-
-  pub keep_takes_wakeup_it : (o : Option Thread) → Finds s o → KeepAll s (takes_wakeup_it s o).1
-  keep_takes_wakeup_it None finds = same_all
-  keep_takes_wakeup_it (Some t) finds =
-      either_way (KeepAll s) (nat_lt 0 t.wakeups) _ _
-      (λ some. keep_wakeups t (finds t refl) (t.wakeups - 1)) (λ none. same_all)
-
-  -- a thread runs
-  pub keep_runs : (t : Thread) → thread_of s.live t.id ≡ Some t → KeepAll s (runs s t)
-  keep_runs t found = keep_state t found Running _ refl
+  pub changes_priority : (changes s id priority).0 ≡ Ok wait
+      → IsChanged s (changes s id priority).1 id priority wait
+  changes_priority did =
+      let moved = (moves_one s placed).changes id priority in
+      let found = changed_waits (thread_of s.live id) did in
+      let done = ap is_ok did in
+      record {
+        waits = ap found_wait found.1.0 ∙ found.1.1;
+        own = ap found_priority (moved.turns.own done)
+            ∙ ap (λ o. found_priority
+            (option_map (λ (t : Thread). record t { priority = priority }) o)) found.1.0;
+        others = λ t apart. ap found_priority (moved.turns.one.others t (eqb-false t id apart));
+      }

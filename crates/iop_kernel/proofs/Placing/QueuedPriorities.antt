@@ -18,8 +18,7 @@ use Rattle.iop_kernel.specs.Kinds.{Wants, Table}
 use Rattle.iop_kernel.specs.Placing.{AreWaited, HasItsPriority, is_for}
 use Rattle.iop_kernel.specs.Waits.{threads_of}
 use Rattle.iop_kernel.proofs.Bodies.KindTables.{for_object}
-use Rattle.iop_kernel.proofs.Placing.KeptPriorities.{IsChanged}
-use Rattle.iop_kernel.proofs.Placing.Priorities.{KeepFor}
+use Rattle.iop_kernel.proofs.Placing.Priorities.{KeepFor, IsChanged}
 use Rattle.iop_kernel.proofs.Placing.Queues.{times_in}
 
 module _ {W : Type 0} where

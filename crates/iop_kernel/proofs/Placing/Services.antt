@@ -29,6 +29,7 @@ use Rattle.iop_kernel.proofs.Placing.Basics.{comes, stand_on, places, moves, kee
 use Rattle.iop_kernel.proofs.Placing.Kinds.{all_in_order, blocked_turns, delayed_placed, blocked_placed, chosen_placed, woken_placed}
 use Rattle.iop_kernel.proofs.Placing.Moves.{deleted_placed, made_placed, terminated_placed, changed_placed, woken_up_placed, set_placed, cancelled_placed, settled_flag, settled_rest, times_settled}
 use Rattle.iop_kernel.proofs.Placing.Objects.{changes_but, deletes_but, waiters_own}
+use Rattle.iop_kernel.proofs.Placing.Priorities.{all_waiting}
 use Rattle.iop_kernel.proofs.Placing.Queues.{times_in}
 use Rattle.iop_kernel.proofs.Placing.Steps.{handler_returned_places}
 use Rattle.iop_kernel.proofs.Placing.Threads.{placed_own, placed_leaves, asleep_turns}
@@ -67,7 +68,8 @@ module _ (s : System) (h : IsPlaced s.core.kernel) where
       begins = h;
       stores = λ d given place bytes inside x. x;
       goes_on = λ d given word x. x;
-      faults = λ kind. h;
+      bad_place = h;
+      no_thread = λ asked none. h;
       prints = λ text. h;
     };
     registry = λ own_library. record { registers = λ libraries. h };
@@ -87,26 +89,27 @@ module _ (s : System) (h : IsPlaced s.core.kernel) where
       starts = λ id argument.
           stand_on k h ((places k h).starts id argument) ((moves k h).starts id argument)
           ((keeps k h).starts id argument);
-      ends = λ id is other. ended_places s.core h;
-      ends_deleted = λ id stack left is other did. let e = (ended s.core).kernel in
+      ends = λ id is other leave. ended_places s.core h;
+      ends_deleted = λ id stack left is other did leave. let e = (ended s.core).kernel in
           comes e did (deleted_placed e (ended_places s.core h) id);
-      returns = λ id word is loader. open_placed k h;
+      returns = λ id word is loader leave. open_placed k h;
       terminates = λ id wait left other is rests. terminated_placed k h id wait left is;
       terminates_running = λ id wait left other is runs.
           terminated_placed (opened s.core).kernel (open_placed k h) id wait left is;
       changes = changed_placed k h;
       rotates = λ priority other. rotated priority;
       rotates_beside = λ priority own may is. rotated priority;
-      rotates_own = λ priority id own may is. rotated priority;
+      rotates_own = λ priority id own may is leave. rotated priority;
       releases = λ id t wait found is. let word = code_word WAIT_RELEASED in
           let own = finds_by_id now id t found in
           let moved = (moves k h).wakes t.id word in
           placed_leaves k (threads.wakes now t.id word) h ((places k h).wakes t.id word) t.id
-          moved.waits moved.live ((keeps k h).wakes t.id word) (Some wait) (rw own is);
+          moved.waits moved.live (all_waiting ((keeps k h).wakes t.id word)) (Some wait)
+          (rw own is);
       takes_wakeup = λ left is.
           comes k is (stand_on k h (places k h).takes_wakeup (moves k h).takes_wakeup
           (keeps k h).takes_wakeup);
-      sleeps = λ left is may asks. asleep_turns k h (blocked_turns k h Sleep registers);
+      sleeps = λ left is may asks leave. asleep_turns k h (blocked_turns k h Sleep registers);
       wakes_up = λ id other. woken_up_placed k h id;
       cancels = λ id.
           stand_on k h ((places k h).cancels id) ((moves k h).cancels id) ((keeps k h).cancels id);
@@ -115,7 +118,7 @@ module _ (s : System) (h : IsPlaced s.core.kernel) where
           ((keeps k h).suspends id registers);
       resumes = λ id other.
           stand_on k h ((places k h).resumes id) ((moves k h).resumes id) ((keeps k h).resumes id);
-      delays = λ moment thread is may.
+      delays = λ moment thread is may leave.
           delayed_placed k h registers moment thread (caller_runs s.core thread is);
     };
     objects = λ kind own_library. let t = table kind k in let mine = h.objects kind in record {
@@ -131,7 +134,7 @@ module _ (s : System) (h : IsPlaced s.core.kernel) where
           (sym (none_stays o.id t.live)) (All-nil (HasItsPriority now)));
       changes = λ id x y is how. placed_own k h kind _ (waited_state kind t mine id y);
       wakes = λ id x one is chosen. chosen_placed kind k h id x is one chosen (code_word OK);
-      waits = λ id thread x wants is may at must.
+      waits = λ id thread x wants is may at must place leave.
           blocked_placed kind k h id registers thread (caller_runs s.core thread is) x at wants;
     };
     sets = λ own_library bits o found. let pattern = bit_or o.state.pattern bits in
@@ -152,6 +155,7 @@ module _ (s : System) (h : IsPlaced s.core.kernel) where
   placed_calls : CallMoves Kept Ended ⊤ s
   placed_calls = record {
     unlisted = λ library number. h;
+    no_service = h;
     handler = λ handler is. handler_returned_places s.core h handler;
   }
 

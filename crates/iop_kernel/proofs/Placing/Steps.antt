@@ -27,6 +27,7 @@ use Rattle.iop_kernel.specs.declared.active_handler.ActiveHandler.{ActiveHandler
 use Rattle.iop_kernel.specs.declared.active_handler.Cause.{Cause}
 use Rattle.iop_kernel.specs.declared.active_handler.Cause.TheVariants.{Line, Alarm}
 use Rattle.iop_kernel.proofs.Placing.Basics.{places, moves, keeps, stand_on, timers_placed, beside_placed}
+use Rattle.iop_kernel.proofs.Placing.Priorities.{all_waiting}
 use Rattle.iop_kernel.proofs.Placing.Queues.{delayed}
 use Rattle.iop_kernel.proofs.Placing.Threads.{placed_leaves}
 use Rattle.iop_kernel.proofs.Walk.Steps.{DueComes, due_goes, Steps}
@@ -67,7 +68,7 @@ module _ (c : Core) (h : IsPlaced c.kernel) where
       let now = (moves k h).wakes delay.thread word in
       placed_leaves k (threads.wakes k.threads delay.thread word) h
       ((places k h).wakes delay.thread word) delay.thread now.waits now.live
-      ((keeps k h).wakes delay.thread word) (Some Delay)
+      (all_waiting ((keeps k h).wakes delay.thread word)) (Some Delay)
       (for_delay _ (subst (λ n. 0 < n) (h.delays.delays delay.thread)
       (taken_stood k.timers (due_at k.timers k.clock) delay taken)))
 

@@ -30,10 +30,9 @@ use Rattle.iop_kernel.specs.Placing.{IsPlaced, AreWaited, AreDelayed, HasItsPrio
 use Rattle.iop_kernel.specs.System.{Kernel}
 use Rattle.iop_kernel.specs.Waits.{leaves_object, requeues_at, wakes_all}
 use Rattle.iop_kernel.proofs.Bodies.KindTables.{each_table, other_kind, own_object}
-use Rattle.iop_kernel.proofs.Placing.KeptPriorities.{IsChanged}
 use Rattle.iop_kernel.proofs.Placing.Live.{live_room}
 use Rattle.iop_kernel.proofs.Placing.Objects.{IsBut, with_waiters_but, waiters_now}
-use Rattle.iop_kernel.proofs.Placing.Priorities.{KeepAll, KeepPriorities, keep_wakes, other_wait}
+use Rattle.iop_kernel.proofs.Placing.Priorities.{KeepAll, KeepPriorities, IsChanged, keeps_priorities, other_wait}
 use Rattle.iop_kernel.proofs.Placing.QueuedPriorities.{queued_on}
 use Rattle.iop_kernel.proofs.Placing.Queues.{delayed, times_dropped, times_in, times_in_without}
 use Rattle.iop_kernel.proofs.Placing.Turns.{Turns, asked_alike, counted, one_turns, waited_alike, waited_requeues, waited_turns}
@@ -244,5 +243,6 @@ all_woken s placed (id ∷ ids) word =
       live = λ t. later.live t ∙ moved.live t;
       waits = λ t. grind (arith, nat_tests, later.waits t, moved.waits t, times_first t id ids);
       priorities =
-          record { each = λ t. later.priorities.each t ∙ (keep_wakes s id word).each t };
+          let first = (keeps_priorities s placed).wakes id word in
+          record { each = λ t. later.priorities.each t ∙ first.each t };
     }

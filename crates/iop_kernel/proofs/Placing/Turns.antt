@@ -18,10 +18,9 @@ use Rattle.iop_time.specs.declared.clock.TheConstants.{MOST_DELAYS}
 use Rattle.iop_kernel.specs.Kinds.{State, Live, Table}
 use Rattle.iop_kernel.specs.Placing.{AreWaited, HasItsPriority, is_for}
 use Rattle.iop_kernel.proofs.Bodies.KindTables.{own_object}
-use Rattle.iop_kernel.proofs.Placing.KeptPriorities.{IsChanged}
 use Rattle.iop_kernel.proofs.Placing.Objects.{IsBut, changes_but, with_waiters_but, waiters_now, waiters_added, own_ids_added, ids_below_added}
 use Rattle.iop_kernel.proofs.Placing.ObjectsKept.{none_new, none_requeued}
-use Rattle.iop_kernel.proofs.Placing.Priorities.{KeepFor, KeepPriorities, other_wait}
+use Rattle.iop_kernel.proofs.Placing.Priorities.{KeepFor, KeepPriorities, IsChanged, other_wait}
 use Rattle.iop_kernel.proofs.Placing.QueuedPriorities.{queued_on, requeued_priorities}
 use Rattle.iop_kernel.proofs.Placing.Queues.{times_in, times_in_requeued}
 

@@ -1,32 +1,31 @@
 -- The pattern of an event flag, read where it was written: for the thread that asks, and for those
 -- that are woken.
-use Rattle.std.proofs.Common.{◌≡◌, ◌≢◌, ℕ, ◌+◌, ◌%◌, ◌<◌, ◌≤◌, ◌==◌, true, false, if◌then◌else◌, Bool, Option, Some, None, option_map, Result, Ok, Err, List, [], ◌∷◌, ◌++◌, length, All, bit_or, refl, ap, sym, ◌∙◌, subst, arith}
-use Rattle.std.proofs.lemmas.Bool.{cond_both, eq-eqb}
+use Rattle.std.proofs.Common.{◌≡◌, ◌≢◌, ℕ, ◌+◌, ◌%◌, ◌≤◌, ◌==◌, true, false, if◌then◌else◌, Bool, not, bit_and, Option, Some, None, option_map, List, [], ◌∷◌, ◌++◌, length, All, bit_or, refl, ap, sym, ◌∙◌, subst, arith}
+use Rattle.std.proofs.lemmas.Bool.{cond_both}
 use Rattle.std.proofs.lemmas.List.Elements.{All-head, All-tail}
 use Rattle.iop_base.specs.Numbers.{number_at, wrapped}
 use Rattle.iop_base.specs.Places.{range_at}
-use Rattle.iop_base.specs.declared.code.Code.{Code}
-use Rattle.iop_base.specs.declared.code.TheConstants.Code.{FLAG_CONDITION, EMPTY_PATTERN, SECOND_WAITER, CANNOT_WAIT}
 use Rattle.iop_base.proofs.Memory.{length-with_bytes}
-use Rattle.iop_event.specs.EventFlags.{EventFlags, with_pattern}
-use Rattle.iop_event.specs.EventFlags as flags
-use Rattle.iop_event.specs.WakeConditions.{holds, is_met, met_by, pattern_after, Settled, settles}
+use Rattle.iop_event.specs.EventFlags.{with_pattern}
+use Rattle.iop_event.specs.WakeConditions.{is_met, met_by, pattern_after, Settled, settles}
 use Rattle.iop_event.specs.declared.event_flag.EventFlag.{EventFlag}
 use Rattle.iop_event.specs.declared.met.Met.{Met}
+use Rattle.iop_event.specs.declared.wanted.TheConstants.{CLEAR}
 use Rattle.iop_event.specs.declared.wanted.Wanted.{Wanted}
-use Rattle.iop_objects.specs.Objects.{state_of, with_state}
+use Rattle.iop_exec.specs.Laws.{IsSteady}
+use Rattle.iop_objects.specs.Objects.{object_of, state_of}
 use Rattle.iop_objects.specs.declared.queued.Queued.{Queued}
 use Rattle.iop_objects.specs.declared.waiter.Waiter.{Waiter}
+use Rattle.iop_objects.proofs.Changes.{state_of-with_state}
+use Rattle.iop_services.specs.declared.thevent_service.TheventService.TheVariants.{WaitEventFlag, PollEventFlag}
 use Rattle.iop_stubs.specs.Stubs.{after_store}
-use Rattle.iop_thread.specs.declared.kind.Kind.TheVariants.{EventFlag as FlagOf}
-use Rattle.iop_kernel.specs.Boards.{Board, quiet, bytes_of_words, optional_place, place_of_word}
-use Rattle.iop_kernel.specs.EventFlags.{LiveFlag, met_place, meets_one, meets_all, sets_flag, polls_by, tests_or_waits, waits_flag_at, polls_flag_at, wait_event_flag, poll_event_flag}
-use Rattle.iop_kernel.specs.ObjectServices.{waits_for}
-use Rattle.iop_kernel.specs.System.{Done, may_switch, caller, code_word, answers, with_event_flags, words_place}
-use Rattle.iop_kernel.specs.WordLaws.{word_left, AnswersZero, SetPatternsAreRead, FirstPatternIsRead}
-use Rattle.iop_kernel.proofs.Histories.Calls.{word_tells}
+use Rattle.iop_kernel.specs.Boards.{Board, bytes_of_words, optional_place, place_of_word}
+use Rattle.iop_kernel.specs.EventFlags.{LiveFlag, met_place, meets_one, meets_all, sets_flag, set_event_flag, waits_flag_at, polls_flag_at, wait_event_flag, poll_event_flag, wanted, serves_thevent}
+use Rattle.iop_kernel.specs.System.{Done, argument, with_event_flags, words_place}
+use Rattle.iop_kernel.specs.WordLaws.{word_left, ReadsPattern, pattern_left, ClearsPattern, set_bits, SetPatternsAreRead, FirstPatternIsRead}
 use Rattle.iop_kernel.proofs.Keeping.Meetings.{met_inside, set_flags}
 use Rattle.iop_kernel.proofs.Keeping.Memory.{words_inside}
+use Rattle.iop_kernel.proofs.Readings.Tests.{Zero, told, waited_so, polled_so}
 use Rattle.iop_kernel.proofs.Readings.Times.{words_aligned, stays}
 use Rattle.iop_kernel.proofs.Readings.WordBytes.{first_at}
 
@@ -55,66 +54,6 @@ word_aligned : (b : Board) (at place : ℕ) → place_of_word b.memory at ≡ So
     → place % 4 ≡ 0
 word_aligned b at place is =
     words_aligned b.memory at 1 place (word_given (at == 0) (words_place b.memory at 1) place is)
-
-module _ (b : Board) (registers : 2 < length b.core.cpu.regs) (id : ℕ) (wanted : Wanted)
-    (x : EventFlag) (place : ℕ) (inside : place + 4 ≤ length b.memory.ram) where
-  abbrev those : EventFlags
-  those = b.core.kernel.event_flags
-
-  abbrev Reads : Done Board → Type 0
-  Reads d = AnswersZero d → word_left d place ≡ wrapped x.pattern
-
-  -- a code other than 0 is answered
-  refused : (code : Code) → (code_word code == 0) ≡ false
-      → Reads (quiet b.memory (answers b.core code))
-  refused code other zero =
-      let is : (code_word code == 0) ≡ true =
-      sym (word_tells b.core registers (code_word code)) ∙ eq-eqb _ 0 zero.1 in
-      absurd (cc (is, other))
-
-  -- the thread that calls does not go on
-  waiting : (who : Option ℕ) → Reads (quiet b.memory (waits_for FlagOf b.core id wanted who))
-  waiting None zero = absurd (cc zero.0)
-  waiting (Some thread) zero = absurd (cc zero.0)
-
-  -- the event flags, once the condition held
-  abbrev passed : EventFlags
-  passed = with_state those id (with_pattern x (pattern_after wanted.mode x.pattern))
-
-  -- the pattern is written
-  told : Reads (polls_by b (Some place) (Ok x.pattern, passed))
-  told zero = first_at b.memory.ram place (x.pattern ∷ []) inside (omega arith)
-
-  module _ (known : state_of those id ≡ Some x)
-      (given : optional_place b.memory wanted.place ≡ Some (Some place)) where
-    -- by what the test comes to
-    tests_by : (C : Result ℕ Code × EventFlags → Type 0) → C (Err EMPTY_PATTERN, those)
-        → C (Err SECOND_WAITER, those) → C (Err FLAG_CONDITION, those)
-        → C (Ok x.pattern, passed) → C (flags.tests those id wanted.bits wanted.mode)
-    tests_by C empty second unmet met =
-        subst (λ (o : Option EventFlag). C (flags.tests_it those id wanted.bits wanted.mode o))
-        (sym known)
-        (cond_both (wanted.bits == 0) (Err EMPTY_PATTERN, those) _ C (λ is. empty)
-        (λ some. cond_both (flags.is_taken those id x) (Err SECOND_WAITER, those) _ C
-        (λ is. second)
-        (λ free. cond_both (holds wanted.bits wanted.mode x.pattern) (Ok x.pattern, passed)
-        (Err FLAG_CONDITION, those) C (λ is. met) (λ other. unmet))))
-
-    pub polled : Reads (poll_event_flag b id wanted)
-    polled =
-        subst (λ (o : Option (Option ℕ)). Reads (polls_flag_at b id wanted o)) (sym given)
-        (tests_by (λ (r : Result ℕ Code × EventFlags). Reads (polls_by b (Some place) r))
-        (refused EMPTY_PATTERN refl) (refused SECOND_WAITER refl) (refused FLAG_CONDITION refl)
-        told)
-
-    pub waited : Reads (wait_event_flag b id wanted)
-    waited =
-        subst (λ (o : Option (Option ℕ)). Reads (waits_flag_at b id wanted o)) (sym given)
-        (cond_both (may_switch b.core.kernel) _ _ Reads
-        (λ may. tests_by
-        (λ (r : Result ℕ Code × EventFlags). Reads (tests_or_waits b id wanted (Some place) r))
-        (refused EMPTY_PATTERN refl) (refused SECOND_WAITER refl) (waiting (caller b.core)) told)
-        (λ cannot. refused CANNOT_WAIT refl))
 
 -- the place of a word in a memory of this size
 abbrev place_in : (size at : ℕ) → Option ℕ
@@ -181,8 +120,14 @@ met_stands b one place is =
     rw is (first_at b.memory.ram place (one.pattern ∷ []) (met_inside b one place is)
     (omega arith))
 
-pub set_patterns_are_read : SetPatternsAreRead
-set_patterns_are_read b id bits o before behind one place found split is elsewhere =
+-- so it is once bits are set
+set_pattern : (b : Board) (id bits : ℕ) (o : LiveFlag) (before behind : List Met) (one : Met)
+    (place : ℕ) → object_of b.core.kernel.event_flags.live id ≡ Some o
+    → (settles (bit_or o.state.pattern bits) o.waiters).met ≡ before ++ one ∷ behind
+    → place_of_word b.memory one.place ≡ Some place
+    → All (λ other. place_of_word b.memory other.place ≢ Some place) behind
+    → word_left (set_event_flag b id bits) place ≡ wrapped one.pattern
+set_pattern b id bits o before behind one place found split is elsewhere =
     let now : Board =
     record b { core = with_event_flags b.core (set_flags b.core o bits) } in
     let woken = meets_all now before in
@@ -209,7 +154,95 @@ first_pattern (x ∷ waiters) pattern one behind =
     sym (ap (λ (m : Met). m.pattern) same))
     (λ unmet is. first_pattern waiters pattern one behind is)
 
+-- the services, by their arguments
+pub set_patterns_are_read : SetPatternsAreRead
+unfolding serves_thevent
+set_patterns_are_read b = set_pattern b (argument b.core 0) (argument b.core 1)
+
 pub first_pattern_is_read : FirstPatternIsRead
-first_pattern_is_read b id bits o behind one place found met is elsewhere =
-    set_patterns_are_read b id bits o [] behind one place found met is elsewhere
-    ∙ ap wrapped (first_pattern o.waiters (bit_or o.state.pattern bits) one behind met)
+first_pattern_is_read b o behind one place found met is elsewhere =
+    set_patterns_are_read b o [] behind one place found met is elsewhere
+    ∙ ap wrapped (first_pattern o.waiters (set_bits b o) one behind met)
+
+-- a condition that held
+module _ (b : Board) (x : EventFlag) (place : ℕ) (steady : IsSteady b.core.cpu)
+    (known : state_of b.core.kernel.event_flags (argument b.core 0) ≡ Some x)
+    (is : place_of_word b.memory (argument b.core 3) ≡ Some place) where
+  abbrev Reads : Done Board → Type 0
+  Reads d = word_left d place ≡ wrapped x.pattern
+
+  -- its pattern is written
+  pattern_told : Reads (told b (argument b.core 0) (wanted b.core) x (Some place))
+  pattern_told =
+      first_at b.memory.ram place (x.pattern ∷ [])
+      (word_inside b (argument b.core 3) place is) (omega arith)
+
+  waited : Zero Reads (serves_thevent b WaitEventFlag)
+  unfolding serves_thevent
+  waited =
+      waited_so b (argument b.core 0) (wanted b.core) x steady known Reads (Some place)
+      (optional_given b (argument b.core 3) place is) pattern_told
+
+  polled : Zero Reads (serves_thevent b PollEventFlag)
+  unfolding serves_thevent
+  polled =
+      polled_so b (argument b.core 0) (wanted b.core) x steady known Reads (Some place)
+      (optional_given b (argument b.core 3) place is) pattern_told
+
+pub waited_is_read : (b : Board) → ReadsPattern b (serves_thevent b WaitEventFlag)
+waited_is_read b x place steady known is = waited b x place steady known is
+
+pub polled_is_read : (b : Board) → ReadsPattern b (serves_thevent b PollEventFlag)
+polled_is_read b x place steady known is = polled b x place steady known is
+
+-- a test and its negation
+other_way : (zero : Bool) (pattern : ℕ) → (if not zero then 0 else pattern)
+    ≡ (if zero then pattern else 0)
+other_way true pattern = refl
+other_way false pattern = refl
+
+-- and the flag is cleared as the mode says
+module _ (b : Board) (x : EventFlag) (steady : IsSteady b.core.cpu)
+    (known : state_of b.core.kernel.event_flags (argument b.core 0) ≡ Some x) where
+  abbrev Clears : Done Board → Type 0
+  Clears d =
+      state_of d.left.state.core.kernel.event_flags (argument b.core 0)
+      ≡ Some (record x { pattern = pattern_left (argument b.core 2) x.pattern })
+
+  cleared : (place : Option ℕ) → Clears (told b (argument b.core 0) (wanted b.core) x place)
+  cleared place =
+      let mode = argument b.core 2 in
+      state_of-with_state b.core.kernel.event_flags (argument b.core 0) x known
+      (with_pattern x (pattern_after mode x.pattern))
+      ∙ ap (λ n. Some (with_pattern x n)) (other_way (bit_and mode CLEAR == 0) x.pattern)
+
+  -- by the place for the pattern; where it is bad the call faults
+  waited_by : (o : Option (Option ℕ)) → optional_place b.memory (argument b.core 3) ≡ o
+      → Zero Clears (wait_event_flag b (argument b.core 0) (wanted b.core))
+  waited_by None is =
+      subst (λ (o : Option (Option ℕ)).
+      Zero Clears (waits_flag_at b (argument b.core 0) (wanted b.core) o)) (sym is)
+      (λ zero. absurd (cc zero.0))
+  waited_by (Some place) is =
+      waited_so b (argument b.core 0) (wanted b.core) x steady known Clears place is
+      (cleared place)
+
+  polled_by : (o : Option (Option ℕ)) → optional_place b.memory (argument b.core 3) ≡ o
+      → Zero Clears (poll_event_flag b (argument b.core 0) (wanted b.core))
+  polled_by None is =
+      subst (λ (o : Option (Option ℕ)).
+      Zero Clears (polls_flag_at b (argument b.core 0) (wanted b.core) o)) (sym is)
+      (λ zero. absurd (cc zero.0))
+  polled_by (Some place) is =
+      polled_so b (argument b.core 0) (wanted b.core) x steady known Clears place is
+      (cleared place)
+
+pub waited_clears : (b : Board) → ClearsPattern b (serves_thevent b WaitEventFlag)
+unfolding serves_thevent
+waited_clears b x steady known =
+    waited_by b x steady known (optional_place b.memory (argument b.core 3)) refl
+
+pub polled_clears : (b : Board) → ClearsPattern b (serves_thevent b PollEventFlag)
+unfolding serves_thevent
+polled_clears b x steady known =
+    polled_by b x steady known (optional_place b.memory (argument b.core 3)) refl

@@ -3,6 +3,7 @@ use Rattle.std.proofs.Common.{◌≡◌, ℕ, ◌+◌, ◌*◌, ◌<◌, ◌≤�
 use Rattle.iop_base.specs.Numbers.{number_at, wrapped}
 use Rattle.iop_objects.specs.Objects as objects
 use Rattle.iop_thread.specs.States.{wait_in, state_number, kind_number, object_of}
+use Rattle.iop_thread.specs.ThreadTable.{thread_of}
 use Rattle.iop_thread.specs.declared.kind.Kind.{Kind}
 use Rattle.iop_thread.specs.declared.kind.Kind.TheVariants.{Semaphore, EventFlag, Mailbox}
 use Rattle.iop_thread.specs.declared.state.State.{State}
@@ -11,14 +12,16 @@ use Rattle.iop_thread.specs.declared.thread.Thread.{Thread}
 use Rattle.iop_thread.specs.declared.wait.Wait.{Wait}
 use Rattle.iop_thread.specs.declared.wait.Wait.TheVariants.{Sleep, Delay, Object}
 use Rattle.iop_kernel.specs.Boards.{Board}
-use Rattle.iop_kernel.specs.EventFlags.{flag_words}
+use Rattle.iop_kernel.specs.EventFlags.{flag_words, serves_thevent}
 use Rattle.iop_kernel.specs.Kinds.{Live, table}
-use Rattle.iop_kernel.specs.Mailboxes.{mailbox_words}
+use Rattle.iop_kernel.specs.Mailboxes.{mailbox_words, serves_thmsgbx}
+use Rattle.iop_kernel.specs.NamedThreads.{named}
 use Rattle.iop_kernel.specs.ObjectServices.{refer_status}
-use Rattle.iop_kernel.specs.Semaphores.{semaphore_words}
+use Rattle.iop_kernel.specs.Semaphores.{semaphore_words, serves_thsemap}
 use Rattle.iop_kernel.specs.StatusLaws.{HasStatus, StatusIsRead, HasSemaphoreStatus, SemaphoreStatusIsRead, HasFlagStatus, FlagStatusIsRead, HasMailboxStatus, MailboxStatusIsRead}
-use Rattle.iop_kernel.specs.System.{Served, words_place}
-use Rattle.iop_kernel.specs.ThreadStatus.{wait_words, status_words}
+use Rattle.iop_kernel.specs.System.{System, Served, argument, caller, words_place}
+use Rattle.iop_kernel.specs.Thbase.{serves_thbase}
+use Rattle.iop_kernel.specs.ThreadStatus.{wait_words, status_words, refer_thread_status}
 use Rattle.iop_kernel.specs.declared.event_flags.TheConstants.{FLAG_STATUS_WORDS}
 use Rattle.iop_kernel.specs.declared.mailboxes.TheConstants.{MAILBOX_STATUS_WORDS}
 use Rattle.iop_kernel.specs.declared.semaphores.TheConstants.{SEMAPHORE_STATUS_WORDS}
@@ -81,11 +84,18 @@ status_stands memory place t fits =
     }
 
 -- the status that is written of the thread that is named
-pub status_is_read : StatusIsRead
-status_is_read s id at place one t stands names lives =
+named_status : (s : System) (id at place one : ℕ) (t : Thread)
+    → words_place s.memory at STATUS_WORDS ≡ Some place → named (caller s.core) id ≡ Some one
+    → thread_of s.core.kernel.threads.live one ≡ Some t
+    → HasStatus (refer_thread_status s id at).left.state.memory.ram place t
+named_status s id at place one t stands names lives =
     subst (λ (d : Served). HasStatus d.left.state.memory.ram place t)
     (refers_named s place t id at one (sym stands) (sym names) (sym lives))
     (status_stands s.memory.ram place t (words_inside s.memory at STATUS_WORDS place stands))
+
+pub status_is_read : StatusIsRead
+unfolding serves_thbase
+status_is_read s = named_status s (argument s.core 0) (argument s.core 1)
 
 -- the status that is written of the object of an id has each word at its place
 module _ (kind : Kind) (words : Live kind → List ℕ) (count : ℕ)
@@ -109,7 +119,8 @@ module _ (kind : Kind) (words : Live kind → List ℕ) (count : ℕ)
 
 -- so it is of a semaphore
 pub semaphore_status_is_read : SemaphoreStatusIsRead
-semaphore_status_is_read =
+unfolding serves_thsemap
+semaphore_status_is_read b =
     object_status Semaphore semaphore_words SEMAPHORE_STATUS_WORDS (λ o. refl) (omega arith)
     HasSemaphoreStatus (λ ram place o first at. record {
       attr = first;
@@ -118,11 +129,12 @@ semaphore_status_is_read =
       max = at 3 (omega arith);
       current = at 4 (omega arith);
       waiting = at 5 (omega arith);
-    })
+    }) b (argument b.core 0) (argument b.core 1)
 
 -- of an event flag
 pub flag_status_is_read : FlagStatusIsRead
-flag_status_is_read =
+unfolding serves_thevent
+flag_status_is_read b =
     object_status EventFlag flag_words FLAG_STATUS_WORDS (λ o. refl) (omega arith)
     HasFlagStatus (λ ram place o first at. record {
       attr = first;
@@ -130,11 +142,12 @@ flag_status_is_read =
       first_bits = at 2 (omega arith);
       current_bits = at 3 (omega arith);
       waiting = at 4 (omega arith);
-    })
+    }) b (argument b.core 0) (argument b.core 1)
 
 -- and of a mailbox
 pub mailbox_status_is_read : MailboxStatusIsRead
-mailbox_status_is_read =
+unfolding serves_thmsgbx
+mailbox_status_is_read b =
     object_status Mailbox mailbox_words MAILBOX_STATUS_WORDS (λ o. refl) (omega arith)
     HasMailboxStatus (λ ram place o first at. record {
       attr = first;
@@ -142,4 +155,4 @@ mailbox_status_is_read =
       waiting = at 2 (omega arith);
       messages = at 3 (omega arith);
       next = at 4 (omega arith);
-    })
+    }) b (argument b.core 0) (argument b.core 1)

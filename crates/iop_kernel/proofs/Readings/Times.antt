@@ -10,9 +10,10 @@ use Rattle.iop_base.proofs.Lists.{number_at_behind}
 use Rattle.iop_base.proofs.Memory.{length-with_bytes, number_at_before}
 use Rattle.iop_stubs.specs.Stubs.{Memory, range_place}
 use Rattle.iop_time.specs.ClockTime.{ticks_of, micros_of}
-use Rattle.iop_kernel.specs.Boards.{Board, bytes_of_words}
-use Rattle.iop_kernel.specs.System.{words_place}
+use Rattle.iop_kernel.specs.Boards.{Board, board_of, bytes_of_words}
+use Rattle.iop_kernel.specs.System.{argument, words_place}
 use Rattle.iop_kernel.specs.SystemClock.{time_words, ticks_in, writes_time, writes_seconds}
+use Rattle.iop_kernel.specs.Thbase.{serves_thbase}
 use Rattle.iop_kernel.specs.TimeLaws.{HasTimeWords, SystemTimeIsRead, TicksAreRead, HasSeconds, SecondsAreRead}
 use Rattle.iop_kernel.specs.declared.system_clock.TheConstants.{TIME_WORDS, MICROS_OF_SECOND}
 use Rattle.iop_kernel.proofs.Keeping.Memory.{words_inside}
@@ -40,11 +41,15 @@ time_is_read b ticks at place stands =
 
 -- so is the moment
 pub system_time_is_read : SystemTimeIsRead
-system_time_is_read b = time_is_read b b.core.kernel.clock
+unfolding serves_thbase
+system_time_is_read s =
+    time_is_read (board_of s) s.core.kernel.clock (argument s.core 0)
 
 -- so are the ticks of so many microseconds
 pub ticks_are_read : TicksAreRead
-ticks_are_read b us = time_is_read b (ticks_of us)
+unfolding serves_thbase
+ticks_are_read s =
+    time_is_read (board_of s) (ticks_of (argument s.core 0)) (argument s.core 1)
 
 -- each place of words is a multiple of 4
 pub words_aligned : (memory : Memory) (at count q : ℕ) → words_place memory at count ≡ Some q
@@ -98,10 +103,13 @@ seconds_stand b seconds rest micros seconds_fit rest_fits seconds_aligned rest_a
 
 -- the microseconds of a time are read
 pub seconds_are_read : SecondsAreRead
-seconds_are_read b time_at seconds_at rest_at time seconds rest is_time is_seconds is_rest =
+unfolding serves_thbase
+seconds_are_read s time seconds rest is_time is_seconds is_rest =
+    let seconds_at = argument s.core 1 in
+    let rest_at = argument s.core 2 in
     rw (is_time, is_seconds, is_rest)
-    (seconds_stand b seconds rest (micros_of (ticks_in b.memory time))
-    (words_inside b.memory seconds_at 1 seconds is_seconds)
-    (words_inside b.memory rest_at 1 rest is_rest)
-    (words_aligned b.memory seconds_at 1 seconds is_seconds)
-    (words_aligned b.memory rest_at 1 rest is_rest))
+    (seconds_stand (board_of s) seconds rest (micros_of (ticks_in s.memory time))
+    (words_inside s.memory seconds_at 1 seconds is_seconds)
+    (words_inside s.memory rest_at 1 rest is_rest)
+    (words_aligned s.memory seconds_at 1 seconds is_seconds)
+    (words_aligned s.memory rest_at 1 rest is_rest))

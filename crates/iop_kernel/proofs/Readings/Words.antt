@@ -7,14 +7,15 @@ use Rattle.iop_base.specs.declared.code.Code.{Code}
 use Rattle.iop_base.specs.declared.code.TheConstants.Code.{ILLEGAL_INTERRUPT}
 use Rattle.iop_intr.specs.InterruptLines.{IrqLine, line_of, disable_line, disabling}
 use Rattle.iop_intr.specs.declared.irqs.TheConstants.{IRQ_LINES}
+use Rattle.iop_services.specs.declared.intrman_service.IntrmanService.TheVariants.{DisableIntr, CpuSuspendIntr}
 use Rattle.iop_kernel.specs.Boards.{Board, place_of_word}
 use Rattle.iop_kernel.specs.Interrupts.{disables_by, disables_at, suspends_at}
 use Rattle.iop_kernel.specs.Interrupts as services
-use Rattle.iop_kernel.specs.System.{words_place}
+use Rattle.iop_kernel.specs.System.{argument, words_place}
 use Rattle.iop_kernel.specs.Waits.{is_code}
 use Rattle.iop_kernel.specs.WordLaws.{word_left, WordsAreRead}
 use Rattle.iop_kernel.proofs.Keeping.Memory.{words_inside}
-use Rattle.iop_kernel.proofs.Readings.Patterns.{optional_given, word_inside, polled, waited, set_patterns_are_read, first_pattern_is_read}
+use Rattle.iop_kernel.proofs.Readings.Patterns.{optional_given, word_inside, waited_is_read, polled_is_read, waited_clears, polled_clears, set_patterns_are_read, first_pattern_is_read}
 use Rattle.iop_kernel.proofs.Readings.WordBytes.{first_at}
 
 -- to disable a line is not refused
@@ -59,16 +60,29 @@ suspended_read b at place is =
     (omega arith)
     ∙ truth_is_word on
 
+-- the services, by their arguments
+disabled_is_read : (b : Board) (place : ℕ) → argument b.core 0 < IRQ_LINES
+    → place_of_word b.memory (argument b.core 1) ≡ Some place
+    → word_left (services.serves_intrman b DisableIntr) place ≡ argument b.core 0
+unfolding services.serves_intrman
+disabled_is_read b place below is =
+    disabled_read b (argument b.core 0) (argument b.core 1) place is below
+
+suspended_is_read : (b : Board) (place : ℕ)
+    → words_place b.memory (argument b.core 0) 1 ≡ Some place
+    → word_left (services.serves_intrman b CpuSuspendIntr) place
+    ≡ one_if b.core.kernel.interrupts
+unfolding services.serves_intrman
+suspended_is_read b = suspended_read b (argument b.core 0)
+
 pub words_are_read : WordsAreRead
 words_are_read = record {
-  waited = λ b id wanted x place steady known is.
-      waited b (omega (arith, steady.registers)) id wanted x place
-      (word_inside b wanted.place place is) known (optional_given b wanted.place place is);
-  polled = λ b id wanted x place steady known is.
-      polled b (omega (arith, steady.registers)) id wanted x place
-      (word_inside b wanted.place place is) known (optional_given b wanted.place place is);
+  waited = waited_is_read;
+  polled = polled_is_read;
+  waited_clears = waited_clears;
+  polled_clears = polled_clears;
   set = set_patterns_are_read;
   first = first_pattern_is_read;
-  disabled = λ b line at place below is. disabled_read b line at place is below;
-  suspended = suspended_read;
+  disabled = disabled_is_read;
+  suspended = suspended_is_read;
 }

@@ -3,7 +3,7 @@ use Rattle.std.proofs.Common.{◌≡◌, ℕ, zero, suc, ◌<◌, false, if◌th
 use Rattle.std.specs.Prelude.{bit_or, option_and_then, option_map, unwrap_or}
 use Rattle.std.proofs.lemmas.Bool.Decides.{nat_tests}
 use Rattle.iop_base.specs.Numbers.{one_if}
-use Rattle.iop_base.specs.declared.code.TheConstants.Code.{ILLEGAL_THREAD, OBJECT_DELETED, WAIT_RELEASED}
+use Rattle.iop_base.specs.declared.code.TheConstants.Code.{ILLEGAL_THREAD, WAIT_RELEASED}
 use Rattle.iop_event.specs.WakeConditions.{settles}
 use Rattle.iop_mbx.specs.Mailboxes as mailboxes
 use Rattle.iop_objects.specs.Objects.{object_of, state_of, waiters_in, waiters_of, takes, with_waiters}
@@ -15,7 +15,6 @@ use Rattle.iop_thread.specs.States.{wait_in}
 use Rattle.iop_thread.specs.ThreadTable.{thread_of}
 use Rattle.iop_thread.specs.Waits.{wait_of}
 use Rattle.iop_thread.specs.Waking.{IsWoken}
-use Rattle.iop_thread.specs.declared.kind.Kind.{Kind}
 use Rattle.iop_thread.specs.declared.kind.Kind.TheVariants.{Semaphore, EventFlag, Mailbox}
 use Rattle.iop_thread.specs.declared.thread.Thread.{Thread}
 use Rattle.iop_thread.specs.declared.wait.Wait.{Wait}
@@ -27,21 +26,22 @@ use Rattle.iop_kernel.specs.Answering.{leaves_code}
 use Rattle.iop_kernel.specs.Boards.{Board}
 use Rattle.iop_kernel.specs.Deliveries.{Delivered}
 use Rattle.iop_kernel.specs.DeliveryLaws.{DeliversDelay}
-use Rattle.iop_kernel.specs.EventFlags.{sets_flag, set_event_flag}
-use Rattle.iop_kernel.specs.Kinds.{Live, table, waits_by_priority}
-use Rattle.iop_kernel.specs.Mailboxes.{sends_by, send_mbx}
+use Rattle.iop_kernel.specs.EventFlags.{sets_flag, set_event_flag, serves_thevent}
+use Rattle.iop_kernel.specs.Kinds.{Live}
+use Rattle.iop_kernel.specs.Mailboxes.{sends_by, send_mbx, serves_thmsgbx}
 use Rattle.iop_kernel.specs.NamedThreads.{is_nobody_else}
-use Rattle.iop_kernel.specs.ObjectServices.{threads_in_order, deletes_object, delete_object}
+use Rattle.iop_kernel.specs.ObjectServices.{threads_in_order}
 use Rattle.iop_kernel.specs.Placing.{IsPlaced, is_for_delay}
-use Rattle.iop_kernel.specs.Semaphores.{signals_by, signal_sema}
-use Rattle.iop_kernel.specs.System.{Kernel, Core, Left, Done, answers, code_word}
+use Rattle.iop_kernel.specs.Semaphores.{signals_by, signal_sema, serves_thsemap}
+use Rattle.iop_kernel.specs.System.{Kernel, Core, Left, Done, argument, answers, code_word}
+use Rattle.iop_kernel.specs.Thbase.{serves_thbase}
 use Rattle.iop_kernel.specs.ThreadWaits.{releases_from, releases_it, release_wait, wakeup_thread}
 use Rattle.iop_kernel.specs.Waits.{wakes_with, leaves_object}
-use Rattle.iop_kernel.specs.WakingLaws.{WakesOne, WakesEach, deletes_of, WaitsEndSo}
-use Rattle.iop_kernel.proofs.WaitsEnd.Waiters.{next_of, times_there, times_ordered, first_waits, each_wakes}
+use Rattle.iop_kernel.specs.WakingLaws.{WakesOne, WakesEach, WaitsEndSo}
 use Rattle.iop_kernel.proofs.Keeping.Meetings.{threads_met, meets_core}
 use Rattle.iop_kernel.proofs.Placing.Moves.{times_settled}
 use Rattle.iop_kernel.proofs.Placing.Queues.{delayed}
+use Rattle.iop_kernel.proofs.WaitsEnd.Waiters.{next_of, times_there, first_waits, each_wakes}
 
 -- a signal
 signal_wakes : (c : Core) (id : ℕ) (o : Live Semaphore) (thread : ℕ) (rest : List ℕ)
@@ -60,7 +60,8 @@ signal_wakes c id o thread rest h live is =
     let left = signals_by c (Ok (Some next.0.one.item.thread), with_waiters s id next.0.others) in
     record {
       waited = first_waits Semaphore c.kernel h id o live thread rest is;
-      woken = subst (λ (left : Left Core). IsWoken c.kernel.threads left.state.kernel.threads thread 0)
+      woken = subst (λ (left : Left Core).
+          IsWoken c.kernel.threads left.state.kernel.threads thread 0)
           (sym (ap (signals_by c) did))
           (subst (λ one. IsWoken c.kernel.threads left.state.kernel.threads one 0) next.2
           (wakes_so c.kernel.threads next.0.one.item.thread 0));
@@ -115,26 +116,6 @@ set_wakes b id bits o h live =
       times_settled t pattern o.waiters,
       times_there EventFlag k h id o live t,
     ))))
-
--- an object is deleted
-delete_wakes : (kind : Kind) (c : Core) (id : ℕ) (o : Live kind) → IsPlaced c.kernel
-    → object_of (table kind c.kernel).live id ≡ Some o
-    → WakesEach (threads_in_order kind o) (Object kind id) (code_word OBJECT_DELETED)
-    c.kernel.threads (delete_object kind c id).state.kernel.threads
-delete_wakes kind c id o h live =
-    let ids = threads_in_order kind o in
-    subst (λ (left : Left Core). WakesEach ids (Object kind id) (code_word OBJECT_DELETED)
-    c.kernel.threads left.state.kernel.threads) (sym (ap (deletes_object kind c) live))
-    (each_wakes kind c.kernel h id o live ids (code_word OBJECT_DELETED)
-    (λ t. omega (arith, times_ordered kind c.kernel h id o live (waits_by_priority kind o.state) t)))
-
-deletes_each : (kind : Kind) (c : Core) (id : ℕ) (o : Live kind) → IsPlaced c.kernel
-    → object_of (table kind c.kernel).live id ≡ Some o
-    → WakesEach (threads_in_order kind o) (Object kind id) (code_word OBJECT_DELETED)
-    c.kernel.threads (deletes_of kind c id).state.kernel.threads
-deletes_each Semaphore = delete_wakes Semaphore
-deletes_each EventFlag = delete_wakes EventFlag
-deletes_each Mailbox = delete_wakes Mailbox
 
 -- a thread that leaves the object of its wait leaves no other thread
 leaving_threads : (k : Kernel) (thread : ℕ) (wait : Wait)
@@ -213,12 +194,12 @@ delay_wakes c d delay h stands delivers = record {
 }
 
 pub waits_end_so : WaitsEndSo
+unfolding serves_thbase serves_thsemap serves_thevent serves_thmsgbx
 waits_end_so = record {
-  signals = signal_wakes;
-  sends = send_wakes;
-  sets = set_wakes;
-  deletes = deletes_each;
-  releases = release_wakes;
-  wakes_up = wakeup_wakes;
+  signals = λ b. signal_wakes b.core (argument b.core 0);
+  sends = λ b. send_wakes b (argument b.core 0) (argument b.core 1);
+  sets = λ b. set_wakes b (argument b.core 0) (argument b.core 1);
+  releases = λ s. release_wakes s.core (argument s.core 0);
+  wakes_up = λ s. wakeup_wakes s.core (argument s.core 0);
   delays = delay_wakes;
 }

@@ -1,5 +1,6 @@
 -- What holds after each service of event flags.
 use Rattle.std.proofs.Common.{◌≡◌, ℕ, ◌==◌, not, true, false, Option, Some, None, Result, Ok, Err, List, [], ◌∷◌, refl, sym, subst, ap, arith}
+use Rattle.std.specs.Prelude.{is_some}
 use Rattle.std.proofs.lemmas.Bool.{cond_both}
 use Rattle.std.proofs.lemmas.Bool.Decides.{nat_tests}
 use Rattle.iop_base.specs.Piece.{Piece}
@@ -26,8 +27,8 @@ use Rattle.iop_kernel.proofs.Walk.Stores.{written, either_board, met_stored, own
 use Rattle.iop_kernel.proofs.Walk.Threads.{answers_after, only}
 
 module _ {P : System → List Piece → Type 0} {Q : After → System → List Piece → Type 0}
-    {Asks : Type 0} {s : System} (e : EachMoves P Q Asks s)
-    (m : ObjectMoves P Q Asks s EventFlag) where
+    {Asks MayLeave : Type 0} {s : System} (e : EachMoves P Q Asks s)
+    (m : ObjectMoves P Q Asks s MayLeave EventFlag) where
   abbrev c : Core
   c = s.core
 
@@ -119,10 +120,11 @@ module _ {P : System → List Piece → Type 0} {Q : After → System → List P
         → BoardGoes (tests_or_waits b id wanted place (Err code, those))
     refused place code other = rw other (only e _)
 
-    waits_flag_by : Asks → (o : Option (Option ℕ)) → PlaceFits s o
+    waits_flag_by : Asks → MayLeave → (o : Option (Option ℕ))
+        → optional_place s.memory wanted.place ≡ o → PlaceFits s o
         → BoardGoes (waits_flag_at b id wanted o)
-    waits_flag_by asks None fits = e.bad_place
-    waits_flag_by asks (Some place) fits =
+    waits_flag_by asks leave None is fits = e.bad_place
+    waits_flag_by asks leave (Some place) is fits =
         either_board e (may_switch c.kernel) _ _ (λ may.
         tests_by
         (λ (r : Result ℕ Code × EventFlags). BoardGoes (tests_or_waits b id wanted place r))
@@ -130,13 +132,15 @@ module _ {P : System → List Piece → Type 0} {Q : After → System → List P
         (λ x known met. written e place (x.pattern ∷ []) _ OK (fits place refl)
         (m.changes id x _ known (tests wanted met)))
         (λ x known some free unmet.
-        waits_goes e EventFlag m asks id x wanted may known (some, free, unmet) (caller c) refl))
+        waits_goes e EventFlag m asks leave id x wanted may known (some, free, unmet)
+        (ap is_some is) (caller c) refl))
         (λ cannot. only e _)
 
-    pub waits_flag_goes : Asks
+    pub waits_flag_goes : Asks → MayLeave
         → BoardGoes (waits_flag_at b id wanted (optional_place s.memory wanted.place))
-    waits_flag_goes asks =
-        waits_flag_by asks (optional_place s.memory wanted.place) (optional_fits s wanted.place)
+    waits_flag_goes asks leave =
+        waits_flag_by asks leave (optional_place s.memory wanted.place) refl
+        (optional_fits s wanted.place)
 
     pub polls_flag_goes : BoardGoes
         (polls_flag_at b id wanted (optional_place s.memory wanted.place))

@@ -34,6 +34,7 @@ use Rattle.iop_thread.specs.declared.param.Param.{Param}
 use Rattle.iop_thread.specs.declared.thread.Thread.{Thread}
 use Rattle.iop_time.specs.ClockTime.{ticks_of}
 use Rattle.iop_kernel.specs.Boards.{board_of}
+use Rattle.iop_kernel.specs.Callers.{may_leave}
 use Rattle.iop_kernel.specs.EventFlags.{flag_words, wanted, serves_thevent}
 use Rattle.iop_kernel.specs.Interrupts.{serves_intrman}
 use Rattle.iop_kernel.specs.Mailboxes.{mailbox_words, serves_thmsgbx}
@@ -73,8 +74,13 @@ place s at count = words_place s.memory at count
 abbrev pub IsAsked : Service → Type 0 → Type 0
 IsAsked x Asks = asks_for_thread x ≡ true → Asks
 
+-- and of one after which its caller may not go on
+abbrev pub IsLeft : Service → Type 0 → Type 0
+IsLeft x MayLeave = may_leave x ≡ true → MayLeave
+
 module _ {P : System → List Piece → Type 0} {Q : After → System → List Piece → Type 0}
-    {Asks : Type 0} {s : System} (e : EachMoves P Q Asks s) (t : ThreadMoves P Q Asks s) where
+    {Asks MayLeave : Type 0} {s : System} (e : EachMoves P Q Asks s)
+    (t : ThreadMoves P Q Asks s MayLeave) where
   -- a thread is made, by the block that is taken for its stack
   creates_at_goes : (param : Param) (r : ℕ × BlockMap)
       → allocating s.blocks FROM_ABOVE param.stack_size 0 ≡ r → Ends Q (creates_at s param r)
@@ -163,87 +169,104 @@ module _ {P : System → List Piece → Type 0} {Q : After → System → List P
   intrman_goes moves intrman.CpuResumeIntr = answers_after e _ _ (moves.turns _)
   intrman_goes moves intrman.QueryIntrContext = only e _
 
-  pub thsemap_goes : ObjectMoves P Q Asks s kinds.Semaphore → (x : ThsemapService)
-      → IsAsked (Thsemap x) Asks → BoardEnds Q s (serves_thsemap (board_of s) x)
-  unfolding serves_thsemap asks_for_thread
-  thsemap_goes moves thsemap.CreateSema asks =
+module _ {P : System → List Piece → Type 0} {Q : After → System → List Piece → Type 0}
+    {Asks MayLeave : Type 0} {s : System} (e : EachMoves P Q Asks s) where
+  pub thsemap_goes : ObjectMoves P Q Asks s MayLeave kinds.Semaphore → (x : ThsemapService)
+      → IsAsked (Thsemap x) Asks → IsLeft (Thsemap x) MayLeave
+      → BoardEnds Q s (serves_thsemap (board_of s) x)
+  unfolding serves_thsemap asks_for_thread may_leave
+  thsemap_goes moves thsemap.CreateSema asks leave =
       creates_sema_goes e moves (place s (a s 0) SEMAPHORE_WORDS)
-  thsemap_goes moves thsemap.DeleteSema asks = deletes_goes e kinds.Semaphore moves (a s 0)
-  thsemap_goes moves thsemap.SignalSema asks = signals_go e moves (a s 0)
-  thsemap_goes moves thsemap.WaitSema asks = wait_sema_goes e moves (asks refl) (a s 0)
-  thsemap_goes moves thsemap.PollSema asks = polls_sema_go e moves (a s 0)
-  thsemap_goes moves thsemap.ReferSemaStatus asks =
+  thsemap_goes moves thsemap.DeleteSema asks leave = deletes_goes e kinds.Semaphore moves (a s 0)
+  thsemap_goes moves thsemap.SignalSema asks leave = signals_go e moves (a s 0)
+  thsemap_goes moves thsemap.WaitSema asks leave =
+      wait_sema_goes e moves (asks refl) (leave refl) (a s 0)
+  thsemap_goes moves thsemap.PollSema asks leave = polls_sema_go e moves (a s 0)
+  thsemap_goes moves thsemap.ReferSemaStatus asks leave =
       status_goes e kinds.Semaphore semaphore_words SEMAPHORE_STATUS_WORDS (λ o. refl) (a s 0)
       (place s (a s 1) SEMAPHORE_STATUS_WORDS)
       (words_inside s.memory (a s 1) SEMAPHORE_STATUS_WORDS)
 
-  pub thevent_goes : ObjectMoves P Q Asks s kinds.EventFlag → Sets P Q Asks s → (x : TheventService)
-      → IsAsked (Thevent x) Asks → BoardEnds Q s (serves_thevent (board_of s) x)
-  unfolding serves_thevent asks_for_thread
-  thevent_goes moves setting thevent.CreateEventFlag asks =
+  pub thevent_goes : ObjectMoves P Q Asks s MayLeave kinds.EventFlag → Sets P Q Asks s
+      → (x : TheventService) → IsAsked (Thevent x) Asks → IsLeft (Thevent x) MayLeave
+      → BoardEnds Q s (serves_thevent (board_of s) x)
+  unfolding serves_thevent asks_for_thread may_leave
+  thevent_goes moves setting thevent.CreateEventFlag asks leave =
       creates_flag_goes e moves (place s (a s 0) FLAG_WORDS)
-  thevent_goes moves setting thevent.DeleteEventFlag asks = deletes_goes e kinds.EventFlag moves (a s 0)
-  thevent_goes moves setting thevent.SetEventFlag asks = sets_flag_goes e moves setting (a s 0) (a s 1)
-  thevent_goes moves setting thevent.ClearEventFlag asks = clears_go e moves (a s 0) (a s 1)
-  thevent_goes moves setting thevent.WaitEventFlag asks = waits_flag_goes e moves (a s 0) (wanted s.core) (asks refl)
-  thevent_goes moves setting thevent.PollEventFlag asks = polls_flag_goes e moves (a s 0) (wanted s.core)
-  thevent_goes moves setting thevent.ReferEventFlagStatus asks =
+  thevent_goes moves setting thevent.DeleteEventFlag asks leave =
+      deletes_goes e kinds.EventFlag moves (a s 0)
+  thevent_goes moves setting thevent.SetEventFlag asks leave =
+      sets_flag_goes e moves setting (a s 0) (a s 1)
+  thevent_goes moves setting thevent.ClearEventFlag asks leave = clears_go e moves (a s 0) (a s 1)
+  thevent_goes moves setting thevent.WaitEventFlag asks leave =
+      waits_flag_goes e moves (a s 0) (wanted s.core) (asks refl) (leave refl)
+  thevent_goes moves setting thevent.PollEventFlag asks leave =
+      polls_flag_goes e moves (a s 0) (wanted s.core)
+  thevent_goes moves setting thevent.ReferEventFlagStatus asks leave =
       status_goes e kinds.EventFlag flag_words FLAG_STATUS_WORDS (λ o. refl) (a s 0)
       (place s (a s 1) FLAG_STATUS_WORDS)
       (words_inside s.memory (a s 1) FLAG_STATUS_WORDS)
 
-  pub thmsgbx_goes : ObjectMoves P Q Asks s kinds.Mailbox → (x : ThmsgbxService)
-      → IsAsked (Thmsgbx x) Asks → BoardEnds Q s (serves_thmsgbx (board_of s) x)
-  unfolding serves_thmsgbx asks_for_thread
-  thmsgbx_goes moves thmsgbx.CreateMbx asks = creates_mbx_goes e moves (place s (a s 0) MAILBOX_WORDS)
-  thmsgbx_goes moves thmsgbx.DeleteMbx asks = deletes_goes e kinds.Mailbox moves (a s 0)
-  thmsgbx_goes moves thmsgbx.SendMbx asks = sends_go e moves (a s 0) (a s 1)
-  thmsgbx_goes moves thmsgbx.ReceiveMbx asks = waits_mbx_goes e moves (asks refl) (a s 0) (a s 1)
-  thmsgbx_goes moves thmsgbx.PollMbx asks = polls_mbx_goes e moves (a s 0) (a s 1)
-  thmsgbx_goes moves thmsgbx.ReferMbxStatus asks =
+  pub thmsgbx_goes : ObjectMoves P Q Asks s MayLeave kinds.Mailbox → (x : ThmsgbxService)
+      → IsAsked (Thmsgbx x) Asks → IsLeft (Thmsgbx x) MayLeave
+      → BoardEnds Q s (serves_thmsgbx (board_of s) x)
+  unfolding serves_thmsgbx asks_for_thread may_leave
+  thmsgbx_goes moves thmsgbx.CreateMbx asks leave =
+      creates_mbx_goes e moves (place s (a s 0) MAILBOX_WORDS)
+  thmsgbx_goes moves thmsgbx.DeleteMbx asks leave = deletes_goes e kinds.Mailbox moves (a s 0)
+  thmsgbx_goes moves thmsgbx.SendMbx asks leave = sends_go e moves (a s 0) (a s 1)
+  thmsgbx_goes moves thmsgbx.ReceiveMbx asks leave =
+      waits_mbx_goes e moves (asks refl) (leave refl) (a s 0) (a s 1)
+  thmsgbx_goes moves thmsgbx.PollMbx asks leave = polls_mbx_goes e moves (a s 0) (a s 1)
+  thmsgbx_goes moves thmsgbx.ReferMbxStatus asks leave =
       status_goes e kinds.Mailbox mailbox_words MAILBOX_STATUS_WORDS (λ o. refl) (a s 0)
       (place s (a s 1) MAILBOX_STATUS_WORDS)
       (words_inside s.memory (a s 1) MAILBOX_STATUS_WORDS)
 
-  pub thbase_goes : ThreadMoves P Q Asks s → AlarmMoves P Q Asks s → (x : ThbaseService)
-      → IsAsked (Thbase x) Asks → Ends Q (serves_thbase s x)
-  unfolding serves_thbase asks_for_thread
-  thbase_goes t alarms thbase.CreateThread asks = creates_go e t (place s (a s 0) PARAM_WORDS)
-  thbase_goes t alarms thbase.DeleteThread asks = delete_goes e t (a s 0)
-  thbase_goes t alarms thbase.StartThread asks = start_goes e t (a s 0) (a s 1)
-  thbase_goes t alarms thbase.ExitThread asks =
-      exits_go e t (e.no_thread (asks refl)) (caller s.core) refl
-  thbase_goes t alarms thbase.ExitDeleteThread asks =
-      exits_deleted_by_go e t (asks refl) (caller s.core) refl
-  thbase_goes t alarms thbase.TerminateThread asks = terminate_goes e t (a s 0)
-  thbase_goes t alarms thbase.DisableDispatchThread asks = set_goes e t false (λ off. asks refl)
-  thbase_goes t alarms thbase.EnableDispatchThread asks = set_goes e t true (λ off. absurd (cc off))
-  thbase_goes t alarms thbase.ChangeThreadPriority asks =
+  pub thbase_goes : ThreadMoves P Q Asks s MayLeave → AlarmMoves P Q Asks s
+      → (x : ThbaseService) → IsAsked (Thbase x) Asks → IsLeft (Thbase x) MayLeave
+      → Ends Q (serves_thbase s x)
+  unfolding serves_thbase asks_for_thread may_leave
+  thbase_goes t alarms thbase.CreateThread asks leave =
+      creates_go e t (place s (a s 0) PARAM_WORDS)
+  thbase_goes t alarms thbase.DeleteThread asks leave = delete_goes e t (a s 0)
+  thbase_goes t alarms thbase.StartThread asks leave = start_goes e t (a s 0) (a s 1)
+  thbase_goes t alarms thbase.ExitThread asks leave =
+      exits_go e t (e.no_thread (asks refl)) (leave refl) (caller s.core) refl
+  thbase_goes t alarms thbase.ExitDeleteThread asks leave =
+      exits_deleted_by_go e t (asks refl) (leave refl) (caller s.core) refl
+  thbase_goes t alarms thbase.TerminateThread asks leave = terminate_goes e t (a s 0)
+  thbase_goes t alarms thbase.DisableDispatchThread asks leave =
+      set_goes e t false (λ off. asks refl)
+  thbase_goes t alarms thbase.EnableDispatchThread asks leave =
+      set_goes e t true (λ off. absurd (cc off))
+  thbase_goes t alarms thbase.ChangeThreadPriority asks leave =
       changes_go e t (a s 0) (priority_of_word (a s 1))
-  thbase_goes t alarms thbase.RotateThreadReadyQueue asks =
-      rotates_by_go e t (a s 0) (priority_of_word (a s 0))
-  thbase_goes t alarms thbase.ReleaseWaitThread asks = release_goes e t (a s 0)
-  thbase_goes t alarms thbase.GetThreadId asks = only e _
-  thbase_goes t alarms thbase.ReferThreadStatus asks =
+  thbase_goes t alarms thbase.RotateThreadReadyQueue asks leave =
+      rotates_by_go e t (leave refl) (a s 0) (priority_of_word (a s 0))
+  thbase_goes t alarms thbase.ReleaseWaitThread asks leave = release_goes e t (a s 0)
+  thbase_goes t alarms thbase.GetThreadId asks leave = only e _
+  thbase_goes t alarms thbase.ReferThreadStatus asks leave =
       refers_go e (a s 0) (place s (a s 1) STATUS_WORDS)
       (words_inside s.memory (a s 1) STATUS_WORDS)
-  thbase_goes t alarms thbase.SleepThread asks = sleep_goes e t (asks refl)
-  thbase_goes t alarms thbase.WakeupThread asks = wakeup_goes e t (a s 0)
-  thbase_goes t alarms thbase.CancelWakeupThread asks =
+  thbase_goes t alarms thbase.SleepThread asks leave = sleep_goes e t (asks refl) (leave refl)
+  thbase_goes t alarms thbase.WakeupThread asks leave = wakeup_goes e t (a s 0)
+  thbase_goes t alarms thbase.CancelWakeupThread asks leave =
       cancels_go e t (named (caller s.core) (a s 0))
-  thbase_goes t alarms thbase.SuspendThread asks = suspend_goes e t (a s 0)
-  thbase_goes t alarms thbase.ResumeThread asks = resume_goes e t (a s 0)
-  thbase_goes t alarms thbase.DelayThread asks = delay_goes e t (asks refl) (a s 0)
-  thbase_goes t alarms thbase.GetSystemTime asks =
+  thbase_goes t alarms thbase.SuspendThread asks leave = suspend_goes e t (a s 0)
+  thbase_goes t alarms thbase.ResumeThread asks leave = resume_goes e t (a s 0)
+  thbase_goes t alarms thbase.DelayThread asks leave =
+      delay_goes e t (asks refl) (leave refl) (a s 0)
+  thbase_goes t alarms thbase.GetSystemTime asks leave =
       writes_time_goes e s.core.kernel.clock (place s (a s 0) TIME_WORDS)
       (words_inside s.memory (a s 0) TIME_WORDS)
-  thbase_goes t alarms thbase.SetAlarm asks =
+  thbase_goes t alarms thbase.SetAlarm asks leave =
       sets_alarm_goes e alarms (place s (a s 0) TIME_WORDS) (a s 1) (a s 2)
-  thbase_goes t alarms thbase.CancelAlarm asks =
+  thbase_goes t alarms thbase.CancelAlarm asks leave =
       answers_after e _ _ (alarms.cancels (a s 0) (a s 1))
-  thbase_goes t alarms thbase.USec2SysClock asks =
+  thbase_goes t alarms thbase.USec2SysClock asks leave =
       writes_time_goes e (ticks_of (a s 0)) (place s (a s 1) TIME_WORDS)
       (words_inside s.memory (a s 1) TIME_WORDS)
-  thbase_goes t alarms thbase.SysClock2USec asks =
+  thbase_goes t alarms thbase.SysClock2USec asks leave =
       converts_go e (place s (a s 0) TIME_WORDS) (place s (a s 1) 1) (place s (a s 2) 1)
       (words_inside s.memory (a s 1) 1) (words_inside s.memory (a s 2) 1)

@@ -1,5 +1,6 @@
 -- What holds after each service of mailboxes.
 use Rattle.std.proofs.Common.{◌≡◌, ℕ, ◌+◌, ◌≤◌, not, true, Option, Some, None, Result, Ok, Err, List, [], ◌∷◌, length, refl, ap, sym, ◌∙◌, arith}
+use Rattle.std.specs.Prelude.{is_some}
 use Rattle.std.proofs.lemmas.Bool.{cond_both}
 use Rattle.std.proofs.lemmas.Bool.Decides.{nat_tests}
 use Rattle.iop_base.specs.Piece.{Piece}
@@ -25,8 +26,8 @@ use Rattle.iop_kernel.proofs.Walk.Stores.{written, either_board}
 use Rattle.iop_kernel.proofs.Walk.Threads.{answers_after, only, either}
 
 module _ {P : System → List Piece → Type 0} {Q : After → System → List Piece → Type 0}
-    {Asks : Type 0} {s : System} (e : EachMoves P Q Asks s)
-    (m : ObjectMoves P Q Asks s MailboxOf) where
+    {Asks MayLeave : Type 0} {s : System} (e : EachMoves P Q Asks s)
+    (m : ObjectMoves P Q Asks s MayLeave MailboxOf) where
   abbrev c : Core
   c = s.core
 
@@ -142,24 +143,29 @@ module _ {P : System → List Piece → Type 0} {Q : After → System → List P
         gets_by (λ (r : Result ℕ Code × Mailboxes). BoardGoes (receives_by b place r)) (only e _)
         (λ x known none. only e _) received (state_of boxes id) refl
 
-    received_or_waits : Asks → (at : ℕ) → may_switch c.kernel ≡ true
+    received_or_waits : Asks → MayLeave → (at : ℕ)
+        → is_some (words_place s.memory at 1) ≡ true → may_switch c.kernel ≡ true
         → BoardGoes (receives_or_waits b at id place (mailboxes.gets boxes id))
-    received_or_waits asks at may =
+    received_or_waits asks leave at there may =
         gets_by (λ (r : Result ℕ Code × Mailboxes). BoardGoes (receives_or_waits b at id place r))
-        (only e _) (λ x known none. waits_goes e MailboxOf m asks id x at may known none (caller c) refl)
+        (only e _)
+        (λ x known none.
+        waits_goes e MailboxOf m asks leave id x at may known none there (caller c) refl)
         received (state_of boxes id) refl
 
-  waits_mbx_by : Asks → (at id : ℕ) (o : Option ℕ) → WordsFit s.memory o 1
-      → BoardGoes (waits_mbx_at b at id o)
-  waits_mbx_by asks at id None fits = e.bad_place
-  waits_mbx_by asks at id (Some place) fits =
-      either_board e (may_switch c.kernel) _ _ (received_or_waits id place (fits place refl) asks at)
+  waits_mbx_by : Asks → MayLeave → (at id : ℕ) (o : Option ℕ) → words_place s.memory at 1 ≡ o
+      → WordsFit s.memory o 1 → BoardGoes (waits_mbx_at b at id o)
+  waits_mbx_by asks leave at id None is fits = e.bad_place
+  waits_mbx_by asks leave at id (Some place) is fits =
+      either_board e (may_switch c.kernel) _ _
+      (received_or_waits id place (fits place refl) asks leave at (ap is_some is))
       (λ cannot. only e _)
 
-  pub waits_mbx_goes : Asks → (at id : ℕ)
+  pub waits_mbx_goes : Asks → MayLeave → (at id : ℕ)
       → BoardGoes (waits_mbx_at b at id (words_place s.memory at 1))
-  waits_mbx_goes asks at id =
-      waits_mbx_by asks at id (words_place s.memory at 1) (words_inside s.memory at 1)
+  waits_mbx_goes asks leave at id =
+      waits_mbx_by asks leave at id (words_place s.memory at 1) refl
+      (words_inside s.memory at 1)
 
   polls_mbx_by : (id : ℕ) (o : Option ℕ) → WordsFit s.memory o 1 → BoardGoes (polls_mbx_at b id o)
   polls_mbx_by id None fits = e.bad_place

@@ -3,10 +3,10 @@
 -- known where a service makes the change. All changes are told of the state in which the service
 -- was called: a service makes one of them, then stores, and then answers.
 use Rattle.std.proofs.Common.{◌≡◌, ℕ, ◌+◌, ◌≤◌, ◌==◌, Bool, true, false, not, ◌&&◌, Option, Some, None, Ok, List, [], ◌∷◌, ◌++◌, length}
+use Rattle.std.specs.Prelude.{⊤}
 use Rattle.iop_base.specs.Piece.{Piece, Told, Traced}
 use Rattle.iop_base.specs.Text.{line_bytes}
 use Rattle.iop_base.specs.declared.code.TheConstants.Code.{OK, OBJECT_DELETED, WAIT_RELEASED}
-use Rattle.iop_base.specs.declared.guest_fault.GuestFault.{GuestFault}
 use Rattle.iop_base.specs.declared.guest_fault.GuestFault.TheVariants.{Address, Service}
 use Rattle.iop_base.specs.declared.line.Line.TheVariants as lines
 use Rattle.iop_exec.specs.Row.{reg}
@@ -42,6 +42,7 @@ use Rattle.iop_kernel.specs.Stacks.{Owner}
 use Rattle.iop_kernel.specs.System.{Core, Left, System, Done, Served, may_switch, caller, running_registers, with_threads, with_event_flags, with_timers, with_irqs, with_interrupts, opened, answered, code_word, stores, storing_lines}
 use Rattle.iop_kernel.specs.ThreadStarts.{ended}
 use Rattle.iop_kernel.specs.ThreadWaits.{waits}
+use Rattle.iop_kernel.specs.WaiterPlaces.{HasPlace}
 use Rattle.iop_kernel.specs.Waits.{wakes_with, wakes_all, core_leaves, core_requeues}
 use Rattle.iop_kernel.specs.declared.active_handler.ActiveHandler.{ActiveHandler}
 use Rattle.iop_kernel.specs.declared.after.After.{After}
@@ -122,8 +123,8 @@ module _ (P : System → List Piece → Type 0) (Q : After → System → List P
     pub cancels : (handler arg : ℕ)
         → Lasts (with_timers now (cancels now.kernel.timers handler arg).1)
 
-  -- threads, with what they wait for
-  pub record ThreadMoves : Type 0 where
+  -- threads, with what they wait for; a service lets its caller not go on where it may leave
+  pub record ThreadMoves (MayLeave : Type 0) : Type 0 where
     pub dispatch : (enabled : Bool) → now.kernel.interrupts ≡ true → (enabled ≡ false → Asks)
         → Lasts (record now { kernel = record now.kernel { dispatching = enabled } })
     -- with a block for the stack
@@ -140,14 +141,15 @@ module _ (P : System → List Piece → Type 0) (Q : After → System → List P
         }) []
     pub starts : (id argument : ℕ) → Lasts (with_threads now (threads.starts table id argument).1)
     -- the thread that calls ends, or its module returns
-    pub ends : (id : ℕ) → caller now ≡ Some id → (id == LOADER) ≡ false → Leaves (ended now)
+    pub ends : (id : ℕ) → caller now ≡ Some id → (id == LOADER) ≡ false → MayLeave
+        → Leaves (ended now)
     pub ends_deleted : (id stack : ℕ) (left : ThreadTable) → caller now ≡ Some id
         → (id == LOADER) ≡ false → threads.deletes (ended now).kernel.threads id ≡ (Ok stack, left)
-        → Q Switch (record s {
+        → MayLeave → Q Switch (record s {
           core = with_threads (ended now) left;
           blocks = (freeing s.blocks stack).1;
         }) []
-    pub returns : (id word : ℕ) → caller now ≡ Some id → (id == LOADER) ≡ true
+    pub returns : (id word : ℕ) → caller now ≡ Some id → (id == LOADER) ≡ true → MayLeave
         → Q (ModuleReturned word) (at (opened now)) []
     -- another thread ends: one that does not run, or the one that does
     pub terminates : (id : ℕ) (wait : Option Wait) (left : ThreadTable)
@@ -167,7 +169,7 @@ module _ (P : System → List Piece → Type 0) (Q : After → System → List P
     pub rotates_beside : (priority : ℕ) → has_priority priority (running_thread table) ≡ true
         → may_switch now.kernel ≡ true → caller now ≡ None → Lasts (rotated priority)
     pub rotates_own : (priority id : ℕ) → has_priority priority (running_thread table) ≡ true
-        → may_switch now.kernel ≡ true → caller now ≡ Some id
+        → may_switch now.kernel ≡ true → caller now ≡ Some id → MayLeave
         → Leaves (answered (rotated priority) 0)
     pub releases : (id : ℕ) (t : Thread) (wait : Wait) → thread_of table.live id ≡ Some t
         → wait_in t.state ≡ Some wait
@@ -175,7 +177,7 @@ module _ (P : System → List Piece → Type 0) (Q : After → System → List P
     pub takes_wakeup : (left : ThreadTable) → threads.takes_wakeup table ≡ (true, left)
         → Lasts (with_threads now left)
     pub sleeps : (left : ThreadTable) → threads.takes_wakeup table ≡ (false, left)
-        → may_switch now.kernel ≡ true → Asks → Leaves (waits now Sleep).state
+        → may_switch now.kernel ≡ true → Asks → MayLeave → Leaves (waits now Sleep).state
     pub wakes_up : (id : ℕ) → is_nobody_else now id ≡ false
         → Lasts (with_threads now (threads.wakes_up table id).1)
     pub cancels : (id : ℕ) → Lasts (with_threads now (threads.cancels table id).1)
@@ -185,10 +187,11 @@ module _ (P : System → List Piece → Type 0) (Q : After → System → List P
     pub resumes : (id : ℕ) → is_nobody_else now id ≡ false
         → Lasts (with_threads now (threads.resumes table id).1)
     pub delays : (moment thread : ℕ) → caller now ≡ Some thread → may_switch now.kernel ≡ true
+        → MayLeave
         → Leaves (waits (with_timers now (delays now.kernel.timers moment thread)) Delay).state
 
   -- objects of a kind, with the threads that are woken or wait
-  pub record ObjectMoves (kind : Kind) : Type 0 where
+  pub record ObjectMoves (MayLeave : Type 0) (kind : Kind) : Type 0 where
     pub makes : (x : State kind) → IsFirst kind x
         → Lasts (with_objects kind now (objects.creates (those kind) x).1)
     -- those that wait are woken
@@ -207,7 +210,7 @@ module _ (P : System → List Piece → Type 0) (Q : After → System → List P
     pub waits : (id thread : ℕ) (x : State kind) (wants : Wants kind)
         → caller now ≡ Some thread → may_switch now.kernel ≡ true
         → state_of (those kind) id ≡ Some x → HasToWait kind (those kind) id x wants
-        → let priority = priority_of table.live thread in
+        → HasPlace kind s.memory wants → MayLeave → let priority = priority_of table.live thread in
         Leaves (waits (with_objects kind now (objects.waits (those kind) id
         (record { priority = priority; item = record { thread = thread; wants = wants } })))
         (Object kind id)).state
@@ -219,25 +222,17 @@ module _ (P : System → List Piece → Type 0) (Q : After → System → List P
       → Lasts (with_threads (with_event_flags now (set_flags now o bits))
       (wakes_all table (threads_met (met_of o bits)) (code_word OK)))
 
-  -- bytes are stored inside RAM, and their lines are given
-  abbrev pub StoresLast : Type 0
-  StoresLast =
-      (d : System) (given : List Piece) (place : ℕ) (bytes : List ℕ)
-      → place + length bytes ≤ length d.memory.ram → P d given
-      → P (stores d (Some place) bytes) (given ++ storing_lines d (Some place) bytes)
-
-  -- a word is answered, and the caller goes on
-  abbrev pub GoesOn : Type 0
-  GoesOn =
-      (d : System) (given : List Piece) (word : ℕ) → P d given
-      → Q Resume (record d { core = answered d.core word }) given
-
   -- what every service may do, and how one ends
   pub record EachMoves : Type 0 where
     -- nothing yet
     pub begins : P s []
-    pub stores : StoresLast
-    pub goes_on : GoesOn
+    -- bytes are stored inside RAM, and their lines are given
+    pub stores : (d : System) (given : List Piece) (place : ℕ) (bytes : List ℕ)
+        → place + length bytes ≤ length d.memory.ram → P d given
+        → P (stores d (Some place) bytes) (given ++ storing_lines d (Some place) bytes)
+    -- a word is answered, and the caller goes on
+    pub goes_on : (d : System) (given : List Piece) (word : ℕ) → P d given
+        → Q Resume (record d { core = answered d.core word }) given
     -- an address is no place
     pub bad_place : Q (Fault Address) s []
     -- no thread calls a service that asks for one
@@ -245,42 +240,31 @@ module _ (P : System → List Piece → Type 0) (Q : After → System → List P
     -- a text is printed
     pub prints : (text : List ℕ) → P s (Told text ∷ [])
 
-  -- the same, where each fault is such
-  pub record CallerMoves : Type 0 where
-    pub begins : P s []
-    pub stores : StoresLast
-    pub goes_on : GoesOn
-    pub faults : (kind : GuestFault) → Q (Fault kind) s []
-    pub prints : (text : List ℕ) → P s (Told text ∷ [])
-
-  abbrev pub each_of : CallerMoves → EachMoves
-  each_of e = record {
-    begins = e.begins;
-    stores = e.stores;
-    goes_on = e.goes_on;
-    bad_place = e.faults Address;
-    no_thread = λ asks none. e.faults Service;
-    prints = e.prints;
-  }
-
   -- the services of a library make its own moves alone
-  pub record Moves (library : ℕ) : Type 0 where
-    pub each : CallerMoves
+  pub record ServiceMoves (MayLeave : Type 0) (library : ℕ) : Type 0 where
+    pub each : EachMoves
     pub registry : library ≡ LOADCORE → RegistryMoves
     pub blocks : library ≡ SYSMEM → BlockMoves
     pub interrupts : library ≡ INTRMAN → InterruptMoves
     pub alarms : library ≡ THBASE → AlarmMoves
-    pub threads : library ≡ THBASE → ThreadMoves
-    pub objects : (kind : Kind) → library ≡ library_of kind → ObjectMoves kind
+    pub threads : library ≡ THBASE → ThreadMoves MayLeave
+    pub objects : (kind : Kind) → library ≡ library_of kind → ObjectMoves MayLeave kind
     pub sets : library ≡ THEVENT → Sets
+
+  -- where each may let its caller not go on
+  abbrev pub Moves : (library : ℕ) → Type 0
+  Moves = ServiceMoves ⊤
 
   -- a call of a number that is not listed
   abbrev pub UnlistedLasts : (library number : ℕ) → Type 0
   UnlistedLasts library number =
       P s (Traced (line_bytes s.core.kernel.clock (lines.Unlisted library number)) ∷ [])
 
-  -- all of them, and the return of a handler
+  -- what a `syscall` does beside them
   pub record CallMoves : Type 0 where
     pub unlisted : (library number : ℕ) → UnlistedLasts library number
+    -- it calls nothing, or who calls may not return so
+    pub no_service : Q (Fault Service) s []
+    -- the handler that runs returns
     pub handler : (handler : ActiveHandler) → s.core.kernel.handler ≡ Some handler
         → Leaves (handler_returned now handler (reg now.cpu 2))

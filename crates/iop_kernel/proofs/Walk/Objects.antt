@@ -6,6 +6,7 @@ use Rattle.iop_thread.specs.declared.kind.Kind.{Kind}
 use Rattle.iop_kernel.specs.Kinds.{State, Wants, Live, table}
 use Rattle.iop_kernel.specs.ObjectServices.{waits_for, deletes_object, delete_object}
 use Rattle.iop_kernel.specs.System.{System, may_switch, caller}
+use Rattle.iop_kernel.specs.WaiterPlaces.{HasPlace}
 use Rattle.iop_kernel.specs.declared.after.After.{After}
 use Rattle.iop_kernel.proofs.Walk.Changes.{HasToWait}
 use Rattle.iop_kernel.proofs.Walk.Moves.{EachMoves, ObjectMoves, CoreEnds}
@@ -13,8 +14,8 @@ use Rattle.iop_kernel.proofs.Walk.Stores.{own_id}
 use Rattle.iop_kernel.proofs.Walk.Threads.{answers_after, only}
 
 module _ {P : System → List Piece → Type 0} {Q : After → System → List Piece → Type 0}
-    {Asks : Type 0} {s : System} (e : EachMoves P Q Asks s) (kind : Kind)
-    (m : ObjectMoves P Q Asks s kind) where
+    {Asks MayLeave : Type 0} {s : System} (e : EachMoves P Q Asks s) (kind : Kind)
+    (m : ObjectMoves P Q Asks s MayLeave kind) where
   -- by the object of the id
   deletes_by : (id : ℕ) (o : Option (Live kind)) → object_of (table kind s.core.kernel).live id ≡ o
       → CoreEnds Q s (deletes_object kind s.core o)
@@ -26,10 +27,11 @@ module _ {P : System → List Piece → Type 0} {Q : After → System → List P
   deletes_goes id = deletes_by id (object_of (table kind s.core.kernel).live id) refl
 
   -- the thread that calls waits, which has to
-  pub waits_goes : Asks → (id : ℕ) (x : State kind) (wants : Wants kind)
+  pub waits_goes : Asks → MayLeave → (id : ℕ) (x : State kind) (wants : Wants kind)
       → may_switch s.core.kernel ≡ true → state_of (table kind s.core.kernel) id ≡ Some x
-      → HasToWait kind (table kind s.core.kernel) id x wants → (who : Option ℕ)
-      → caller s.core ≡ who → CoreEnds Q s (waits_for kind s.core id wants who)
-  waits_goes asks id x wants may known must None is = e.no_thread asks is
-  waits_goes asks id x wants may known must (Some thread) is =
-      m.waits id thread x wants is may known must
+      → HasToWait kind (table kind s.core.kernel) id x wants → HasPlace kind s.memory wants
+      → (who : Option ℕ) → caller s.core ≡ who
+      → CoreEnds Q s (waits_for kind s.core id wants who)
+  waits_goes asks leave id x wants may known must place None is = e.no_thread asks is
+  waits_goes asks leave id x wants may known must place (Some thread) is =
+      m.waits id thread x wants is may known must place leave

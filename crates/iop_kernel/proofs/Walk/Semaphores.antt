@@ -24,8 +24,8 @@ use Rattle.iop_kernel.proofs.Walk.Objects.{waits_goes}
 use Rattle.iop_kernel.proofs.Walk.Threads.{answers_after, only, either}
 
 module _ {P : System → List Piece → Type 0} {Q : After → System → List Piece → Type 0}
-    {Asks : Type 0} {s : System} (e : EachMoves P Q Asks s)
-    (m : ObjectMoves P Q Asks s Semaphore) where
+    {Asks MayLeave : Type 0} {s : System} (e : EachMoves P Q Asks s)
+    (m : ObjectMoves P Q Asks s MayLeave Semaphore) where
   abbrev c : Core
   c = s.core
 
@@ -98,11 +98,12 @@ module _ {P : System → List Piece → Type 0} {Q : After → System → List P
       refl (only e _) (λ x known zero. only e _)
       (λ x known some. answers_after e _ _ (m.changes id x _ known (takes some)))
 
-  pub wait_sema_goes : Asks → (id : ℕ) → CoreGoes (wait_sema c id)
-  wait_sema_goes asks id =
+  pub wait_sema_goes : Asks → MayLeave → (id : ℕ) → CoreGoes (wait_sema c id)
+  wait_sema_goes asks leave id =
       either e (may_switch c.kernel) _ _ (λ may.
       takes_by (λ (r : Code × Semaphores). CoreGoes (takes_or_waits c id r)) id (state_of semas id)
       refl (only e _)
-      (λ x known zero. waits_goes e Semaphore m asks id x tt may known zero (caller c) refl)
+      (λ x known zero.
+      waits_goes e Semaphore m asks leave id x tt may known zero tt (caller c) refl)
       (λ x known some. answers_after e _ _ (m.changes id x _ known (takes some))))
       (λ cannot. only e _)

@@ -43,7 +43,8 @@ module _ {P : System → List Piece → Type 0} {Q : After → System → List P
   either b x y = cond_both b x y (CoreEnds Q s)
 
 module _ {P : System → List Piece → Type 0} {Q : After → System → List Piece → Type 0}
-    {Asks : Type 0} {s : System} (e : EachMoves P Q Asks s) (h : ThreadMoves P Q Asks s) where
+    {Asks MayLeave : Type 0} {s : System} (e : EachMoves P Q Asks s)
+    (h : ThreadMoves P Q Asks s MayLeave) where
   abbrev c : Core
   c = s.core
 
@@ -57,19 +58,19 @@ module _ {P : System → List Piece → Type 0} {Q : After → System → List P
       (λ other. answers_after e _ _ (h.starts id argument))
 
   -- the thread that calls ends
-  pub exits_go : (caller c ≡ None → Q (Fault Service) s []) → (who : Option ℕ)
+  pub exits_go : (caller c ≡ None → Q (Fault Service) s []) → MayLeave → (who : Option ℕ)
       → caller c ≡ who → CoreGoes (exits_by c who)
-  exits_go faults None is = faults is
-  exits_go faults (Some id) is =
-      either e (id == LOADER) _ _ (λ loader. h.returns id 0 is loader)
-      (λ other. h.ends id is other)
+  exits_go faults leave None is = faults is
+  exits_go faults leave (Some id) is =
+      either e (id == LOADER) _ _ (λ loader. h.returns id 0 is loader leave)
+      (λ other. h.ends id is other leave)
 
   -- its module returns
-  pub returns_go : Q (Fault Service) s [] → (who : Option ℕ) → caller c ≡ who
+  pub returns_go : Q (Fault Service) s [] → MayLeave → (who : Option ℕ) → caller c ≡ who
       → CoreGoes (returns_by c who)
-  returns_go faults None is = faults
-  returns_go faults (Some id) is =
-      either e (id == LOADER) _ _ (λ loader. h.returns id _ is loader)
+  returns_go faults leave None is = faults
+  returns_go faults leave (Some id) is =
+      either e (id == LOADER) _ _ (λ loader. h.returns id _ is loader leave)
       (λ other. faults)
 
   -- another thread ends, by what that comes to
@@ -115,34 +116,35 @@ module _ {P : System → List Piece → Type 0} {Q : After → System → List P
   changes_go id (Some priority) = changes_named_go priority (named (caller c) id)
 
   -- the running thread is put behind the others, by whether it calls
-  leaving_goes : (priority : ℕ) → has_priority priority (running_thread c.kernel.threads) ≡ true
+  leaving_goes : MayLeave → (priority : ℕ)
+      → has_priority priority (running_thread c.kernel.threads) ≡ true
       → may_switch c.kernel ≡ true → (who : Option ℕ) → caller c ≡ who
       → CoreGoes (record {
         state = with_threads (answered c 0)
             (threads.rotates c.kernel.threads priority (running_registers (answered c 0)));
         after = after_leaving c who;
       })
-  leaving_goes priority own may None is =
+  leaving_goes leave priority own may None is =
       answers_after e _ 0 (h.rotates_beside priority own may is)
-  leaving_goes priority own may (Some id) is = h.rotates_own priority id own may is
+  leaving_goes leave priority own may (Some id) is = h.rotates_own priority id own may is leave
 
   -- the ready threads of a priority are rotated
-  rotates_go : (priority : ℕ) → CoreGoes (rotates_to c priority)
-  rotates_go priority =
+  rotates_go : MayLeave → (priority : ℕ) → CoreGoes (rotates_to c priority)
+  rotates_go leave priority =
       either e (not (has_priority priority (running_thread c.kernel.threads))) _ _
       (λ other. answers_after e _ 0 (h.rotates priority (grind (arith, nat_tests, other))))
       (λ own. either e (may_switch c.kernel) _ _
-      (λ may. leaving_goes priority (grind (arith, nat_tests, own)) may (caller c) refl)
+      (λ may. leaving_goes leave priority (grind (arith, nat_tests, own)) may (caller c) refl)
       (λ cannot. only e 0))
 
-  rotates_own_go : (who : Option ℕ) → CoreGoes (rotates_own c who)
-  rotates_own_go None = only e _
-  rotates_own_go (Some id) = rotates_go (priority_of c.kernel.threads.live id)
+  rotates_own_go : MayLeave → (who : Option ℕ) → CoreGoes (rotates_own c who)
+  rotates_own_go leave None = only e _
+  rotates_own_go leave (Some id) = rotates_go leave (priority_of c.kernel.threads.live id)
 
-  pub rotates_by_go : (word : ℕ) (o : Option ℕ) → CoreGoes (rotates_by c word o)
-  rotates_by_go word (Some priority) = rotates_go priority
-  rotates_by_go word None =
-      either e (word == 0) _ _ (λ own. rotates_own_go (caller c)) (λ other. only e _)
+  pub rotates_by_go : MayLeave → (word : ℕ) (o : Option ℕ) → CoreGoes (rotates_by c word o)
+  rotates_by_go leave word (Some priority) = rotates_go leave priority
+  rotates_by_go leave word None =
+      either e (word == 0) _ _ (λ own. rotates_own_go leave (caller c)) (λ other. only e _)
 
   -- a wait ends, if there is one
   releases_from_go : (id : ℕ) (t : Thread) → thread_of c.kernel.threads.live id ≡ Some t
@@ -162,15 +164,16 @@ module _ {P : System → List Piece → Type 0} {Q : After → System → List P
       (λ other. releases_it_goes id (thread_of c.kernel.threads.live id) refl)
 
   -- the thread that calls sleeps, by whether it has a wakeup
-  sleeps_go : Asks → may_switch c.kernel ≡ true → (r : Bool × ThreadTable)
+  sleeps_go : Asks → MayLeave → may_switch c.kernel ≡ true → (r : Bool × ThreadTable)
       → threads.takes_wakeup c.kernel.threads ≡ r → CoreGoes (sleeps_by c r)
-  sleeps_go asks may (true, left) is = answers_after e _ _ (h.takes_wakeup left is)
-  sleeps_go asks may (false, left) is = h.sleeps left is may asks
+  sleeps_go asks leave may (true, left) is = answers_after e _ _ (h.takes_wakeup left is)
+  sleeps_go asks leave may (false, left) is = h.sleeps left is may asks leave
 
-  pub sleep_goes : Asks → CoreGoes (sleep_thread c)
-  sleep_goes asks =
+  pub sleep_goes : Asks → MayLeave → CoreGoes (sleep_thread c)
+  sleep_goes asks leave =
       either e (may_switch c.kernel) _ _
-      (λ may. sleeps_go asks may (threads.takes_wakeup c.kernel.threads) refl) (λ cannot. only e _)
+      (λ may. sleeps_go asks leave may (threads.takes_wakeup c.kernel.threads) refl)
+      (λ cannot. only e _)
 
   -- a thread is woken
   pub wakeup_goes : (id : ℕ) → CoreGoes (wakeup_thread c id)
@@ -197,15 +200,16 @@ module _ {P : System → List Piece → Type 0} {Q : After → System → List P
       (λ other. answers_after e _ _ (h.resumes id other))
 
   -- the thread that calls waits for a time
-  waits_until_goes : Asks → (moment : ℕ) → may_switch c.kernel ≡ true → (who : Option ℕ)
-      → caller c ≡ who → CoreGoes (waits_until c moment who)
-  waits_until_goes asks moment may None is = e.no_thread asks is
-  waits_until_goes asks moment may (Some thread) is = h.delays moment thread is may
+  waits_until_goes : Asks → MayLeave → (moment : ℕ) → may_switch c.kernel ≡ true
+      → (who : Option ℕ) → caller c ≡ who → CoreGoes (waits_until c moment who)
+  waits_until_goes asks leave moment may None is = e.no_thread asks is
+  waits_until_goes asks leave moment may (Some thread) is = h.delays moment thread is may leave
 
-  pub delay_goes : Asks → (us : ℕ) → CoreGoes (delay_thread c us)
-  delay_goes asks us =
+  pub delay_goes : Asks → MayLeave → (us : ℕ) → CoreGoes (delay_thread c us)
+  delay_goes asks leave us =
       either e (may_switch c.kernel) _ _
-      (λ may. waits_until_goes asks (moment_after c.kernel.clock (ticks_of us)) may (caller c) refl)
+      (λ may. waits_until_goes asks leave (moment_after c.kernel.clock (ticks_of us)) may
+      (caller c) refl)
       (λ cannot. only e _)
 
   -- a dormant thread is deleted
@@ -220,16 +224,17 @@ module _ {P : System → List Piece → Type 0} {Q : After → System → List P
       (λ other. deletes_go id (threads.deletes c.kernel.threads id) refl)
 
   -- the thread that calls has ended, and is deleted
-  exits_deleted_go : (id : ℕ) → caller c ≡ Some id → (id == LOADER) ≡ false
+  exits_deleted_go : MayLeave → (id : ℕ) → caller c ≡ Some id → (id == LOADER) ≡ false
       → (r : Result ℕ Code × ThreadTable) → threads.deletes (ended c).kernel.threads id ≡ r
       → OwnerEnds Q s (exits_deleted (owner_of s) r)
-  exits_deleted_go id is other (Ok stack, left) did =
-      h.ends_deleted id stack left is other did
-  exits_deleted_go id is other (Err code, left) did = h.ends id is other
+  exits_deleted_go leave id is other (Ok stack, left) did =
+      h.ends_deleted id stack left is other did leave
+  exits_deleted_go leave id is other (Err code, left) did = h.ends id is other leave
 
-  pub exits_deleted_by_go : Asks → (who : Option ℕ) → caller c ≡ who
+  pub exits_deleted_by_go : Asks → MayLeave → (who : Option ℕ) → caller c ≡ who
       → OwnerEnds Q s (exits_deleted_by (owner_of s) who)
-  exits_deleted_by_go asks None is = e.no_thread asks is
-  exits_deleted_by_go asks (Some id) is =
-      cond_both (id == LOADER) _ _ (OwnerEnds Q s) (λ loader. h.returns id 0 is loader)
-      (λ other. exits_deleted_go id is other (threads.deletes (ended c).kernel.threads id) refl)
+  exits_deleted_by_go asks leave None is = e.no_thread asks is
+  exits_deleted_by_go asks leave (Some id) is =
+      cond_both (id == LOADER) _ _ (OwnerEnds Q s) (λ loader. h.returns id 0 is loader leave)
+      (λ other.
+      exits_deleted_go leave id is other (threads.deletes (ended c).kernel.threads id) refl)

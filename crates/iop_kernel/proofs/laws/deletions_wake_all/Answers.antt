@@ -1,4 +1,4 @@
-use Rattle.iop_kernel.proofs.Deletions.Threads.{deletions_wake_all}
+use Rattle.iop_kernel.proofs.WaitsEnd.Deletions.{deletions_wake_all}
 use Rattle.iop_kernel.proofs.laws.deletions_wake_all.Goals as goal
 
 pub returns : goal.returns

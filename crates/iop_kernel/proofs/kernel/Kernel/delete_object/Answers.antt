@@ -3,7 +3,7 @@ use Rattle.iop_objects.specs.Objects.{waiters_of}
 use Rattle.iop_kernel.specs.Kinds.{Table, table, is_by_priority}
 use Rattle.iop_kernel.specs.ObjectServices.{removes}
 use Rattle.iop_kernel.specs.Standing.{core, held}
-use Rattle.iop_kernel.proofs.Deletions.Objects.{chosen_of, waking_begins, holds_others, objects_stay, waking_goes_on, deletion_is, taken_out, none_taken_out, all_are_woken}
+use Rattle.iop_kernel.proofs.Bodies.Deletions.{chosen_of, waking_begins, holds_others, objects_stay, waking_goes_on, deletion_is, taken_out, none_taken_out, all_are_woken}
 use Rattle.iop_kernel.proofs.kernel.Kernel.delete_object.Goals as goal
 
 pub loop-thread-init : goal.loop-thread-init

@@ -2,7 +2,7 @@ use Rattle.std.proofs.Common.{length}
 use Rattle.iop_objects.specs.Objects.{waiters_of}
 use Rattle.iop_kernel.specs.Standing.{Holds, held}
 use Rattle.iop_kernel.specs.System.{Kernel}
-use Rattle.iop_kernel.proofs.Deletions.Objects.{IsWaking}
+use Rattle.iop_kernel.proofs.Bodies.Deletions.{IsWaking}
 use Rattle.iop_kernel.proofs.kernel.Kernel.delete_object.Given as goal
 
 abbrev pub invariant-loop-thread : goal.invariant-loop-thread

@@ -1,17 +1,16 @@
 -- The word of a row with operands holds the row's instruction with these operands.
 use Rattle.std.proofs.Common.{◌≡◌, Bool, true, false, not, ◌&&◌, cond, ◌<◌, nat_lt, Some, List, [], ◌∷◌, find, refl, subst}
 use Rattle.std.specs.List.{list_all}
-use Rattle.std.proofs.lemmas.Bool.{and_parts, eq-eqb, ltb-true}
+use Rattle.std.proofs.lemmas.Bool.{and_parts, eq-eqb, ltb-true, not-true}
 use Rattle.iop_isa.specs.declared.opcode.Opcode.{Opcode}
 use Rattle.iop_isa.specs.declared.opcode.Opcode.TheVariants.{Special, Regimm, Primary}
-use Rattle.iop_isa.specs.declared.table.Operand.{Operand}
 use Rattle.iop_isa.specs.Table.{Row, rows, same, found, code_of}
 use Rattle.iop_isa.specs.Words.{zeros}
 use Rattle.iop_isa.specs.Instructions.{row_inst, inst_of, word_with}
-use Rattle.iop_asm.specs.Operands.{Value, fields_with}
-use Rattle.iop_asm.proofs.FormatLaws.{is_formed, by_format}
+use Rattle.iop_asm.specs.Operands.{fields_with}
+use Rattle.iop_asm.proofs.FormatLemmas.{is_formed, by_format}
 use Rattle.iop_asm.proofs.LabelSlots.{carries, has_one_label}
-use Rattle.iop_asm.proofs.OperandFields.{are_apart, Lined, Reads, fold-reads}
+use Rattle.iop_asm.proofs.OperandFields.{are_apart, Item, Lined, Reads, fold-reads}
 
 -- a row's opcode finds it, and its operands have the format of the opcode
 pub record IsOwn (r : Row) : Type 0 where
@@ -38,10 +37,6 @@ same_itself : (opcode : Opcode) → same opcode opcode ≡ true
 same_itself (Special n) = eq-eqb n n refl
 same_itself (Regimm n) = eq-eqb n n refl
 same_itself (Primary n) = eq-eqb n n refl
-
-not_true : (b : Bool) → not b ≡ true → b ≡ false
-not_true true t = absurd (cc)
-not_true false t = refl
 
 -- what holds of all rows holds of one that is found
 test_found : (p test : Row → Bool) (xs : List Row) (r : Row) → find p xs ≡ Some r
@@ -77,7 +72,7 @@ found_own p (x ∷ xs) r is own =
         subst (λ (y : Row). found (x ∷ xs) y.opcode ≡ Some y) here (rw itself refl)
     at false e later =
         let h = later e in
-        let other : same r.opcode x.opcode ≡ false = not_true (same r.opcode x.opcode) h.0 in
+        let other : same r.opcode x.opcode ≡ false = not-true (same r.opcode x.opcode) h.0 in
         rw other h.1
 
 -- a row that is found by its name
@@ -97,7 +92,7 @@ row_own p r is =
     }
 
 -- what the word of a row with these operands holds
-pub row_held : (p : Row → Bool) (r : Row) (values : List (Operand × Value)) → find p rows ≡ Some r
+pub row_held : (p : Row → Bool) (r : Row) (values : List Item) → find p rows ≡ Some r
     → Lined r.operands values
     → (inst_of (word_with r.opcode (fields_with values)) ≡ Some (row_inst (fields_with values) r))
     × Reads r.operands values (fields_with values)

@@ -12,7 +12,7 @@ use Rattle.iop_isa.specs.Registers.{conventional, numbered, register_named, regi
 use Rattle.iop_asm.specs.Operands.{Value, Numeric, Register, Symbol, High, Low, register_of, immediate_of, name_within, value_of, operand_of, is_place, place_operands, place_words, last_place, operands_of, value_fits, operand_fits, field_of, lies_within, complement}
 use Rattle.iop_asm.specs.Texts.{and_rest, behind, number_of, symbol_of}
 use Rattle.iop_asm.specs.declared.number.Number.{Number}
-use Rattle.iop_asm.proofs.OperandFields.{Lined, Suits}
+use Rattle.iop_asm.proofs.OperandFields.{Suits, Item, Lined}
 
 module _ {A B : Type 0} where
   -- a value made of another
@@ -158,9 +158,6 @@ value_suits Label word v is fits =
     let none = label_low word v is in record { low = omega (arith, none); label = λ e. refl }
 value_suits Target word v is fits =
     let none = label_low word v is in record { low = omega (arith, none); label = λ e. refl }
-
-abbrev Item : Type 0
-Item = Operand × Value
 
 -- an item and those behind it
 record AreBoth (first : Option Item) (rest : Option (List Item)) (all : List Item) : Type 0 where

@@ -13,8 +13,7 @@ use Rattle.iop_kernel.specs.Waits.{core_leaves, core_requeues, wakes_with}
 use Rattle.iop_kernel.specs.declared.after.After.{After}
 use Rattle.iop_kernel.specs.declared.after.After.TheVariants.{Switch, ModuleReturned}
 use Rattle.iop_kernel.specs.declared.stacks.TheConstants.{FROM_ABOVE}
-use Rattle.iop_kernel.proofs.Walk.Listed.{ServiceMoves}
-use Rattle.iop_kernel.proofs.Walk.Moves.{EachMoves, CallerMoves, each_of, Moves}
+use Rattle.iop_kernel.proofs.Walk.Moves.{EachMoves, ServiceMoves}
 
 -- a thread that waits no more leaves the clock as it is
 leaves_clock : (c : Core) (thread : ℕ) (wait : Option Wait)
@@ -35,7 +34,7 @@ module _ (P : System → List Piece → Type 0) (Q : After → System → List P
   abbrev IsNow : Core → Type 0
   IsNow c = c.kernel.clock ≡ s.core.kernel.clock
 
-  pub record ServicesLook : Type 0 where
+  pub record Looks (MayLeave : Type 0) : Type 0 where
     pub each : EachMoves P Q Asks s
     -- the kernel and its processor change
     pub cores : (c : Core) → IsNow c → P (record s { core = c }) []
@@ -47,11 +46,13 @@ module _ (P : System → List Piece → Type 0) (Q : After → System → List P
         → P (record s { core = c; blocks = (freeing s.blocks stack).1 }) []
     pub registers : (libraries : List Entry) → P (record s { libraries = libraries }) []
     -- the caller does not go on
-    pub switches : (d : System) → P d [] → Q Switch d []
-    pub returns : (word : ℕ) → Q (ModuleReturned word) (record s { core = opened s.core }) []
+    pub switches : (d : System) → P d [] → MayLeave → Q Switch d []
+    pub returns : (word : ℕ) → MayLeave
+        → Q (ModuleReturned word) (record s { core = opened s.core }) []
 
-  pub services_look : ServicesLook → (library : ℕ) → ServiceMoves P Q Asks s library
-  services_look h library = record {
+  pub looks_aside : {MayLeave : Type 0} → Looks MayLeave → (library : ℕ)
+      → ServiceMoves P Q Asks s MayLeave library
+  looks_aside h library = record {
     each = h.each;
     registry = λ own_library. record { registers = h.registers };
     blocks = λ own_library. record {
@@ -70,9 +71,10 @@ module _ (P : System → List Piece → Type 0) (Q : After → System → List P
       creates = λ size param stack blocks is. h.takes FROM_ABOVE size 0 stack blocks _ refl is;
       deletes = λ id stack left is. h.frees stack _ refl;
       starts = λ id argument. h.cores _ refl;
-      ends = λ id is other. h.switches _ (h.cores _ refl);
-      ends_deleted = λ id stack left is other did. h.switches _ (h.frees stack _ refl);
-      returns = λ id word is loader. h.returns word;
+      ends = λ id is other leave. h.switches _ (h.cores _ refl) leave;
+      ends_deleted = λ id stack left is other did leave.
+          h.switches _ (h.frees stack _ refl) leave;
+      returns = λ id word is loader leave. h.returns word leave;
       terminates = λ id wait left other is rests.
           h.cores _ (leaves_clock (with_threads s.core left) id wait);
       terminates_running = λ id wait left other is runs.
@@ -81,58 +83,24 @@ module _ (P : System → List Piece → Type 0) (Q : After → System → List P
           h.cores _ (requeues_clock (with_threads s.core left) id priority wait);
       rotates = λ priority other. h.cores _ refl;
       rotates_beside = λ priority own may is. h.cores _ refl;
-      rotates_own = λ priority id own may is. h.switches _ (h.cores _ refl);
+      rotates_own = λ priority id own may is leave. h.switches _ (h.cores _ refl) leave;
       releases = λ id t wait found is.
           h.cores _ (leaves_clock (wakes_with s.core t.id WAIT_RELEASED) t.id (Some wait));
       takes_wakeup = λ left is. h.cores _ refl;
-      sleeps = λ left is may asks. h.switches _ (h.cores _ refl);
+      sleeps = λ left is may asks leave. h.switches _ (h.cores _ refl) leave;
       wakes_up = λ id other. h.cores _ refl;
       cancels = λ id. h.cores _ refl;
       suspends = λ id other may. h.cores _ refl;
       resumes = λ id other. h.cores _ refl;
-      delays = λ moment thread is may. h.switches _ (h.cores _ refl);
+      delays = λ moment thread is may leave. h.switches _ (h.cores _ refl) leave;
     };
     objects = λ kind own_library. record {
       makes = λ x legal. h.cores _ refl;
       deletes = λ o found. h.cores _ refl;
       changes = λ id x y known how. h.cores _ refl;
       wakes = λ id x one known chosen. h.cores _ refl;
-      waits = λ id thread x wants is may known must. h.switches _ (h.cores _ refl);
+      waits = λ id thread x wants is may known must place leave.
+          h.switches _ (h.cores _ refl) leave;
     };
     sets = λ own_library bits o found. h.cores _ refl;
   }
-
-  -- the same, where each fault is such
-  pub record LooksAside : Type 0 where
-    pub each : CallerMoves P Q Asks s
-    pub cores : (c : Core) → IsNow c → P (record s { core = c }) []
-    pub takes : (mode size at stack : ℕ) (blocks : BlockMap) (c : Core) → IsNow c
-        → allocating s.blocks mode size at ≡ (stack, blocks)
-        → P (record s { core = c; blocks = blocks }) []
-    pub frees : (stack : ℕ) (c : Core) → IsNow c
-        → P (record s { core = c; blocks = (freeing s.blocks stack).1 }) []
-    pub registers : (libraries : List Entry) → P (record s { libraries = libraries }) []
-    pub switches : (d : System) → P d [] → Q Switch d []
-    pub returns : (word : ℕ) → Q (ModuleReturned word) (record s { core = opened s.core }) []
-
-  pub looks_aside : LooksAside → (library : ℕ) → Moves P Q Asks s library
-  looks_aside h library =
-      let m = services_look (record {
-        each = each_of P Q Asks s h.each;
-        cores = h.cores;
-        takes = h.takes;
-        frees = h.frees;
-        registers = h.registers;
-        switches = h.switches;
-        returns = h.returns;
-      }) library in
-      record {
-        each = h.each;
-        registry = m.registry;
-        blocks = m.blocks;
-        interrupts = m.interrupts;
-        alarms = m.alarms;
-        threads = m.threads;
-        objects = m.objects;
-        sets = m.sets;
-      }

@@ -1,23 +1,23 @@
--- The services of interrupts, of threads and of what they wait for alone change the kernel, and
--- they leave the libraries as they were; those of a part's own library alone change it.
+-- What the services of a library leave as it was: the kernel's parts, the registered libraries and
+-- the blocks are changed by the services of their own libraries alone.
 use Rattle.std.proofs.Common.{◌≡◌, ◌≢◌, ℕ, Bool, true, false, Option, Some, List, refl, ap, sym, ◌∙◌}
 use Rattle.std.specs.Prelude.{⊤}
 use Rattle.iop_base.specs.Piece.{Piece}
 use Rattle.iop_base.specs.declared.code.TheConstants.Code.{WAIT_RELEASED}
 use Rattle.iop_intr.specs.InterruptLines.{IrqLine}
 use Rattle.iop_registry.specs.declared.registry.Entry.{Entry}
-use Rattle.iop_services.specs.declared.codes.TheConstants.{INTRMAN, THBASE}
-use Rattle.iop_base.specs.declared.guest_fault.GuestFault.TheVariants as faults_of
+use Rattle.iop_services.specs.declared.codes.TheConstants.{LOADCORE, SYSMEM, INTRMAN, THBASE}
 use Rattle.iop_services.specs.declared.service.Service.{Service}
 use Rattle.iop_services.proofs.Rows.{home}
+use Rattle.iop_sysmem.specs.BlockMap.{BlockMap}
 use Rattle.iop_thread.specs.ThreadTable.{ThreadTable}
 use Rattle.iop_thread.specs.declared.kind.Kind.{Kind}
 use Rattle.iop_thread.specs.declared.kind.Kind.TheVariants.{Semaphore, EventFlag, Mailbox}
 use Rattle.iop_thread.specs.declared.wait.Wait.{Wait}
 use Rattle.iop_thread.specs.declared.wait.Wait.TheVariants.{Delay, Object}
+use Rattle.iop_kernel.specs.CodeLaws.{KeepsObjects, serves_kernel}
 use Rattle.iop_kernel.specs.Kinds.{Table, table, with_table, library_of, is_by_priority}
-use Rattle.iop_kernel.specs.Laws.{KeepsObjects, LibrariesStayApart, serves_kernel, ServicesStayApart}
-use Rattle.iop_kernel.specs.Serving.{serves}
+use Rattle.iop_kernel.specs.Serving.{serves, calls_library}
 use Rattle.iop_kernel.specs.System.{Kernel, System, caller, with_threads, opened}
 use Rattle.iop_kernel.specs.ThreadStarts.{exit_thread}
 use Rattle.iop_kernel.specs.Waits.{leaves_object, requeues_at, wakes_with}
@@ -25,7 +25,6 @@ use Rattle.iop_kernel.specs.declared.after.After.{After}
 use Rattle.iop_kernel.proofs.Bodies.KindTables.{each_table}
 use Rattle.iop_kernel.proofs.Placing.ObjectsKept.{same_objects, drops_keep, requeues_keep}
 use Rattle.iop_kernel.proofs.Walk.Moves.{Moves}
-use Rattle.iop_kernel.proofs.Walk.Moves.{each_of}
 use Rattle.iop_kernel.proofs.Walk.Services.{serves_goes, library_goes, asked_not}
 use Rattle.iop_kernel.proofs.Walk.Threads.{exits_go}
 
@@ -82,20 +81,31 @@ module _ (s : System) (library : ℕ) where
   abbrev k : Kernel
   k = s.core.kernel
 
-  -- what the law says, of a service of the library
-  abbrev pub Stays : Kernel → List Entry → Type 0
-  Stays = ServicesStayApart s library
+  -- what a service of the library leaves of the kernel, the registered libraries and the blocks
+  pub record IsApart (left : Kernel) (entries : List Entry) (used : BlockMap) : Type 0 where
+    pub kernel : serves_kernel library ≡ false → left ≡ k
+    pub intrman : library ≡ INTRMAN
+        → left ≡ record k { interrupts = left.interrupts; irqs = left.irqs }
+    pub irqs : library ≢ INTRMAN → left.irqs ≡ k.irqs
+    pub timers : library ≢ THBASE → left.timers ≡ k.timers
+    pub interrupts : library ≢ INTRMAN → library ≢ THBASE → left.interrupts ≡ k.interrupts
+    pub dispatching : library ≢ THBASE → left.dispatching ≡ k.dispatching
+    pub handler : left.handler ≡ k.handler
+    pub libraries : library ≢ LOADCORE → entries ≡ s.libraries
+    pub blocks : library ≢ SYSMEM → library ≢ THBASE → used ≡ s.blocks
+    pub objects : (kind : Kind) → library ≢ library_of kind
+        → KeepsObjects (table kind k) (table kind left)
 
-  abbrev pub P : System → List Piece → Type 0
-  P d given = Stays d.core.kernel d.libraries
+  abbrev P : System → List Piece → Type 0
+  P d given = IsApart d.core.kernel d.libraries d.blocks
 
-  abbrev pub Q : After → System → List Piece → Type 0
-  Q after d given = Stays d.core.kernel d.libraries
+  abbrev Q : After → System → List Piece → Type 0
+  Q after d given = IsApart d.core.kernel d.libraries d.blocks
 
   -- the kernel is left
-  still : (entries : List Entry) → (serves_kernel library ≡ true → entries ≡ s.libraries)
-      → Stays k entries
-  still entries libraries = record {
+  still : (entries : List Entry) (blocks : BlockMap) → (library ≢ LOADCORE → entries ≡ s.libraries)
+      → (library ≢ SYSMEM → library ≢ THBASE → blocks ≡ s.blocks) → IsApart k entries blocks
+  still entries blocks libraries same_blocks = record {
     kernel = λ other. refl;
     intrman = λ own. refl;
     irqs = λ other. refl;
@@ -104,17 +114,27 @@ module _ (s : System) (library : ℕ) where
     dispatching = λ other. refl;
     handler = refl;
     libraries = libraries;
+    blocks = same_blocks;
     objects = λ kind other. same_tables k kind;
   }
+
+  -- nothing changes
+  nothing : IsApart k s.libraries s.blocks
+  nothing = still s.libraries s.blocks (λ other. refl) (λ other another. refl)
 
   -- a library that serves the kernel may change it
   serving : (n : ℕ) → serves_kernel n ≡ true → library ≡ n → {A : Type 0}
       → serves_kernel library ≡ false → A
   serving n is own other = absurd (cc (ap serves_kernel own, is, other))
 
+  -- sysmem changes the blocks
+  by_sysmem : library ≡ SYSMEM → (blocks : BlockMap) → IsApart k s.libraries blocks
+  by_sysmem own blocks =
+      still s.libraries blocks (λ other. refl) (λ other another. absurd (other own))
+
   -- intrman changes whether interrupts are on, and the lines
   by_intrman : library ≡ INTRMAN → (interrupts : Bool) (irqs : List IrqLine)
-      → Stays (record k { interrupts = interrupts; irqs = irqs }) s.libraries
+      → IsApart (record k { interrupts = interrupts; irqs = irqs }) s.libraries s.blocks
   by_intrman own interrupts irqs = record {
     kernel = serving INTRMAN refl own;
     intrman = λ same. refl;
@@ -123,13 +143,15 @@ module _ (s : System) (library : ℕ) where
     interrupts = λ other another. absurd (other own);
     dispatching = λ other. refl;
     handler = refl;
-    libraries = λ is. refl;
+    libraries = λ other. refl;
+    blocks = λ other another. refl;
     objects = λ kind other. same_tables k kind;
   }
 
   -- thbase all but the lines, the handler and the objects
-  by_thbase : library ≡ THBASE → (left : Kernel) → KeepsRest k left → Stays left s.libraries
-  by_thbase own left rest = record {
+  by_thbase : library ≡ THBASE → (left : Kernel) (blocks : BlockMap) → KeepsRest k left
+      → IsApart left s.libraries blocks
+  by_thbase own left blocks rest = record {
     kernel = serving THBASE refl own;
     intrman = λ same. absurd (cc (own, same));
     irqs = λ other. rest.0;
@@ -137,13 +159,14 @@ module _ (s : System) (library : ℕ) where
     interrupts = λ other another. absurd (another own);
     dispatching = λ other. absurd (other own);
     handler = rest.1;
-    libraries = λ is. refl;
+    libraries = λ other. refl;
+    blocks = λ other another. absurd (another own);
     objects = λ kind other. rest.2 kind;
   }
 
   -- those of objects their own, and the threads
   by_kind : (kind : Kind) → library ≡ library_of kind → (threads : ThreadTable) (left : Table kind)
-      → Stays (with_table kind (record k { threads = threads }) left) s.libraries
+      → IsApart (with_table kind (record k { threads = threads }) left) s.libraries s.blocks
   by_kind kind own threads left = record {
     kernel = serving (library_of kind) (kind_serves kind) own;
     intrman = λ same. absurd (kind_not_intrman kind (sym own ∙ same));
@@ -152,7 +175,8 @@ module _ (s : System) (library : ℕ) where
     interrupts = λ other another. refl;
     dispatching = λ other. refl;
     handler = refl;
-    libraries = λ is. refl;
+    libraries = λ other. refl;
+    blocks = λ other another. refl;
     objects =
         each_table (λ other t. library ≢ library_of other → KeepsObjects (table other k) t) kind k
         left (λ other. absurd (other own)) (λ other apart another. same_tables k other);
@@ -162,81 +186,82 @@ module _ (s : System) (library : ℕ) where
   pub apart : Moves P Q ⊤ s library
   apart = record {
     each = record {
-      begins = still s.libraries (λ is. refl);
+      begins = nothing;
       stores = λ d given place bytes inside h. h;
       goes_on = λ d given word h. h;
-      faults = λ kind. still s.libraries (λ is. refl);
-      prints = λ text. still s.libraries (λ is. refl);
+      bad_place = nothing;
+      no_thread = λ asked none. nothing;
+      prints = λ text. nothing;
     };
     registry = λ own. record {
       registers = λ libraries.
-          still libraries (λ serves. absurd (cc (ap serves_kernel own, serves)));
+          still libraries s.blocks (λ other. absurd (other own)) (λ other another. refl);
     };
     blocks = λ own. record {
-      takes = λ mode size at. still s.libraries (λ is. refl);
-      frees = λ at. still s.libraries (λ is. refl);
+      takes = λ mode size at. by_sysmem own _;
+      frees = λ at. by_sysmem own _;
     };
     interrupts = λ own. record {
       lines = λ left. by_intrman own _ left;
       turns = λ on. by_intrman own on _;
     };
     alarms = λ own. record {
-      sets = λ moment handler arg. by_thbase own _ (same_rest k);
-      cancels = λ handler arg. by_thbase own _ (same_rest k);
+      sets = λ moment handler arg. by_thbase own _ _ (same_rest k);
+      cancels = λ handler arg. by_thbase own _ _ (same_rest k);
     };
     threads = λ own. record {
-      dispatch = λ enabled on asks. by_thbase own _ (same_rest k);
-      creates = λ size param stack blocks is. by_thbase own _ (same_rest k);
-      deletes = λ id stack left is. by_thbase own _ (same_rest k);
-      starts = λ id argument. by_thbase own _ (same_rest k);
-      ends = λ id is other. by_thbase own _ (same_rest k);
-      ends_deleted = λ id stack left is other did. by_thbase own _ (same_rest k);
-      returns = λ id word is loader. by_thbase own _ (same_rest k);
+      dispatch = λ enabled on asks. by_thbase own _ _ (same_rest k);
+      creates = λ size param stack blocks is. by_thbase own _ _ (same_rest k);
+      deletes = λ id stack left is. by_thbase own _ _ (same_rest k);
+      starts = λ id argument. by_thbase own _ _ (same_rest k);
+      ends = λ id is other leave. by_thbase own _ _ (same_rest k);
+      ends_deleted = λ id stack left is other did leave. by_thbase own _ _ (same_rest k);
+      returns = λ id word is loader leave. by_thbase own _ _ (same_rest k);
       terminates = λ id wait left other is rests.
-          by_thbase own _ (leaving_rest (with_threads s.core left).kernel id wait);
+          by_thbase own _ _ (leaving_rest (with_threads s.core left).kernel id wait);
       terminates_running = λ id wait left other is runs.
-          by_thbase own _ (leaving_rest (with_threads (opened s.core) left).kernel id wait);
+          by_thbase own _ _ (leaving_rest (with_threads (opened s.core) left).kernel id wait);
       changes = λ id priority wait left is.
-          by_thbase own _ (requeueing_rest (with_threads s.core left).kernel id priority wait);
-      rotates = λ priority other. by_thbase own _ (same_rest k);
-      rotates_beside = λ priority same may is. by_thbase own _ (same_rest k);
-      rotates_own = λ priority id same may is. by_thbase own _ (same_rest k);
+          by_thbase own _ _ (requeueing_rest (with_threads s.core left).kernel id priority wait);
+      rotates = λ priority other. by_thbase own _ _ (same_rest k);
+      rotates_beside = λ priority same may is. by_thbase own _ _ (same_rest k);
+      rotates_own = λ priority id same may is leave. by_thbase own _ _ (same_rest k);
       releases = λ id t wait found is.
-          by_thbase own _
+          by_thbase own _ _
           (leaving_rest (wakes_with s.core t.id WAIT_RELEASED).kernel t.id (Some wait));
-      takes_wakeup = λ left is. by_thbase own _ (same_rest k);
-      sleeps = λ left is may asks. by_thbase own _ (same_rest k);
-      wakes_up = λ id other. by_thbase own _ (same_rest k);
-      cancels = λ id. by_thbase own _ (same_rest k);
-      suspends = λ id other may. by_thbase own _ (same_rest k);
-      resumes = λ id other. by_thbase own _ (same_rest k);
-      delays = λ moment thread is may. by_thbase own _ (same_rest k);
+      takes_wakeup = λ left is. by_thbase own _ _ (same_rest k);
+      sleeps = λ left is may asks leave. by_thbase own _ _ (same_rest k);
+      wakes_up = λ id other. by_thbase own _ _ (same_rest k);
+      cancels = λ id. by_thbase own _ _ (same_rest k);
+      suspends = λ id other may. by_thbase own _ _ (same_rest k);
+      resumes = λ id other. by_thbase own _ _ (same_rest k);
+      delays = λ moment thread is may leave. by_thbase own _ _ (same_rest k);
     };
     objects = λ kind own. record {
       makes = λ x legal. by_kind kind own _ _;
       deletes = λ o found. by_kind kind own _ _;
       changes = λ id x y known how. by_kind kind own _ _;
       wakes = λ id x one known chosen. by_kind kind own _ _;
-      waits = λ id thread x wants is may known must. by_kind kind own _ _;
+      waits = λ id thread x wants is may known must place leave. by_kind kind own _ _;
     };
     sets = λ own bits o found. by_kind EventFlag own _ _;
   }
 
 -- each service leaves what is not its library's
 pub serves_apart : (s : System) (x : Service) → let d = serves s x in
-    Stays s (home x) d.left.state.core.kernel d.left.state.libraries
-serves_apart s x = serves_goes x (apart s (home x)) (λ asked. tt)
+    IsApart s (home x) d.left.state.core.kernel d.left.state.libraries d.left.state.blocks
+serves_apart s x = serves_goes x (apart s (home x)) (λ asked. tt) (λ leave. tt)
 
 -- so does the thread that ends
 pub exits_apart : (s : System)
-    → Stays s THBASE (exit_thread s.core).state.kernel s.libraries
+    → IsApart s THBASE (exit_thread s.core).state.kernel s.libraries s.blocks
 exits_apart s =
     let m = apart s THBASE in
-    exits_go (each_of _ _ _ s m.each) (m.threads refl) (λ none. m.each.faults faults_of.Service)
-    (caller s.core) refl
+    exits_go m.each (m.threads refl) (λ none. nothing s THBASE) tt (caller s.core) refl
 
--- a call of a library stays apart
-pub libraries_stay_apart : LibrariesStayApart
-libraries_stay_apart s library number =
-    library_goes library number (apart s library) (still s library s.libraries (λ is. refl))
-    (asked_not s)
+-- so does a call of a library
+pub library_stays : (s : System) (library number : ℕ)
+    → let left = (calls_library library number s).left.state in
+    IsApart s library left.core.kernel left.libraries left.blocks
+library_stays s library number =
+    library_goes library number (apart s library) (nothing s library) (asked_not s)

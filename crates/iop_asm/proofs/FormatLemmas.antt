@@ -12,8 +12,8 @@ use Rattle.iop_isa.specs.Table.{Row, rows, found}
 use Rattle.iop_isa.specs.Words.{fields_of, zeros}
 use Rattle.iop_isa.specs.Instructions.{number, row_inst, inst_of, word_with, Holds}
 use Rattle.iop_isa.proofs.Formats.{registers_held, code_held, regimm_held, jump_held, immediate_held}
-use Rattle.iop_asm.specs.Operands.{Value, fields_with}
-use Rattle.iop_asm.proofs.OperandFields.{is_apart, AreLow, Lined, fold-apart, fold-low, inst_with-same, list_all-weaker, zeros_low}
+use Rattle.iop_asm.specs.Operands.{fields_with}
+use Rattle.iop_asm.proofs.OperandFields.{is_apart, AreLow, Item, Lined, fold-apart, fold-low, inst_with-same, list_all-weaker, zeros_low}
 
 -- the operands of each format
 abbrev pub in_registers : Operand → Bool
@@ -110,7 +110,7 @@ either true c A t first second = first refl
 either false c A t first second = second t
 
 -- the operands are read in their order, and fit
-module _ (r : Row) (values : List (Operand × Value)) (lined : Lined r.operands values) where
+module _ (r : Row) (values : List Item) (lined : Lined r.operands values) where
   abbrev pub fields : Fields
   fields = fields_with values
 
@@ -149,8 +149,8 @@ module _ (r : Row) (values : List (Operand × Value)) (lined : Lined r.operands 
         sa = fields.sa;
       } in
       made_by (Special function) held in_registers is
-      (registers_held word function fields.rs fields.rt fields.rd fields.sa small low.rs low.rt
-      low.rd low.sa (omega (arith, n)))
+      (registers_held word function fields.rs fields.rt fields.rd fields.sa small (low Rs) (low Rt)
+      (low Rd) (low Sa) (omega (arith, n)))
       (agree_registers fields (fields_of word)) all
 
   by_code : (function : ℕ) → found rows (Special function) ≡ Some r → function < 64
@@ -162,7 +162,7 @@ module _ (r : Row) (values : List (Operand × Value)) (lined : Lined r.operands 
       let sa = zero_by Sa in_code (λ o t. (code_far o t).3) all in
       let word : ℕ = word_with (Special function) fields in
       made_by (Special function) (record (fields_of word) { n = fields.n }) in_code is
-      (code_held word function fields.n small low.n (omega (arith, rs, rt, rd, sa)))
+      (code_held word function fields.n small (low Code) (omega (arith, rs, rt, rd, sa)))
       (agree_code fields (fields_of word)) all
 
   by_regimm : (rt : ℕ) → found rows (Regimm rt) ≡ Some r → rt < 32
@@ -171,7 +171,7 @@ module _ (r : Row) (values : List (Operand × Value)) (lined : Lined r.operands 
       let word : ℕ = word_with (Regimm rt) fields in
       let held : Fields = record (fields_of word) { rs = fields.rs; imm = fields.imm } in
       made_by (Regimm rt) held in_regimm is
-      (regimm_held word rt fields.rs fields.imm small low.rs low.imm refl)
+      (regimm_held word rt fields.rs fields.imm small (low Rs) (low Bits) refl)
       (agree_regimm fields (fields_of word)) all
 
   by_jump : (opcode : ℕ) → found rows (Primary opcode) ≡ Some r → 1 < opcode → opcode < 64
@@ -182,7 +182,7 @@ module _ (r : Row) (values : List (Operand × Value)) (lined : Lined r.operands 
       let imm = zero_by Signed in_jump (λ o t. (jump_far o t).2) all in
       let word : ℕ = word_with (Primary opcode) fields in
       made_by (Primary opcode) (record (fields_of word) { target = fields.target }) in_jump is
-      (jump_held word opcode fields.target some small low.target (omega (arith, rs, rt, imm)))
+      (jump_held word opcode fields.target some small (low Target) (omega (arith, rs, rt, imm)))
       (agree_jump fields (fields_of word)) all
 
   by_immediate : (opcode : ℕ) → found rows (Primary opcode) ≡ Some r → 1 < opcode → opcode < 64
@@ -196,8 +196,8 @@ module _ (r : Row) (values : List (Operand × Value)) (lined : Lined r.operands 
         imm = fields.imm;
       } in
       made_by (Primary opcode) held in_immediate is
-      (immediate_held word opcode fields.rs fields.rt fields.imm some small low.rs low.rt low.imm
-      (omega (arith, target)))
+      (immediate_held word opcode fields.rs fields.rt fields.imm some small (low Rs) (low Rt)
+      (low Bits) (omega (arith, target)))
       (agree_immediate fields (fields_of word)) all
 
   -- by its format
