@@ -33,8 +33,6 @@ mod statement;
 mod statements;
 mod strings;
 mod tables;
-#[cfg(test)]
-mod tests;
 mod texts;
 mod unit;
 mod value;

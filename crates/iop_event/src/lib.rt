@@ -5,8 +5,6 @@ mod event_flag;
 mod event_flags;
 pub mod laws;
 mod met;
-#[cfg(test)]
-mod tests;
 mod wanted;
 
 pub use event_flag::{EventFlag, MANY_WAITERS};

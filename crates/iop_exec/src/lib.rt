@@ -9,8 +9,6 @@ pub mod laws;
 mod memory;
 mod position;
 mod registers;
-#[cfg(test)]
-mod tests;
 
 pub use bus::Bus;
 pub use cpu::{Cpu, Event};

@@ -4,25 +4,13 @@
 mod answering;
 mod command;
 mod dumping;
-#[cfg(test)]
-mod image_tests;
 mod inputs;
 mod modules;
 mod modules_to_load;
-#[cfg(test)]
-mod option_tests;
-#[cfg(test)]
-mod order_tests;
 mod reading;
 mod refusing;
 mod running;
 mod status;
-#[cfg(test)]
-mod test_commands;
-#[cfg(test)]
-mod test_files;
-#[cfg(test)]
-mod tests;
 mod unread;
 mod words;
 

@@ -4,7 +4,5 @@
 
 mod generating;
 mod source;
-#[cfg(test)]
-mod tests;
 
 pub use generating::{LONGEST_GENERATED, generate};

@@ -5,8 +5,6 @@ mod handler;
 mod irqs;
 pub mod laws;
 mod line_set;
-#[cfg(test)]
-mod tests;
 
 pub use handler::Handler;
 pub use irqs::{IRQ_LINES, Irqs};

@@ -18,8 +18,6 @@ mod registers;
 mod spelling;
 mod table;
 mod targets;
-#[cfg(test)]
-mod tests;
 
 pub use decoding::decode;
 pub use encoding::encode;

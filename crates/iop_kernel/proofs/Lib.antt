@@ -8,6 +8,7 @@ pub mod Overdue
 pub mod KeptPlaces
 pub mod Placing
 pub mod Readings
+pub mod Requests
 pub mod Switching
 pub mod WaitsBegin
 pub mod WaitsEnd

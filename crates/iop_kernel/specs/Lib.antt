@@ -21,6 +21,10 @@ pub mod Laws
 pub mod DeliveryLaws
 pub mod HandlerLaws
 pub mod MakerLaws
+pub mod InterruptRequests
+pub mod LibraryRequests
+pub mod ObjectRequests
+pub mod ThreadRequests
 pub mod StatusLaws
 pub mod TimeLaws
 pub mod WordLaws

@@ -5,10 +5,14 @@ ghost use Rattle.iop_kernel.specs.Callers.{CallersGoOn};
 ghost use Rattle.iop_kernel.specs.CodeLaws.{CodesStayApart};
 ghost use Rattle.iop_kernel.specs.DeliveryLaws.{DeliveriesAreInOrder};
 ghost use Rattle.iop_kernel.specs.HandlerLaws.{HandlersBeginWith, ResultsAreGiven};
+ghost use Rattle.iop_kernel.specs.InterruptRequests.{InterruptRequestsAreServed};
 ghost use Rattle.iop_kernel.specs.Laws.{ServicesKeep, LibrariesFaultAtAddresses, DispatchesAreStrict};
+ghost use Rattle.iop_kernel.specs.LibraryRequests.{LibraryRequestsAreServed};
 ghost use Rattle.iop_kernel.specs.MakerLaws.{MadeAsGiven};
+ghost use Rattle.iop_kernel.specs.ObjectRequests.{ObjectRequestsAreServed};
 ghost use Rattle.iop_kernel.specs.StatusLaws.{StatusIsRead, SemaphoreStatusIsRead, FlagStatusIsRead, MailboxStatusIsRead};
 ghost use Rattle.iop_kernel.specs.SwitchLaws.{DispatchesAloneSwitch};
+ghost use Rattle.iop_kernel.specs.ThreadRequests.{ThreadRequestsAreServed};
 ghost use Rattle.iop_kernel.specs.TimeLaws.{SystemTimeIsRead, TicksAreRead, SecondsAreRead};
 ghost use Rattle.iop_kernel.specs.WaitingLaws.{WaitsBeginSo, WaitsBeginWhere};
 ghost use Rattle.iop_kernel.specs.WakingLaws.{DeletionsWakeAll, WaitsEndSo};
@@ -74,6 +78,36 @@ pub fn handlers_begin_with()
 /// of what their words say, each in its place.
 pub fn made_as_given()
     ensures { MadeAsGiven }
+{}
+
+/// Each service of thbase that makes nothing and does not wait does with its words what their
+/// places say: on which thread it works, what it answers, and that nothing else changes.
+/// DeleteThread and ExitDeleteThread free the thread's stack. For ChangeThreadPriority and
+/// CancelWakeupThread 0 names the caller; StartThread and DeleteThread refuse 0 and the loader's
+/// thread, all others 0 and the caller, and TerminateThread the loader's thread, too.
+pub fn thread_requests_are_served()
+    ensures { ThreadRequestsAreServed }
+{}
+
+/// Each service of intrman that registers no handler does with its words what their places say: on
+/// which line it works, whether interrupts are on then, and what it answers.
+pub fn interrupt_requests_are_served()
+    ensures { InterruptRequestsAreServed }
+{}
+
+/// SetEventFlag adds the bits of its second argument, of which those stay that no waiter clears;
+/// ClearEventFlag leaves those of its second argument alone, and PollEventFlag tests those of its
+/// second argument by its third. Where no thread waits, SendMbx queues its second argument, with
+/// the byte behind the message's first word as its priority where the mailbox looks at it.
+pub fn object_requests_are_served()
+    ensures { ObjectRequestsAreServed }
+{}
+
+/// Each service of loadcore, sysmem and stdio, and the return of a module or of its thread, does
+/// with its words what their places say, and answers so. AllocSysMemory takes a mode, a size and an
+/// address; printf and Kprintf print the text of their first argument with those behind it.
+pub fn library_requests_are_served()
+    ensures { LibraryRequestsAreServed }
 {}
 
 /// A handler that returns 0 disables its line, or removes its alarm. One that returns another word

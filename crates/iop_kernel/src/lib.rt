@@ -20,8 +20,6 @@ mod semaphores;
 mod serving;
 mod stacks;
 mod system_clock;
-#[cfg(test)]
-mod tests;
 mod thbase;
 mod thread_starts;
 mod thread_status;

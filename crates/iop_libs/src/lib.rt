@@ -4,8 +4,6 @@
 mod loadcore;
 mod stdio;
 mod sysmem;
-#[cfg(test)]
-mod tests;
 
 pub use loadcore::serve_loadcore;
 pub use stdio::serve_stdio;

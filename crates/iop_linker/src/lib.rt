@@ -8,8 +8,6 @@ pub mod laws;
 mod library;
 mod link_fault;
 mod linking;
-#[cfg(test)]
-mod tests;
 
 pub use link_fault::LinkFault;
 pub use linking::link;

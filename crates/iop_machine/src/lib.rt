@@ -16,8 +16,6 @@ mod module;
 mod modules_left;
 mod progress;
 mod services;
-#[cfg(test)]
-mod tests;
 
 pub use arguments::{MOST_WORD_BYTES, MOST_WORDS};
 pub use machine::Machine;

@@ -4,8 +4,6 @@
 pub mod laws;
 mod mailbox;
 mod mailboxes;
-#[cfg(test)]
-mod tests;
 
 pub use mailbox::{MESSAGES_BY_PRIORITY, Mailbox, WAITERS_BY_PRIORITY};
 pub use mailboxes::{MOST_MESSAGES, Mailboxes};

@@ -8,8 +8,6 @@ mod limits;
 mod loaded;
 mod loading;
 mod module_file;
-#[cfg(test)]
-mod tests;
 
 pub use finishing::finish;
 pub use limits::LONGEST_FILE;

@@ -6,8 +6,6 @@ pub mod laws;
 mod objects;
 mod queued;
 mod queues;
-#[cfg(test)]
-mod tests;
 mod waiter;
 mod waiter_queues;
 

@@ -11,8 +11,6 @@ mod modules;
 mod numbers;
 mod options;
 mod parsing;
-#[cfg(test)]
-mod tests;
 mod values;
 
 pub use dump_range::DumpRange;

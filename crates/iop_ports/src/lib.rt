@@ -11,8 +11,6 @@ mod sending;
 mod shelf;
 mod stream_sink;
 mod sure_files;
-#[cfg(test)]
-mod tests;
 
 pub use count_sink::CountSink;
 pub use disk_files::DiskFiles;

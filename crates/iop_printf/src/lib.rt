@@ -10,8 +10,6 @@ mod notation;
 mod numerals;
 mod reading;
 mod strings;
-#[cfg(test)]
-mod tests;
 mod texts;
 
 pub use formatting::format;

@@ -7,8 +7,6 @@ mod plain_ready;
 mod priority;
 mod ready;
 mod slot;
-#[cfg(test)]
-mod tests;
 
 pub use plain_ready::{KernelReady, PlainReady};
 pub use priority::{LOWEST_PRIORITY, Priority};

@@ -2,7 +2,5 @@
 #![tactic(auto)]
 
 mod registry;
-#[cfg(test)]
-mod tests;
 
 pub use registry::{KERNEL_TABLE_LEN, KERNEL_TABLES_AT, MOST_LIBRARIES, Registry};

@@ -9,8 +9,6 @@ mod parsing;
 mod raise;
 mod script;
 mod statements;
-#[cfg(test)]
-mod tests;
 mod texts;
 mod word;
 

@@ -4,8 +4,6 @@
 pub mod laws;
 mod semaphore;
 mod semaphores;
-#[cfg(test)]
-mod tests;
 
 pub use semaphore::{BY_PRIORITY, Semaphore};
 pub use semaphores::Semaphores;

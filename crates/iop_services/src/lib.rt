@@ -10,8 +10,6 @@ mod service;
 mod stdio_service;
 mod sysmem_service;
 mod table;
-#[cfg(test)]
-mod tests;
 mod thbase_service;
 mod thevent_service;
 mod thmsgbx_service;

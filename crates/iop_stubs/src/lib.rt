@@ -6,8 +6,6 @@ mod guest_memory;
 pub mod laws;
 mod live_stub;
 mod live_stubs;
-#[cfg(test)]
-mod tests;
 
 pub use guest_memory::Guest;
 pub use live_stub::Stub;

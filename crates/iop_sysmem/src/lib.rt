@@ -5,8 +5,6 @@
 mod block;
 mod blocks;
 pub mod laws;
-#[cfg(test)]
-mod tests;
 
 pub use block::Block;
 pub use blocks::{Blocks, KERNEL, NO_BLOCK, NOWHERE};

@@ -3,7 +3,5 @@
 #![tactic(auto)]
 
 mod appending;
-#[cfg(test)]
-mod tests;
 
 pub use appending::{append, append_hex, append_hex_digits, append_number};

@@ -9,8 +9,6 @@ mod param;
 mod places;
 mod scheduling;
 mod state;
-#[cfg(test)]
-mod tests;
 mod thread;
 mod threads;
 mod wait;

@@ -6,8 +6,6 @@ mod clock;
 mod delay;
 mod due;
 pub mod laws;
-#[cfg(test)]
-mod tests;
 mod ticks;
 mod turn;
 

@@ -2,8 +2,6 @@
 #![tactic(auto)]
 
 mod dump;
-#[cfg(test)]
-mod tests;
 mod text;
 mod two_sinks;
 

@@ -7,10 +7,6 @@ mod building;
 mod headers;
 pub mod laws;
 mod layout;
-#[cfg(test)]
-mod relocation_tests;
-#[cfg(test)]
-mod tests;
 mod writing;
 
 pub use build_fault::BuildFault;

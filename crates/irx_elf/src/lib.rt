@@ -10,8 +10,6 @@ mod relocations;
 mod section;
 mod section_table;
 mod segment;
-#[cfg(test)]
-mod tests;
 
 pub use irx::Irx;
 pub use relocations::{Lists, Relocations};

@@ -2,7 +2,5 @@
 #![tactic(auto)]
 
 mod info;
-#[cfg(test)]
-mod tests;
 
 pub use info::{Info, NUMBERS_SIZE, read_info};

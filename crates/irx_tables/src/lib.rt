@@ -5,8 +5,6 @@ mod export_tables;
 mod import_tables;
 pub mod laws;
 mod reading;
-#[cfg(test)]
-mod tests;
 mod words;
 
 pub use export_tables::{export_word, exports_count, header};

@@ -24,7 +24,7 @@ line_disabled l =
     cond_both l.enabled _ _ (λ (r : Code × IrqLine). is_code r.0 ILLEGAL_INTERRUPT ≡ false)
     (λ on. refl) (λ off. refl)
 
-is_disabled : (lines : List IrqLine) (line : ℕ) → line < IRQ_LINES
+pub is_disabled : (lines : List IrqLine) (line : ℕ) → line < IRQ_LINES
     → is_code (disabling lines line).0 ILLEGAL_INTERRUPT ≡ false
 is_disabled lines line below =
     let is : nat_lt line IRQ_LINES ≡ true = grind (arith, nat_tests, below) in

@@ -1,0 +1,15 @@
+pub mod Rings
+pub mod Changes
+pub mod Owners
+pub mod Walks
+pub mod Ownership
+pub mod Families
+pub mod Standing
+pub mod Mapping
+pub mod Puts
+pub mod Disjoint
+pub mod Fresh
+pub mod Takes
+pub mod Fields
+pub mod Undoing
+pub mod Placing

@@ -1,0 +1,80 @@
+-- A node that is put into a list and taken out again.
+use Rattle.std.proofs.Common.{◌≡◌, ◌∙◌, ℕ, ◌<◌, Bool, true, false, cond, not, eqb, ⊎_elim, Some, None, List, [], ◌∷◌, ◌++◌, length, map, get_or, refl, ap, arith}
+use Rattle.std.specs.List.{position, position_or_len}
+use Rattle.std.proofs.lemmas.Bool.{cases_lt, lt-ltb, ne_eqb, eq-eqb}
+use Rattle.std.proofs.lemmas.List.{append-nil, get_or_past, map-set, set-get_or}
+use Rattle.std.proofs.lemmas.List.Elements.{filter-append}
+use Rattle.std.proofs.lemmas.List.Sums.{fails_before_first}
+use Rattle.std.proofs.lemmas.Simd.{map-map}
+use Rattle.iop_cblock.specs.Lists.{Lists, holds, list_at, list_of, without, in_front, unlinked, with_list}
+use Rattle.iop_cblock.specs.Laws.{IsUndone}
+use Rattle.iop_cblock.proofs.Rings.{lacks-head, lacks-tail}
+use Rattle.iop_cblock.proofs.Changes.{without-lacks}
+use Rattle.iop_cblock.proofs.Mapping.{map-none}
+
+position-some : {X : Type 0} (p : X → Bool) (xs : List X) → position_or_len p xs < length xs
+    → position p xs ≡ Some (position_or_len p xs)
+position-some p xs h = rw (lt-ltb (position_or_len p xs) (length xs) h) refl
+
+-- where no list has a node, each lacks it
+pub lacks-free : (node : ℕ) (s : Lists) → list_of node s ≡ None → (list : ℕ)
+    → holds node (list_at list s) ≡ false
+lacks-free node s free list =
+    ⊎_elim
+    (λ h. ⊎_elim
+    (λ q. let some = position-some (holds node) s.lists q in cc)
+    (λ q. fails_before_first (holds node) s.lists list [] (omega (arith, q, h)))
+    (cases_lt (position_or_len (holds node) s.lists) (length s.lists)))
+    (λ h. rw (get_or_past s.lists list [] h) refl)
+    (cases_lt list (length s.lists))
+
+without-itself : (node : ℕ) (xs : List ℕ) → without node (node ∷ xs) ≡ without node xs
+without-itself node xs = rw (eq-eqb node node refl) refl
+
+without_in_front_by : (b : Bool) (node other y : ℕ) (ys : List ℕ) → holds node (y ∷ ys) ≡ false
+    → without node (in_front node other ys) ≡ ys
+    → without node (cond b (node ∷ y ∷ ys) (y ∷ in_front node other ys)) ≡ y ∷ ys
+without_in_front_by true node other y ys h ih =
+    without-itself node (y ∷ ys) ∙ without-lacks node (y ∷ ys) h
+without_in_front_by false node other y ys h ih =
+    rw (ne_eqb node y (lacks-head node y ys h)) (ap (λ zs. y ∷ zs) ih)
+
+without-in_front : (node other : ℕ) (xs : List ℕ) → holds node xs ≡ false
+    → without node (in_front node other xs) ≡ xs
+without-in_front node other [] h = refl
+without-in_front node other (y ∷ ys) h =
+    without_in_front_by (eqb other y) node other y ys h
+    (without-in_front node other ys (lacks-tail node y ys h))
+
+module _ (node : ℕ) (s : Lists) (free : list_of node s ≡ None) where
+  stays : map (without node) s.lists ≡ s.lists
+  stays =
+      map-none (without node) s.lists []
+      (λ j h. without-lacks node (get_or s.lists j []) (lacks-free node s free j))
+
+  -- a list that is as before once the node is taken out
+  undone : (list : ℕ) (ys : List ℕ) → without node ys ≡ list_at list s
+      → unlinked node (with_list list ys s) ≡ s
+  undone list ys e =
+      rw (map-set (without node) s.lists list ys, stays, e, set-get_or s.lists list []) refl
+
+  pub is_undone : IsUndone node s
+  is_undone =
+      record {
+        back = λ list.
+            let xs = list_at list s in
+            undone list (xs ++ node ∷ [])
+            (filter-append (λ x. not (eqb node x)) xs (node ∷ [])
+            ∙ ap (λ ys. without node xs ++ ys) (without-itself node [])
+            ∙ append-nil (without node xs) ∙ without-lacks node xs (lacks-free node s free list));
+        front = λ list.
+            let xs = list_at list s in
+            undone list (node ∷ xs)
+            (without-itself node xs ∙ without-lacks node xs (lacks-free node s free list));
+        before = λ other.
+            let same =
+            map-map (without node) (in_front node other) s.lists
+            ∙ map-none (λ xs. without node (in_front node other xs)) s.lists []
+            (λ j h. without-in_front node other (get_or s.lists j []) (lacks-free node s free j)) in
+            rw same refl;
+      }

@@ -1,0 +1,74 @@
+use Rattle.std.proofs.Common.{◌≡◌, true, false, arith, rules}
+use Rattle.std.specs.Option.{is_some}
+use Rattle.iop_cblock.proofs.Standing.{sound_from, view_from}
+use Rattle.iop_cblock.proofs.Takes.{take-stands, before_below, behind_below, unlinked-free}
+use Rattle.iop_cblock.proofs.Fields.{links, own, listed-read, free-read}
+use Rattle.iop_cblock.proofs.Disjoint.{disjoint-from, view_disjoint}
+use Rattle.iop_cblock.proofs.arena.Arena.unlink.Goals as goal
+
+pub index_mut-requires : goal.index_mut-requires
+index_mut-requires c =
+    let a = c.self.inside in
+    let s = c.args.self.now in
+    let f = own c.self.inside s c.self.invariant c.self.view_is in
+    let some : is_some c.index.result.now ≡ true = search rules in
+    let listed =
+    listed-read (links a) s f c.args.node c.requires c.index.result.now c.index.ensures some in
+    let below =
+    before_below a.nodes a.next.items a.previous.items a.owner.items c.args.node s f c.requires
+    listed.0 listed.1 c.index-before.result.now c.index-before.ensures in
+    omega (arith, below)
+
+pub index_mut-requires-then-is_some : goal.index_mut-requires-then-is_some
+index_mut-requires-then-is_some c =
+    let a = c.self.inside in
+    let s = c.args.self.now in
+    let f = own c.self.inside s c.self.invariant c.self.view_is in
+    let some : is_some c.index.result.now ≡ true = search rules in
+    let listed =
+    listed-read (links a) s f c.args.node c.requires c.index.result.now c.index.ensures some in
+    let below =
+    behind_below a.nodes a.next.items a.previous.items a.owner.items c.args.node s f c.requires
+    listed.0 listed.1 c.index-behind.result.now c.index-behind.ensures in
+    omega (arith, below)
+
+pub invariant_of-self : goal.invariant_of-self
+invariant_of-self c =
+    let a = c.self.inside in
+    let s = c.args.self.now in
+    let f = own c.self.inside s c.self.invariant c.self.view_is in
+    let some : is_some c.index.result.now ≡ true = search rules in
+    let listed =
+    listed-read (links a) s f c.args.node c.requires c.index.result.now c.index.ensures some in
+    sound_from _ _
+    (take-stands a.nodes a.next.items a.previous.items a.owner.items c.args.node s f c.requires
+    listed.0 listed.1 c.index-before.result.now c.index-behind.result.now
+    c.index-before.ensures c.index-behind.ensures)
+
+pub returns-then-is_some : goal.returns-then-is_some
+returns-then-is_some c =
+    let a = c.self.inside in
+    let s = c.args.self.now in
+    let f = own c.self.inside s c.self.invariant c.self.view_is in
+    let some : is_some c.index.result.now ≡ true = search rules in
+    let listed =
+    listed-read (links a) s f c.args.node c.requires c.index.result.now c.index.ensures some in
+    let after =
+    take-stands a.nodes a.next.items a.previous.items a.owner.items c.args.node s f c.requires
+    listed.0 listed.1 c.index-before.result.now c.index-behind.result.now
+    c.index-before.ensures c.index-behind.ensures in
+    record { lists = view_from _ _ after; disjoint = view_disjoint _ _ after }
+
+pub returns-else-is_some : goal.returns-else-is_some
+returns-else-is_some c =
+    let a = c.self.inside in
+    let s = c.args.self.now in
+    let f = own c.self.inside s c.self.invariant c.self.view_is in
+    let none : is_some c.index.result.now ≡ false = search rules in
+    record {
+      lists =
+          unlinked-free a.nodes a.next.items a.previous.items a.owner.items c.args.node s f
+          c.requires
+          (free-read (links a) s f c.args.node c.requires c.index.result.now c.index.ensures none);
+      disjoint = disjoint-from (links a) s f;
+    }

@@ -1,0 +1,24 @@
+-- What the laws of the lists say.
+use Rattle.std.specs.Prelude.{◌≡◌, ℕ, ◌<◌, length, Some, None, IsSome}
+use Rattle.iop_cblock.specs.Lists.{Lists, first_of, next_of, list_of, pushed_back, pushed_front, inserted_before, unlinked}
+
+-- a node that is put in and taken out leaves the lists as they were
+pub record IsUndone (node : ℕ) (s : Lists) : Type 0 where
+  pub back : (list : ℕ) → unlinked node (pushed_back list node s) ≡ s
+  pub front : (list : ℕ) → unlinked node (pushed_front list node s) ≡ s
+  pub before : (other : ℕ) → unlinked node (inserted_before node other s) ≡ s
+
+abbrev pub UnlinkUndoes : Type 0
+UnlinkUndoes = (node : ℕ) (s : Lists) → list_of node s ≡ None → IsUndone node s
+
+-- a node stands where it was put: the last of its list, the first of it, or in front of another
+pub record IsPlaced (node : ℕ) (s : Lists) : Type 0 where
+  pub list : (list : ℕ) → list < length s.lists → list_of node (pushed_back list node s) ≡ Some list
+  pub last : (list : ℕ) → list < length s.lists → next_of node (pushed_back list node s) ≡ None
+  pub first : (list : ℕ) → list < length s.lists
+      → first_of list (pushed_front list node s) ≡ Some node
+  pub before : (other : ℕ) → IsSome (list_of other s)
+      → next_of node (inserted_before node other s) ≡ Some other
+
+abbrev pub PushesPlace : Type 0
+PushesPlace = (node : ℕ) (s : Lists) → list_of node s ≡ None → IsPlaced node s

@@ -1,0 +1,16 @@
+//! Facts about the definitions that no call computes. Each is the contract of a function that does
+//! nothing.
+
+ghost use Rattle.iop_cblock.specs.Laws.{UnlinkUndoes, PushesPlace};
+
+/// A node that is put into a list, at either end or in front of another, and is taken out again
+/// leaves all lists as they were.
+pub fn unlink_undoes()
+    ensures { UnlinkUndoes }
+{}
+
+/// A node that is pushed to the back is the last of its list, one that is pushed to the front is the
+/// first of it, and one that is put in front of another has that one behind it.
+pub fn pushes_place()
+    ensures { PushesPlace }
+{}

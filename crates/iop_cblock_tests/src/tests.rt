@@ -1,0 +1,142 @@
+ghost use Rattle.std.specs.Prelude.{◌≡◌, ◌<◌, length};
+
+use iop_cblock::Arena;
+use std::test::Fail;
+
+const NODES: u32 = 6;
+
+const LISTS: u32 = 2;
+
+/// What a row of the table does.
+#[derive(Drop)]
+enum Change {
+    PushBack { list: u32, node: u32 },
+    PushFront { list: u32, node: u32 },
+    InsertBefore { node: u32, before: u32 },
+    Unlink { node: u32 },
+}
+
+/// Puts a node at an end of a list, if the list and the node are there and the node is free.
+fn push(arena: &mut Arena, list: u32, node: u32, front: bool)
+    requires nodes { arena.old.nodes ≡ NODES }
+    requires lists { length arena.old.lists ≡ LISTS }
+    ensures nodes { arena.new.nodes ≡ NODES }
+    ensures lists { length arena.new.lists ≡ LISTS }
+{
+    if list < LISTS && node < NODES && arena.list_of(node).is_none() {
+        if front {
+            arena.push_front(list, node);
+        } else {
+            arena.push_back(list, node);
+        }
+    }
+}
+
+/// Puts a node in front of another, if both are there, the one free and the other in a list.
+fn insert(arena: &mut Arena, node: u32, before: u32)
+    requires nodes { arena.old.nodes ≡ NODES }
+    requires lists { length arena.old.lists ≡ LISTS }
+    ensures nodes { arena.new.nodes ≡ NODES }
+    ensures lists { length arena.new.lists ≡ LISTS }
+{
+    if node < NODES && before < NODES && arena.list_of(node).is_none() {
+        if arena.list_of(before).is_some() {
+            arena.insert_before(node, before);
+        }
+    }
+}
+
+/// Takes a node out of its list, if the node is there.
+fn unlink(arena: &mut Arena, node: u32)
+    requires nodes { arena.old.nodes ≡ NODES }
+    requires lists { length arena.old.lists ≡ LISTS }
+    ensures nodes { arena.new.nodes ≡ NODES }
+    ensures lists { length arena.new.lists ≡ LISTS }
+{
+    if node < NODES {
+        arena.unlink(node);
+    }
+}
+
+/// Makes the change of a row.
+fn apply(arena: &mut Arena, change: Change)
+    requires nodes { arena.old.nodes ≡ NODES }
+    requires lists { length arena.old.lists ≡ LISTS }
+    ensures nodes { arena.new.nodes ≡ NODES }
+    ensures lists { length arena.new.lists ≡ LISTS }
+{
+    match change {
+        Change::PushBack { list, node } => push(arena, list, node, false),
+        Change::PushFront { list, node } => push(arena, list, node, true),
+        Change::InsertBefore { node, before } => insert(arena, node, before),
+        Change::Unlink { node } => unlink(arena, node),
+    }
+}
+
+/// Reads the nodes of a list as the digits of a number, the first node first.
+fn digits(arena: &Arena, list: u32) -> u64
+    requires nodes { arena.now.nodes ≡ NODES }
+    requires list { list < length arena.now.lists }
+{
+    let mut digits = 0;
+    let mut at = arena.first(list);
+    for _ in 0..NODES {
+        if let Some(node) = at {
+            digits = next_digit(digits, node);
+            at = arena.next(node);
+        }
+    }
+    digits
+}
+
+/// Appends a digit to those of a number.
+fn next_digit(digits: u64, node: u32) -> u64 {
+    digits.wrapping_mul(10).wrapping_add(u64::from(node))
+}
+
+#[test]
+fn lists_after_changes(rt: HostRuntime) -> Result<(), Fail> {
+    let mut arena = Arena::new(rt.alloc(), NODES, LISTS)?;
+    assert_eq!(rt; digits(&arena, 0), 0);
+    let rows = [
+        (Change::PushBack { list: 0, node: 3 }, 3, 0),
+        (Change::PushBack { list: 0, node: 4 }, 34, 0),
+        (Change::PushFront { list: 0, node: 5 }, 534, 0),
+        (Change::PushFront { list: 1, node: 1 }, 534, 1),
+        (Change::InsertBefore { node: 2, before: 4 }, 5324, 1),
+        (Change::Unlink { node: 5 }, 324, 1),
+        (Change::InsertBefore { node: 5, before: 1 }, 324, 51),
+        (Change::Unlink { node: 2 }, 34, 51),
+        (Change::Unlink { node: 2 }, 34, 51),
+        (Change::Unlink { node: 4 }, 3, 51),
+        (Change::PushBack { list: 1, node: 2 }, 3, 512),
+        (Change::Unlink { node: 3 }, 0, 512),
+        (Change::PushBack { list: 0, node: 4 }, 4, 512),
+    ];
+    for (row, first, second) in rows {
+        apply(&mut arena, row);
+        assert_eq!(rt; digits(&arena, 0), first);
+        assert_eq!(rt; digits(&arena, 1), second);
+    }
+    Ok(())
+}
+
+#[test]
+fn lists_of_nodes(rt: HostRuntime) -> Result<(), Fail> {
+    let mut arena = Arena::new(rt.alloc(), NODES, LISTS)?;
+    apply(&mut arena, Change::PushBack { list: 1, node: 4 });
+    apply(&mut arena, Change::InsertBefore { node: 0, before: 4 });
+    apply(&mut arena, Change::PushFront { list: 0, node: 5 });
+    assert_eq!(rt; arena.list_of(4), Some(1));
+    assert_eq!(rt; arena.list_of(0), Some(1));
+    assert_eq!(rt; arena.list_of(5), Some(0));
+    assert_eq!(rt; arena.list_of(1), None);
+    assert_eq!(rt; arena.first(1), Some(0));
+    assert_eq!(rt; arena.next(0), Some(4));
+    assert_eq!(rt; arena.next(4), None);
+    assert_eq!(rt; arena.next(1), None);
+    apply(&mut arena, Change::Unlink { node: 4 });
+    assert_eq!(rt; arena.list_of(4), None);
+    assert_eq!(rt; arena.next(0), None);
+    Ok(())
+}

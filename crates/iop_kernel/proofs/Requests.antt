@@ -1,0 +1,4 @@
+pub mod Interrupts
+pub mod Libraries
+pub mod Objects
+pub mod Threads

@@ -1,0 +1,40 @@
+use Rattle.std.proofs.Common.{ℕ, ◌≤◌, List, [], ◌∷◌, length, sym, subst, arith}
+use Rattle.std.specs.Prelude.{All}
+use Rattle.std.proofs.lemmas.List.{length-append}
+use Rattle.std.proofs.lemmas.List.Elements.{All-cons, All-nil}
+use Rattle.iop_script.specs.Scripts.{Args}
+use Rattle.iop_machine.specs.Modules.{NamedFile, Module, HasRoom, modules_from, strings}
+use Rattle.iop_machine_tests.proofs.tests.loads_it_twice.Goals as goal
+
+-- the files of the test are short
+record IsShort (file : NamedFile) : Type 0 where
+  name : length file.name ≤ 5
+  bytes : length file.file ≤ 152
+
+room : (number : ℕ) (file : NamedFile) (words : List (List ℕ)) → IsShort file → length words ≤ 2
+    → length (strings words) ≤ 5
+    → HasRoom (record { number = number; words = file.name ∷ words; file = file.file })
+room number file words short few long = record {
+  file = omega (arith, short.bytes);
+  words = omega (arith, few);
+  strings = omega (arith, short.name, long, length-append file.name (0 ∷ strings words));
+}
+
+abbrev some_words : List Args
+some_words = record { number = 1; words = (97 ∷ []) ∷ (98 ∷ 99 ∷ []) ∷ [] } ∷ []
+
+rooms : (first second : NamedFile) → IsShort first → IsShort second
+    → All HasRoom (modules_from some_words 1 (first ∷ second ∷ []))
+rooms first second f s =
+    let last : Module = record { number = 2; words = second.name ∷ []; file = second.file } in
+    All-cons HasRoom _ (last ∷ []) (room 1 first _ f (omega arith) (omega arith))
+    (All-cons HasRoom last [] (room 2 second [] s (omega arith) (omega arith)) (All-nil HasRoom))
+
+pub new-requires-clause-room : goal.new-requires-clause-room
+new-requires-clause-room c =
+    subst (λ args. All HasRoom (modules_from args 1 c.in_ok-modules.modules.items))
+    (sym c.in_ok-words_for_first.ensures.args)
+    (subst (λ files. All HasRoom (modules_from some_words 1 files))
+    (sym c.in_ok-modules.ensures.items) (rooms _ _
+    (record { name = c.in_ok-first.ensures.name; bytes = c.in_ok-first.ensures.file })
+    (record { name = c.in_ok-second.ensures.name; bytes = c.in_ok-second.ensures.file })))

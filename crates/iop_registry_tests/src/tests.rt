@@ -1,0 +1,53 @@
+use iop_base::Code;
+use iop_registry::Registry;
+use std::test::Fail;
+
+#[test]
+fn registered_and_released(rt: HostRuntime) -> Result<(), Fail> {
+    let mut registry = Registry::new(rt.alloc())?;
+    let kernel = [
+        (*b"loadcore", 0x1000),
+        (*b"sysmem\0\0", 0x1200),
+        (*b"intrman\0", 0x1400),
+        (*b"thbase\0\0", 0x1600),
+        (*b"thsemap\0", 0x1800),
+        (*b"thevent\0", 0x1A00),
+        (*b"thmsgbx\0", 0x1C00),
+        (*b"stdio\0\0\0", 0x1E00),
+    ];
+    for (name, table) in kernel {
+        assert_eq!(rt; registry.find(name, 1), Some(table));
+        assert_eq!(rt; registry.by_table(table), Some((name, 1)));
+        assert_eq!(rt; registry.find(name, 2), None);
+    }
+    let vbcount = *b"vbcount\0";
+    let rows = [
+        (vbcount, 1, 0x1_0000, Code::OK),
+        (vbcount, 1, 0x1_0004, Code(-212)),
+        (vbcount, 2, 0x1_0000, Code::OK),
+        (*b"stdio\0\0\0", 1, 0x1_0000, Code(-212)),
+    ];
+    for (name, major, table, code) in rows {
+        assert_eq!(rt; registry.register(name, major, table), code);
+    }
+    assert_eq!(rt; registry.by_table(0x1_0000), Some((vbcount, 1)));
+    assert_eq!(rt; registry.release(0x1_0000), Code::OK);
+    assert_eq!(rt; registry.by_table(0x1_0000), Some((vbcount, 2)));
+    assert_eq!(rt; registry.release(0x1_0004), Code(-213));
+    registry.drop_range(0x1C00, 0x200);
+    assert_eq!(rt; registry.by_table(0x1C00), None);
+    assert_eq!(rt; registry.by_table(0x1E00), Some((*b"stdio\0\0\0", 1)));
+    Ok(())
+}
+
+#[test]
+fn room_for_263(rt: HostRuntime) -> Result<(), Fail> {
+    let mut registry = Registry::new(rt.alloc())?;
+    let vbcount = *b"vbcount\0";
+    for major in 0..255 {
+        assert_eq!(rt; registry.register(vbcount, major, 0x1_0000), Code::OK);
+    }
+    assert_eq!(rt; registry.register(vbcount, 255, 0x1_0000), Code(-400));
+    assert_eq!(rt; registry.register(vbcount, 254, 0x1_0000), Code(-212));
+    Ok(())
+}

@@ -1,7 +1,0 @@
--- The threads stay sound.
-use Rattle.iop_ready.specs.ReadyList.{StandsFor}
-use Rattle.iop_thread.specs.Standing.{IsSound}
-use Rattle.iop_thread.proofs.tests.most_threads.Given as goal
-
-abbrev pub invariant-loop : goal.invariant-loop
-invariant-loop g l = IsSound StandsFor l.threads
