@@ -74,6 +74,13 @@ module _ (t : Links) (s : Lists) (f : StandFor t s) where
       → is_some o ≡ true → (list : ℕ) × (owner_at t node ≡ Some list)
   listed-read node h o e some = listed_by (owner_at t node) o (owner-read node h o e) some
 
+  -- a node that stands in a list is in one
+  pub listed_in : (node : ℕ) → node < s.nodes → (list : ℕ) → owner_at t node ≡ Some list
+      → list_of node s ≡ None → ⊥
+  listed_in node h list e none =
+      let same : owner_at t node ≡ list_of node s = owner-list_of t s f node h in
+      cc (same, e, none)
+
   pub free-read : (node : ℕ) → node < s.nodes → (o : Option ℕ) → o ≡ get_or t.owner node o
       → is_some o ≡ false → owner_at t node ≡ None
   free-read node h o e none = free_by (owner_at t node) o (owner-read node h o e) none

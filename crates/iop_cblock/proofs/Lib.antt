@@ -13,3 +13,5 @@ pub mod Takes
 pub mod Fields
 pub mod Undoing
 pub mod Placing
+pub mod Reading
+pub mod Keeping

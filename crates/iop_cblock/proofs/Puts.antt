@@ -9,7 +9,7 @@ use Rattle.iop_cblock.proofs.Changes.{Inserts, put-chain}
 use Rattle.iop_cblock.proofs.Owners.{misses_other}
 use Rattle.iop_cblock.proofs.Ownership.{holds-put_at, apart-put_at, owned-kept, owned-put_at}
 use Rattle.iop_cblock.proofs.Families.{ChangesOne, linked-changed}
-use Rattle.iop_cblock.proofs.Standing.{StandFor, owner-below, ring-owner, previous-owner, ring-open, owner-list_of}
+use Rattle.iop_cblock.proofs.Standing.{StandFor, ring-owner, previous-owner, ring-open, owner-list_of, in_next, in_previous}
 
 module _ (nodes : ℕ) (next previous : List ℕ) (owner : List (Option ℕ)) (list node place : ℕ) where
   abbrev old : Links
@@ -39,16 +39,6 @@ module _ (nodes : ℕ) (next previous : List ℕ) (owner : List (Option ℕ)) (l
     before_owner : owner_at old before ≡ Some list
     before_owner = previous-owner old list (list_at list s) ring place in_ring
 
-    in_next : (p : ℕ) → owner_at old p ≡ Some list → p < length next
-    in_next p e =
-        let below : p < length owner = owner-below old p list e in
-        omega (arith, below, own.linked.next_length, own.linked.owner_length)
-
-    in_previous : (p : ℕ) → owner_at old p ≡ Some list → p < length previous
-    in_previous p e =
-        let below : p < length owner = owner-below old p list e in
-        omega (arith, below, own.linked.previous_length, own.linked.owner_length)
-
     apart : (p : ℕ) → owner_at old p ≡ Some list → p ≢ node
     apart p e q = let none : owner_at old p ≡ None = ap (owner_at old) q ∙ free in cc
 
@@ -67,13 +57,13 @@ module _ (nodes : ℕ) (next previous : List ℕ) (owner : List (Option ℕ)) (l
               };
           next_before =
               get_or-set_other (set next before node) node before place 0 (apart before before_owner)
-              ∙ get_or-set_same next before node 0 (in_next before before_owner);
+              ∙ get_or-set_same next before node 0 (in_next old s own before list before_owner);
           next_node =
               get_or-set_same (set next before node) node place 0
               (omega (arith, node_below, length-set next before node, own.linked.next_length));
           previous_place =
               get_or-set_other (set previous place node) node place before 0 (apart place place_owner)
-              ∙ get_or-set_same previous place node 0 (in_previous place place_owner);
+              ∙ get_or-set_same previous place node 0 (in_previous old s own place list place_owner);
           previous_node =
               get_or-set_same (set previous place node) node before 0
               (omega (arith, node_below, length-set previous place node, own.linked.previous_length));
@@ -140,11 +130,11 @@ module _ (nodes : ℕ) (next previous : List ℕ) (owner : List (Option ℕ)) (l
         }
 
     pub place_below : place < length next × place < length previous
-    place_below = (in_next place place_owner, in_previous place place_owner)
+    place_below = (in_next old s own place list place_owner, in_previous old s own place list place_owner)
 
     pub before_below : (p : ℕ) → p ≡ get_or previous place p → p < length next
     before_below p e =
-        rw (get_or_read previous place p place_below.1 e 0) (in_next before before_owner)
+        rw (get_or_read previous place p place_below.1 e 0) (in_next old s own before list before_owner)
 
     -- the same, with what was read of the place in front
     pub put-stands : (p : ℕ) → p ≡ get_or previous place p

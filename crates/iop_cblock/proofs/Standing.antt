@@ -30,6 +30,17 @@ owner-below t place list e =
     (λ h. let none : owner_at t place ≡ None = get_or_past t.owner place None h in cc)
     (cases_lt place (length t.owner))
 
+module _ (t : Links) (s : Lists) (f : StandFor t s) (place list : ℕ) (is : owner_at t place ≡ Some list) where
+  pub in_next : place < length t.next
+  in_next =
+      let inside = owner-below t place list is in
+      omega (arith, inside, f.linked.next_length, f.linked.owner_length)
+
+  pub in_previous : place < length t.previous
+  in_previous =
+      let inside = owner-below t place list is in
+      omega (arith, inside, f.linked.previous_length, f.linked.owner_length)
+
 module _ (t : Links) (list : ℕ) (xs : List ℕ) (r : IsRing t list xs) where
   pub ring-owner : (p : ℕ) → IsIn p xs (t.nodes + list) → owner_at t p ≡ Some list
   ring-owner p (inl h) = (stands t list p xs r.owned h).owner

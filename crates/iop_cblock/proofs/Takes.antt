@@ -9,7 +9,7 @@ use Rattle.iop_cblock.proofs.Owners.{lacks_other}
 use Rattle.iop_cblock.proofs.Ownership.{holds-without, apart-without, owned-without}
 use Rattle.iop_cblock.proofs.Families.{ChangesOne, linked-changed}
 use Rattle.iop_cblock.proofs.Mapping.{map-one, map-none}
-use Rattle.iop_cblock.proofs.Standing.{StandFor, owner-below, previous-owner, next-owner, ring-open}
+use Rattle.iop_cblock.proofs.Standing.{StandFor, owner-below, previous-owner, next-owner, ring-open, in_next, in_previous}
 
 module _ (nodes : ℕ) (next previous : List ℕ) (owner : List (Option ℕ)) (node : ℕ) where
   abbrev old : Links
@@ -58,16 +58,6 @@ module _ (nodes : ℕ) (next previous : List ℕ) (owner : List (Option ℕ)) (n
       behind_owner : owner_at old behind ≡ Some list
       behind_owner = next-owner old list (list_at list s) ring node found
 
-      in_next : (p : ℕ) → owner_at old p ≡ Some list → p < length next
-      in_next p e =
-          let inside : p < length owner = owner-below old p list e in
-          omega (arith, inside, own.linked.next_length, own.linked.owner_length)
-
-      in_previous : (p : ℕ) → owner_at old p ≡ Some list → p < length previous
-      in_previous p e =
-          let inside : p < length owner = owner-below old p list e in
-          omega (arith, inside, own.linked.previous_length, own.linked.owner_length)
-
       removes : Removes (next_at old) (previous_at old) (next_at new) (previous_at new) node
       removes =
           record {
@@ -76,9 +66,9 @@ module _ (nodes : ℕ) (next previous : List ℕ) (owner : List (Option ℕ)) (n
                   next = λ y p w. get_or-set_other next before y behind 0 p;
                   previous = λ y p w. get_or-set_other previous behind y before 0 p;
                 };
-            next_before = get_or-set_same next before behind 0 (in_next before before_owner);
+            next_before = get_or-set_same next before behind 0 (in_next old s own before list before_owner);
             previous_behind =
-                get_or-set_same previous behind before 0 (in_previous behind behind_owner);
+                get_or-set_same previous behind before 0 (in_previous old s own behind list behind_owner);
           }
 
       new_owner : owner_at new node ≡ None
@@ -159,10 +149,10 @@ module _ (nodes : ℕ) (next previous : List ℕ) (owner : List (Option ℕ)) (n
           )) e 0
 
       pub before_below : (p : ℕ) → p ≡ get_or previous node p → p < length next
-      before_below p e = rw (before-read p e) (in_next before before_owner)
+      before_below p e = rw (before-read p e) (in_next old s own before list before_owner)
 
       pub behind_below : (n : ℕ) → n ≡ get_or next node n → n < length previous
-      behind_below n e = rw (behind-read n e) (in_previous behind behind_owner)
+      behind_below n e = rw (behind-read n e) (in_previous old s own behind list behind_owner)
 
       -- the same, with what was read of the two places
       pub take-stands : (p n : ℕ) → p ≡ get_or previous node p → n ≡ get_or next node n

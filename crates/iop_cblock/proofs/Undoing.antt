@@ -6,11 +6,11 @@ use Rattle.std.proofs.lemmas.List.{append-nil, get_or_past, map-set, set-get_or}
 use Rattle.std.proofs.lemmas.List.Elements.{filter-append}
 use Rattle.std.proofs.lemmas.List.Sums.{fails_before_first}
 use Rattle.std.proofs.lemmas.Simd.{map-map}
-use Rattle.iop_cblock.specs.Lists.{Lists, holds, list_at, list_of, without, in_front, unlinked, with_list}
+use Rattle.iop_cblock.specs.Lists.{Lists, holds, list_at, list_of, without, in_front, inserted_before, unlinked, with_list}
 use Rattle.iop_cblock.specs.Laws.{IsUndone}
 use Rattle.iop_cblock.proofs.Rings.{lacks-head, lacks-tail}
 use Rattle.iop_cblock.proofs.Changes.{without-lacks}
-use Rattle.iop_cblock.proofs.Mapping.{map-none}
+use Rattle.iop_cblock.proofs.Mapping.{map-none, in_front-lacks}
 
 position-some : {X : Type 0} (p : X → Bool) (xs : List X) → position_or_len p xs < length xs
     → position p xs ≡ Some (position_or_len p xs)
@@ -78,3 +78,12 @@ module _ (node : ℕ) (s : Lists) (free : list_of node s ≡ None) where
             (λ j h. without-in_front node other (get_or s.lists j []) (lacks-free node s free j)) in
             rw same refl;
       }
+
+-- where the other node is in no list nothing is put in
+pub inserted_before-free : (node other : ℕ) (s : Lists) → list_of other s ≡ None
+    → s ≡ inserted_before node other s
+inserted_before-free node other s free =
+    let same =
+    map-none (in_front node other) s.lists []
+    (λ j h. in_front-lacks node other (get_or s.lists j []) (lacks-free other s free j)) in
+    rw same refl

@@ -1,6 +1,6 @@
 -- What the laws of the lists say.
 use Rattle.std.specs.Prelude.{◌≡◌, ℕ, ◌<◌, length, Some, None, IsSome}
-use Rattle.iop_cblock.specs.Lists.{Lists, first_of, next_of, list_of, pushed_back, pushed_front, inserted_before, unlinked}
+use Rattle.iop_cblock.specs.Lists.{Lists, first_of, next_of, list_at, list_of, pushed_back, pushed_front, inserted_before, unlinked, without}
 
 -- a node that is put in and taken out leaves the lists as they were
 pub record IsUndone (node : ℕ) (s : Lists) : Type 0 where
@@ -22,3 +22,14 @@ pub record IsPlaced (node : ℕ) (s : Lists) : Type 0 where
 
 abbrev pub PushesPlace : Type 0
 PushesPlace = (node : ℕ) (s : Lists) → list_of node s ≡ None → IsPlaced node s
+
+-- of each list the nodes but this one are those that they were, in the same order
+pub record KeepsOthers (node : ℕ) (s : Lists) : Type 0 where
+  pub back : (list k : ℕ) → without node (list_at k (pushed_back list node s)) ≡ list_at k s
+  pub front : (list k : ℕ) → without node (list_at k (pushed_front list node s)) ≡ list_at k s
+  pub before : (other k : ℕ)
+      → without node (list_at k (inserted_before node other s)) ≡ list_at k s
+
+pub record ChangesKeepOthers : Type 0 where
+  pub put : (node : ℕ) (s : Lists) → list_of node s ≡ None → KeepsOthers node s
+  pub taken : (node : ℕ) (s : Lists) (k : ℕ) → list_at k (unlinked node s) ≡ without node (list_at k s)

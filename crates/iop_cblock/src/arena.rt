@@ -1,4 +1,4 @@
-ghost use Rattle.std.specs.Prelude.{◌≡◌, ◌<◌, ◌+◌, length, IfOk, IfSome, IsSome, None};
+ghost use Rattle.std.specs.Prelude.{◌≡◌, ◌<◌, ◌+◌, length, IfOk, IfSome, None};
 ghost use Rattle.iop_cblock.specs.Lists.{AreDisjoint, list_of, next_of, first_of, no_lists, pushed_back, pushed_front, inserted_before, unlinked};
 ghost use Rattle.std.specs.List.{range_with_len};
 ghost use Rattle.iop_cblock.specs.Links.{node_at, put_in, first_owners, CanPut};
@@ -77,17 +77,19 @@ impl Arena {
         self.put(list, node, first);
     }
 
-    /// Puts a node, which is in no list, in front of `before`, which is in one.
+    /// Puts a node, which is in no list, in front of `before`. Where that one is in no list, nothing
+    /// changes.
     pub fn insert_before(&mut self, node: u32, before: u32)
         requires node { node < self.old.nodes }
         requires free { list_of node self.old ≡ None }
         requires before { before < self.old.nodes }
-        requires listed { IsSome (list_of before self.old) }
         ensures lists { self.new ≡ inserted_before node before self.old }
+        ensures free { list_of before self.old ≡ None → self.new ≡ self.old }
         ensures disjoint { AreDisjoint self.new }
     {
-        let list = self.owner[before as usize].unwrap();
-        self.put(list, node, before as usize);
+        if let Some(list) = self.owner[before as usize] {
+            self.put(list, node, before as usize);
+        }
     }
 
     /// Puts a node, which is in no list, in front of a place in the ring of a list.
@@ -109,6 +111,7 @@ impl Arena {
     pub fn unlink(&mut self, node: u32)
         requires { node < self.old.nodes }
         ensures lists { self.new ≡ unlinked node self.old }
+        ensures free { list_of node self.old ≡ None → self.new ≡ self.old }
         ensures disjoint { AreDisjoint self.new }
     {
         let at = node as usize;

@@ -1,7 +1,7 @@
 //! Facts about the definitions that no call computes. Each is the contract of a function that does
 //! nothing.
 
-ghost use Rattle.iop_cblock.specs.Laws.{UnlinkUndoes, PushesPlace};
+ghost use Rattle.iop_cblock.specs.Laws.{UnlinkUndoes, PushesPlace, ChangesKeepOthers};
 
 /// A node that is put into a list, at either end or in front of another, and is taken out again
 /// leaves all lists as they were.
@@ -13,4 +13,9 @@ pub fn unlink_undoes()
 /// first of it, and one that is put in front of another has that one behind it.
 pub fn pushes_place()
     ensures { PushesPlace }
+{}
+
+/// A change of one node leaves all others in their lists, in their order.
+pub fn changes_keep_others()
+    ensures { ChangesKeepOthers }
 {}

@@ -32,7 +32,7 @@ fn push(arena: &mut Arena, list: u32, node: u32, front: bool)
     }
 }
 
-/// Puts a node in front of another, if both are there, the one free and the other in a list.
+/// Puts a node in front of another, if both are there and the one is free.
 fn insert(arena: &mut Arena, node: u32, before: u32)
     requires nodes { arena.old.nodes ≡ NODES }
     requires lists { length arena.old.lists ≡ LISTS }
@@ -40,9 +40,7 @@ fn insert(arena: &mut Arena, node: u32, before: u32)
     ensures lists { length arena.new.lists ≡ LISTS }
 {
     if node < NODES && before < NODES && arena.list_of(node).is_none() {
-        if arena.list_of(before).is_some() {
-            arena.insert_before(node, before);
-        }
+        arena.insert_before(node, before);
     }
 }
 
@@ -104,6 +102,7 @@ fn lists_after_changes(rt: HostRuntime) -> Result<(), Fail> {
         (Change::PushFront { list: 0, node: 5 }, 534, 0),
         (Change::PushFront { list: 1, node: 1 }, 534, 1),
         (Change::InsertBefore { node: 2, before: 4 }, 5324, 1),
+        (Change::InsertBefore { node: 0, before: 0 }, 5324, 1),
         (Change::Unlink { node: 5 }, 324, 1),
         (Change::InsertBefore { node: 5, before: 1 }, 324, 51),
         (Change::Unlink { node: 2 }, 34, 51),

@@ -1,8 +1,11 @@
-//! Tests of iop_front: what commands answer and write, with one file, several files and options.
+//! Tests of iop_front: what commands answer and write, with one file, several files and options,
+//! and where files and sinks fail.
 #![tactic(auto)]
 
 #[cfg(test)]
 mod commands;
+#[cfg(test)]
+mod faults;
 #[cfg(test)]
 mod options;
 #[cfg(test)]

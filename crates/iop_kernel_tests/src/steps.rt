@@ -1,7 +1,7 @@
 //! Steps of a test, each with what is wanted of it.
 
 ghost use Rattle.std.specs.Prelude.{◌+◌, ◌≤◌};
-ghost use Rattle.iop_ready.specs.ReadyList.{StandsFor};
+ghost use Rattle.iop_ready.specs.KernelReady.{KernelStands};
 ghost use Rattle.iop_kernel.specs.Standing.{IsSound};
 
 use crate::world::World;
@@ -34,9 +34,9 @@ pub(crate) enum Step {
 
 /// Takes a step.
 fn take(rt: &impl Abort, world: &mut World, step: Step)
-    requires sound { IsSound StandsFor world.old.kernel }
+    requires sound { IsSound KernelStands world.old.kernel }
     requires few { world.old.kernel.timers.next ≤ world.old.calls + 1 }
-    ensures sound { IsSound StandsFor world.new.kernel }
+    ensures sound { IsSound KernelStands world.new.kernel }
     ensures few { world.new.kernel.timers.next ≤ world.new.calls + 1 }
 {
     match step {
@@ -65,9 +65,9 @@ fn take(rt: &impl Abort, world: &mut World, step: Step)
 
 /// Takes steps, one after the other.
 pub(crate) fn take_all(rt: &impl Abort, world: &mut World, steps: &[Step])
-    requires sound { IsSound StandsFor world.old.kernel }
+    requires sound { IsSound KernelStands world.old.kernel }
     requires few { world.old.kernel.timers.next ≤ world.old.calls + 1 }
-    ensures sound { IsSound StandsFor world.new.kernel }
+    ensures sound { IsSound KernelStands world.new.kernel }
     ensures few { world.new.kernel.timers.next ≤ world.new.calls + 1 }
 {
     for step in steps {

@@ -1,6 +1,6 @@
 ghost use Rattle.std.specs.Prelude.{◌+◌, ◌<◌, ◌≤◌, IfOk};
 ghost use Rattle.iop_intr.specs.declared.irqs.TheConstants.{IRQ_LINES};
-ghost use Rattle.iop_ready.specs.ReadyList.{StandsFor};
+ghost use Rattle.iop_ready.specs.KernelReady.{KernelStands};
 ghost use Rattle.iop_kernel.specs.Standing.{IsSound};
 
 use crate::codes::{CREATE, CREATE_SEMA};
@@ -33,7 +33,7 @@ pub(crate) struct World {
 impl World {
     /// Makes a world whose loader's thread is ready.
     pub fn new(alloc: Global) -> Result<Self, Fail>
-        ensures sound { IfOk result (λ world. IsSound StandsFor world.kernel) }
+        ensures sound { IfOk result (λ world. IsSound KernelStands world.kernel) }
         ensures few { IfOk result (λ world. world.kernel.timers.next ≤ world.calls + 1) }
     {
         let cpu = Cpu {
@@ -59,9 +59,9 @@ impl World {
 
     /// Dispatches, and answers whether it was made, and the last line of the trace.
     pub fn dispatch(&mut self) -> (bool, Option<Line>)
-        requires sound { IsSound StandsFor self.old.kernel }
+        requires sound { IsSound KernelStands self.old.kernel }
         requires few { self.old.kernel.timers.next ≤ self.old.calls + 1 }
-        ensures sound { IsSound StandsFor self.new.kernel }
+        ensures sound { IsSound KernelStands self.new.kernel }
         ensures few { self.new.kernel.timers.next ≤ self.new.calls + 1 }
     {
         let taken = self.kernel.dispatch(&mut self.cpu, &mut self.lines);
@@ -71,7 +71,7 @@ impl World {
     /// Raises an interrupt line and delivers, and answers whether something was delivered, and the
     /// last line of the trace.
     pub fn deliver(&mut self, line: u8) -> (bool, Option<Line>)
-        requires sound { IsSound StandsFor self.old.kernel }
+        requires sound { IsSound KernelStands self.old.kernel }
         requires line { line < IRQ_LINES }
     {
         self.kernel.raise(line);
@@ -81,9 +81,9 @@ impl World {
 
     /// Makes the `syscall` of a code, and answers what becomes of its caller, and `$v0` then.
     pub fn call(&mut self, rt: &impl Abort, code: u32, a0: u32, a1: u32) -> (After, i32)
-        requires sound { IsSound StandsFor self.old.kernel }
+        requires sound { IsSound KernelStands self.old.kernel }
         requires few { self.old.kernel.timers.next ≤ self.old.calls + 1 }
-        ensures sound { IsSound StandsFor self.new.kernel }
+        ensures sound { IsSound KernelStands self.new.kernel }
         ensures few { self.new.kernel.timers.next ≤ self.new.calls + 1 }
     {
         assert_eq!(rt; self.blocks.size(), self.guest.ram().size());
@@ -106,9 +106,9 @@ impl World {
 
     /// Asks for a thread: attributes, option, entry, stack size, priority.
     pub fn create(&mut self, rt: &impl Abort, words: [u32; 5]) -> (After, i32)
-        requires sound { IsSound StandsFor self.old.kernel }
+        requires sound { IsSound KernelStands self.old.kernel }
         requires few { self.old.kernel.timers.next ≤ self.old.calls + 1 }
-        ensures sound { IsSound StandsFor self.new.kernel }
+        ensures sound { IsSound KernelStands self.new.kernel }
         ensures few { self.new.kernel.timers.next ≤ self.new.calls + 1 }
     {
         put(rt, &mut self.guest, &mut self.lines, words);
@@ -117,9 +117,9 @@ impl World {
 
     /// Asks for a semaphore: attribute, option, first count, most.
     pub fn create_sema(&mut self, rt: &impl Abort, words: [u32; 4]) -> (After, i32)
-        requires sound { IsSound StandsFor self.old.kernel }
+        requires sound { IsSound KernelStands self.old.kernel }
         requires few { self.old.kernel.timers.next ≤ self.old.calls + 1 }
-        ensures sound { IsSound StandsFor self.new.kernel }
+        ensures sound { IsSound KernelStands self.new.kernel }
         ensures few { self.new.kernel.timers.next ≤ self.new.calls + 1 }
     {
         let [attr, option, initial, max] = words;

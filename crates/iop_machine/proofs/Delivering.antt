@@ -10,8 +10,7 @@ use Rattle.iop_kernel.specs.Standing as kernel
 use Rattle.iop_kernel.specs.System.{Core}
 use Rattle.iop_kernel.specs.declared.kernel.Kernel.{Kernel as Kernels}
 use Rattle.iop_kernel.specs.Dispatching.{Dispatched, dispatches}
-use Rattle.iop_ready.specs.ReadyList.{StandsFor}
-use Rattle.iop_ready.specs.declared.entry.Entry.{Entry}
+use Rattle.iop_ready.specs.KernelReady.{KernelReady, KernelStands}
 use Rattle.iop_machine.specs.Advancing.{Delivers, Dispatches}
 use Rattle.iop_machine.specs.Iop.{Iop, core_of, with_core}
 use Rattle.iop_machine.specs.Looking.{takes_events}
@@ -33,7 +32,7 @@ delivers_nothing m did is would a s budget h =
 
 -- the program as it was before the events that are due were taken, and behind it
 module _ {m taken : Program} {s : Iop} (h : Stands m s) (behind : Stands taken (takes_events s))
-    (now : Kernels (List Entry)) (cpu : Cpu) (budget : ℕ) (a b : Output) (over : s.over ≡ None)
+    (now : Kernels KernelReady) (cpu : Cpu) (budget : ℕ) (a b : Output) (over : s.over ≡ None)
     (well : a.failed ≡ false) where
   abbrev after : Program
   after = record taken { kernel = now; cpu = cpu }
@@ -41,7 +40,7 @@ module _ {m taken : Program} {s : Iop} (h : Stands m s) (behind : Stands taken (
   -- something is delivered, by what it is
   delivered_by : (o : Option Delivered) (did : Bool)
       → delivers (core_of (takes_events s)) ≡ o → is_some o ≡ true
-      → kernel.Delivers StandsFor (core_of (takes_events s)) o did now cpu a b
+      → kernel.Delivers KernelStands (core_of (takes_events s)) o did now cpu a b
       → Delivers StandsBooted did (booted s) budget after a b
   delivered_by None did is some h' = absurd (cc some)
   delivered_by (Some d) did is some k =
@@ -54,15 +53,15 @@ module _ {m taken : Program} {s : Iop} (h : Stands m s) (behind : Stands taken (
   -- as the kernel's call says it
   pub delivers_something : (did : Bool) → delivers_later s ≡ true
       → (let c = kernel.core (takes_events s).kernel taken.cpu in
-      kernel.Delivers StandsFor c (delivers c) did now cpu a b)
+      kernel.Delivers KernelStands c (delivers c) did now cpu a b)
       → Delivers StandsBooted did (booted s) budget after a b
   delivers_something did some k =
       let is = ap (λ (x : Iop). kernel.core (takes_events s).kernel x.cpu) (sym behind.rest) in
       delivered_by (delivers (core_of (takes_events s))) did refl some
-      (subst (λ (c : Core). kernel.Delivers StandsFor c (delivers c) did now cpu a b) is k)
+      (subst (λ (c : Core). kernel.Delivers KernelStands c (delivers c) did now cpu a b) is k)
 
 -- a dispatch, where nothing is to be delivered
-module _ {m : Program} {s : Iop} (h : Stands m s) (now : Kernels (List Entry)) (cpu : Cpu)
+module _ {m : Program} {s : Iop} (h : Stands m s) (now : Kernels KernelReady) (cpu : Cpu)
     (budget : ℕ) (a b : Output) where
   -- the program behind the dispatch, before the events that are due are taken
   abbrev new : Program
@@ -70,7 +69,7 @@ module _ {m : Program} {s : Iop} (h : Stands m s) (now : Kernels (List Entry)) (
 
   -- whether there was one, as the kernel's call says it
   abbrev Did : Core → Option Dispatched → Bool → Type 0
-  Did c o did = kernel.Dispatches StandsFor c o did now cpu a b
+  Did c o did = kernel.Dispatches KernelStands c o did now cpu a b
 
   -- of the state for which the program stands
   did_of : (did : Bool) → (let c = kernel.core s.kernel m.cpu in Did c (dispatches c) did)

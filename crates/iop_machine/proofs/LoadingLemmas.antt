@@ -13,8 +13,7 @@ use Rattle.iop_kernel.specs.System.{Kernel}
 use Rattle.iop_kernel.specs.declared.kernel.Kernel.{Kernel as Kernels}
 use Rattle.iop_modload.specs.Loading.{Loads, loads}
 use Rattle.iop_modload.specs.declared.loaded.Loaded.{Loaded}
-use Rattle.iop_ready.specs.ReadyList.{StandsFor}
-use Rattle.iop_ready.specs.declared.entry.Entry.{Entry}
+use Rattle.iop_ready.specs.KernelReady.{KernelReady, KernelStands}
 use Rattle.iop_registry.specs.KernelLibraries.{kernel_libraries}
 use Rattle.iop_stubs.specs.Stubs.{Memory}
 use Rattle.iop_sysmem.specs.BlockMap.{BlockMap}
@@ -48,7 +47,7 @@ zero_memory n memory zero none size =
 
 -- what a program has that was just made with so much memory
 pub record IsReset (n : ℕ) (m : Program) : Type 0 where
-  pub kernel : kernel.Stands StandsFor m.kernel (reset n m.modules m.events).kernel
+  pub kernel : kernel.Stands KernelStands m.kernel (reset n m.modules m.events).kernel
   pub cpu : m.cpu ≡ zeroed_at 0
   pub zero : (p : ℕ) → get_or m.guest.ram p 0 ≡ 0
   pub none : m.guest.live ≡ []
@@ -213,9 +212,9 @@ stands_with_area m memory e =
     })
 
 -- the loader's thread was made ready
-pub stands_started : (m : Program) (new : Kernels (List Entry))
-    → ((k : Kernel) → kernel.Stands StandsFor m.kernel k
-    → kernel.Stands StandsFor new (record k { threads = threads.begins k.threads m.cpu }))
+pub stands_started : (m : Program) (new : Kernels KernelReady)
+    → ((k : Kernel) → kernel.Stands KernelStands m.kernel k
+    → kernel.Stands KernelStands new (record k { threads = threads.begins k.threads m.cpu }))
     → is_some m.begun ≡ true → (s : Iop) → Stands m s
     → Stands (record m { kernel = new }) (starts_by s s.begun)
 stands_started m new g some =

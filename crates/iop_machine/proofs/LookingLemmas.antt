@@ -7,8 +7,7 @@ use Rattle.iop_kernel.specs.Dispatching.{Dispatched, dispatches}
 use Rattle.iop_kernel.specs.System.{Kernel, with_irqs, is_active}
 use Rattle.iop_kernel.specs.Standing as kernel
 use Rattle.iop_kernel.specs.declared.kernel.Kernel.{Kernel as Kernels}
-use Rattle.iop_ready.specs.ReadyList.{StandsFor}
-use Rattle.iop_ready.specs.declared.entry.Entry.{Entry}
+use Rattle.iop_ready.specs.KernelReady.{KernelReady, KernelStands}
 use Rattle.iop_script.specs.declared.raise.Raise.{Raise}
 use Rattle.iop_machine.specs.Events.{due_lines, left_events, TakesDue}
 use Rattle.iop_machine.specs.Iop.{Iop, core_of, with_core}
@@ -94,8 +93,8 @@ module _ {m : Program} {now line : ℕ} (events : List Raise) (clock : m.kernel.
       }) (sym d.1)
       ∙ ap (λ (left : List Raise). record (takes_events v) { events = left }) (sym d.2)
 
-  module _ (new : Kernels (List Entry)) (raise : (k : Kernel) → kernel.Stands StandsFor m.kernel k
-      → kernel.Stands StandsFor new (raises k line)) where
+  module _ (new : Kernels KernelReady) (raise : (k : Kernel) → kernel.Stands KernelStands m.kernel k
+      → kernel.Stands KernelStands new (raises k line)) where
     -- the program, in which that was done, stands for a state with as much to be taken
     pub taken_more : TakesDue (Some line) now m.events events → (s : Iop)
         → (v : Iop) × Stands m v × (takes_events v ≡ takes_events s)
@@ -142,7 +141,7 @@ DeliversRest m now events = (s : Iop) → Stands m s
 
 -- whether the program's kernel would deliver something where these lines are raised
 abbrev WouldDeliver : Program → List ℕ → Bool → Type 0
-WouldDeliver m lines b = (k : Kernel) → kernel.Stands StandsFor m.kernel k
+WouldDeliver m lines b = (k : Kernel) → kernel.Stands KernelStands m.kernel k
     → b ≡ is_some (delivers (raised (kernel.core k m.cpu) lines))
 
 module _ (m : Program) where

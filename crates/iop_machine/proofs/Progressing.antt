@@ -3,7 +3,7 @@ use Rattle.std.proofs.Common.{◌≡◌, ℕ, ◌+◌, ◌*◌, suc, ◌<◌, Bo
 use Rattle.iop_base.specs.Output.{Output}
 use Rattle.iop_base.specs.declared.stop.Stop.{Stop}
 use Rattle.iop_kernel.specs.declared.kernel.Kernel.{Kernel as Kernels}
-use Rattle.iop_ready.specs.declared.entry.Entry.{Entry}
+use Rattle.iop_ready.specs.KernelReady.{KernelReady}
 use Rattle.iop_machine.specs.Advancing.{Reached, Advances, Progresses, IsLess, calls_by}
 use Rattle.iop_machine.specs.Iop.{Iop}
 use Rattle.iop_machine.specs.Laws.{IsMachine}
@@ -77,7 +77,7 @@ boots_less {s = s} budget h g =
     is_less h g budget budget None true (omega (arith, same, turns))
 
 -- where no write failed less is left
-pub less_of : (left : ℕ) (over : Option Stop) (is_new : Bool) (k : Kernels (List Entry)) {most : ℕ}
+pub less_of : (left : ℕ) (over : Option Stop) (is_new : Bool) (k : Kernels KernelReady) {most : ℕ}
     (failed : Bool) → failed ≡ false → IsLess (Advanced left) failed over is_new k most
     → most_between * left + calls_by over is_new k < most
 less_of left over is_new k true is less = absurd (cc is)

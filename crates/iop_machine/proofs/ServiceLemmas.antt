@@ -17,8 +17,7 @@ use Rattle.iop_kernel.proofs.Keeping.Outcomes.{services_alone}
 use Rattle.iop_kernel.proofs.Keeping.Services.{services_keep}
 use Rattle.iop_kernel.proofs.Order.Nothing.{none_of}
 use Rattle.iop_modload.specs.Finishing.{finishes}
-use Rattle.iop_ready.specs.ReadyList.{StandsFor}
-use Rattle.iop_ready.specs.declared.entry.Entry.{Entry}
+use Rattle.iop_ready.specs.KernelReady.{KernelReady, KernelStands}
 use Rattle.iop_registry.specs.declared.registry.Entry.{Entry as Library}
 use Rattle.iop_stubs.specs.Stubs.{Memory}
 use Rattle.iop_sysmem.specs.BlockMap.{BlockMap}
@@ -65,9 +64,9 @@ stands_going_on m some s h =
     (sym (ap (λ (x : Iop). x.begun) h.rest ∙ (there m.begun some).1)) h
 
 -- none does: it has ended
-module _ (m : Program) (new : Kernels (List Entry))
-    (ends : (k : Kernel) → kernel.Stands StandsFor m.kernel k
-    → kernel.Stands StandsFor new (record k { threads = threads.ends_running k.threads })) where
+module _ (m : Program) (new : Kernels KernelReady)
+    (ends : (k : Kernel) → kernel.Stands KernelStands m.kernel k
+    → kernel.Stands KernelStands new (record k { threads = threads.ends_running k.threads })) where
   pub stands_ended : (s : Iop) → Stands m s → Stands (record m { kernel = new }) (goes_on_by s None)
   stands_ended =
       carried m (λ s. Stands (record m { kernel = new }) (goes_on_by s None))
@@ -116,15 +115,15 @@ did code s = services (system_of s) code
 -- this call left the kernel with its processor, the memory, the blocks and the libraries so, and
 -- gave its pieces
 pub record IsServed (m left : Program) (code : ℕ) (after : After) (a b : Output) : Type 0 where
-  pub serves : (k : Kernel) → kernel.Stands StandsFor m.kernel k
-      → kernel.ServesPlaced StandsFor (did code (iop_of m k)) after left.kernel left.cpu left.guest
+  pub serves : (k : Kernel) → kernel.Stands KernelStands m.kernel k
+      → kernel.ServesPlaced KernelStands (did code (iop_of m k)) after left.kernel left.cpu left.guest
       left.blocks left.registry a b
 
 -- as the clause of the kernel's call says it
-pub served : (m : Program) (code : ℕ) {new : Kernels (List Entry)} {cpu : Cpu} {memory : Memory}
+pub served : (m : Program) (code : ℕ) {new : Kernels KernelReady} {cpu : Cpu} {memory : Memory}
     {blocks : BlockMap} {libraries : List Library} {after : After} {a b : Output}
-    → ((k : Kernel) → kernel.Stands StandsFor m.kernel k
-    → kernel.ServesPlaced StandsFor (did code (iop_of m k)) after new cpu memory blocks
+    → ((k : Kernel) → kernel.Stands KernelStands m.kernel k
+    → kernel.ServesPlaced KernelStands (did code (iop_of m k)) after new cpu memory blocks
     libraries a b)
     → IsServed m (record m {
       kernel = new;

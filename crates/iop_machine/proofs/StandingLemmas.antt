@@ -11,8 +11,7 @@ use Rattle.iop_exec.specs.declared.cpu.Cpu.{Cpu}
 use Rattle.iop_kernel.specs.Standing as kernel
 use Rattle.iop_kernel.specs.System.{Kernel, Core}
 use Rattle.iop_kernel.specs.declared.kernel.Kernel.{Kernel as Kernels}
-use Rattle.iop_ready.specs.ReadyList.{StandsFor}
-use Rattle.iop_ready.specs.declared.entry.Entry.{Entry}
+use Rattle.iop_ready.specs.KernelReady.{KernelReady, KernelStands}
 use Rattle.iop_machine.specs.Iop.{Iop, Takes, tells, with_core, Transition, silent, and_then, with_state}
 use Rattle.iop_machine.specs.Standing.{iop_of, Stands, IsSound}
 use Rattle.iop_machine.specs.declared.iop.Iop.{Iop as Program}
@@ -20,12 +19,12 @@ use Rattle.iop_machine.specs.declared.iop.Iop.{Iop as Program}
 -- what holds of the state that it is, for each kernel that its kernel stands for, holds of each
 -- that it stands for
 pub carried : (m : Program) (P : Iop → Type 0)
-    → ((k : Kernel) → kernel.Stands StandsFor m.kernel k → P (iop_of m k))
+    → ((k : Kernel) → kernel.Stands KernelStands m.kernel k → P (iop_of m k))
     → (s : Iop) → Stands m s → P s
 carried m P g s h = subst P (sym h.rest) (g s.kernel h.kernel)
 
 -- it stands for the state that it is, with a kernel that its kernel stands for
-pub stands_for : (m : Program) (k : Kernel) → kernel.Stands StandsFor m.kernel k
+pub stands_for : (m : Program) (k : Kernel) → kernel.Stands KernelStands m.kernel k
     → Stands m (iop_of m k)
 stands_for m k h = record { kernel = h; rest = refl }
 
@@ -35,7 +34,7 @@ goes_on h over = ap (λ (x : Iop). x.over) h.rest ∙ over
 
 -- this is the moment of its kernel, as `now` answers
 abbrev pub IsMoment : Program → ℕ → Type 0
-IsMoment m t = (k : Kernel) → kernel.Stands StandsFor m.kernel k → t ≡ k.clock
+IsMoment m t = (k : Kernel) → kernel.Stands KernelStands m.kernel k → t ≡ k.clock
 
 -- which is the number that it has
 pub moment_is : (m : Program) (t : ℕ) → IsMoment m t → IsSound m → t ≡ m.kernel.clock
@@ -50,8 +49,8 @@ stands_stopped m over =
     (λ k h. record { kernel = h; rest = refl })
 
 -- its processor and its kernel change
-pub stands_with_core : (m : Program) (cpu : Cpu) (new : Kernels (List Entry)) (f : Kernel → Kernel)
-    → ((k : Kernel) → kernel.Stands StandsFor m.kernel k → kernel.Stands StandsFor new (f k))
+pub stands_with_core : (m : Program) (cpu : Cpu) (new : Kernels KernelReady) (f : Kernel → Kernel)
+    → ((k : Kernel) → kernel.Stands KernelStands m.kernel k → kernel.Stands KernelStands new (f k))
     → (s : Iop) → Stands m s
     → Stands (record m { cpu = cpu; kernel = new }) (record s { cpu = cpu; kernel = f s.kernel })
 stands_with_core m cpu new f g = carried m
@@ -60,8 +59,8 @@ stands_with_core m cpu new f g = carried m
     (λ k h. record { kernel = g k h; rest = refl })
 
 -- its kernel changes
-pub stands_with_kernel : (m : Program) (new : Kernels (List Entry)) (f : Kernel → Kernel)
-    → ((k : Kernel) → kernel.Stands StandsFor m.kernel k → kernel.Stands StandsFor new (f k))
+pub stands_with_kernel : (m : Program) (new : Kernels KernelReady) (f : Kernel → Kernel)
+    → ((k : Kernel) → kernel.Stands KernelStands m.kernel k → kernel.Stands KernelStands new (f k))
     → (s : Iop) → Stands m s
     → Stands (record m { kernel = new }) (record s { kernel = f s.kernel })
 stands_with_kernel m new f g =
@@ -69,8 +68,8 @@ stands_with_kernel m new f g =
     (λ k h. record { kernel = g k h; rest = refl })
 
 -- they become those of a core
-pub stands_with : {m : Program} {s : Iop} → Stands m s → (now : Kernels (List Entry)) (cpu : Cpu)
-    (c : Core) → kernel.Stands StandsFor now c.kernel → cpu ≡ c.cpu
+pub stands_with : {m : Program} {s : Iop} → Stands m s → (now : Kernels KernelReady) (cpu : Cpu)
+    (c : Core) → kernel.Stands KernelStands now c.kernel → cpu ≡ c.cpu
     → Stands (record m { kernel = now; cpu = cpu }) (with_core s c)
 stands_with {m} {s} h now cpu c k e = record {
   kernel = k;

@@ -1,6 +1,6 @@
 -- How the program's machine stands for the machine.
 use Rattle.std.specs.Prelude.{◌≡◌}
-use Rattle.iop_ready.specs.ReadyList.{StandsFor}
+use Rattle.iop_ready.specs.KernelReady.{KernelStands}
 use Rattle.iop_kernel.specs.Standing as kernel
 use Rattle.iop_kernel.specs.System.{Kernel}
 use Rattle.iop_machine.specs.Iop.{Iop}
@@ -24,7 +24,7 @@ iop_of m kernel = record {
 }
 
 pub record Stands (m : Program) (s : Iop) : Type 0 where
-  pub kernel : kernel.Stands StandsFor m.kernel s.kernel
+  pub kernel : kernel.Stands KernelStands m.kernel s.kernel
   pub rest : s ≡ iop_of m s.kernel
 
 -- it stands for a machine that was booted

@@ -1,7 +1,7 @@
 ghost use Rattle.std.specs.Prelude.{◌≡◌, ℕ, suc, ◌+◌, ◌*◌, ◌≤◌, false, IfOk, OnErr, All, length, option_map};
 ghost use Rattle.iop_trace.specs.Outs.{has_failed, output_of, sinks};
 ghost use Rattle.iop_base.specs.Places.{IsRamSize};
-ghost use Rattle.iop_ready.specs.ReadyList.{StandsFor};
+ghost use Rattle.iop_ready.specs.KernelReady.{KernelStands};
 ghost use Rattle.iop_thread.specs.Standing.{Lends};
 ghost use Rattle.iop_ram.specs.Windows.{window_of};
 ghost use Rattle.iop_machine.specs.Modules.{HasRoom, modules_from};
@@ -69,7 +69,7 @@ impl Machine {
     /// Lends the list of the ready threads, each by its slot and with its priority.
     pub fn ready(&self) -> &KernelReady
         ensures { (w : World) → StandsForWorld self.now w
-            → Lends StandsFor result.now w.iop.kernel.threads }
+            → Lends KernelStands result.now w.iop.kernel.threads }
     {
         self.iop.kernel.ready()
     }

@@ -97,6 +97,7 @@ fn run_in_parts(rt: &impl Abort, alloc: Global, machine: &mut Machine) -> Result
     run_by(rt, machine, &mut console, &mut trace, 3, (Stop::Budget, 3));
     run_by(rt, machine, &mut console, &mut trace, 100, (Stop::Quiet, 6));
     run_by(rt, machine, &mut console, &mut trace, 100, (Stop::Quiet, 6));
+    assert_eq!(rt; machine.ready().bits(), 0);
     let arguments = b"\x08\x20\0\0\0\0\0\0m.irx\0\0".as_slice();
     assert_eq!(rt; machine.window(0x2000, 15), Some(arguments));
     assert_eq!(rt; machine.window(0x1F_FFF8, 9), None);

@@ -23,41 +23,80 @@ fn writes<S: Sink>(rt: &impl Abort, sink: &mut S, piece: &str, wanted: Result<us
     assert_eq!(rt; sink.write(piece.as_bytes()), wanted);
 }
 
+/// A call of files, and what is wanted of it.
+#[derive(Clone, Copy)]
+enum Call {
+    /// Opens a file.
+    Opens(&'static str),
+    /// Opens a file in vain.
+    Misses(&'static str),
+    /// Reads this once into a buffer of 4.
+    Reads(&'static str),
+    /// Reads in vain.
+    Fails,
+}
+
+/// Makes calls of files, one after the other.
+fn call_all<F: Files>(rt: &impl Abort, files: &mut F, calls: &[Call]) {
+    for call in calls {
+        match *call {
+            Call::Opens(name) => assert_eq!(rt; files.open_file(name), Ok(())),
+            Call::Misses(name) => assert_eq!(rt; files.open_file(name), Err(Failed)),
+            Call::Reads(wanted) => assert_eq!(rt; reads(rt, files, wanted), Ok(())),
+            Call::Fails => assert_eq!(rt; reads(rt, files, ""), Err(Failed)),
+        }
+    }
+}
+
+/// Makes files in memory, of which these calls fail.
+fn files_of(
+    alloc: Global,
+    faults: Vec<u64>,
+    added: &[(&'static str, &'static str)],
+) -> Result<MemFiles, Fail> {
+    let mut files = MemFiles::new(alloc, faults);
+    for (name, text) in added {
+        files.add(name, bytes_of(alloc, text)?)?;
+    }
+    Ok(files)
+}
+
+/// The file that the test of the host's files writes and removes.
+const DISK_FILE: &str = "iop_ports_disk_files_test";
+
 #[test]
 fn mem_files_are_read_in_pieces(rt: HostRuntime) -> Result<(), Fail> {
-    let alloc = rt.alloc();
-    let mut files = MemFiles::new(alloc, Vec::new(alloc));
-    files.add("one", bytes_of(alloc, "old")?)?;
-    files.add("two", bytes_of(alloc, "second")?)?;
-    files.add("one", bytes_of(alloc, "abcdefghij")?)?;
-    reads(&rt, &mut files, "")?;
-    assert_eq!(rt; files.open_file("one"), Ok(()));
-    for wanted in ["abcd", "efgh", "ij", ""] {
-        reads(&rt, &mut files, wanted)?;
-    }
-    assert_eq!(rt; files.open_file("two"), Ok(()));
-    reads(&rt, &mut files, "seco")?;
-    assert_eq!(rt; files.calls(), 8);
-    assert_eq!(rt; files.faults(), 0);
-    assert_eq!(rt; files.strays(), 0);
+    let added = [("one", "old"), ("two", "second"), ("one", "abcdefghij")];
+    let mut files = files_of(rt.alloc(), Vec::new(rt.alloc()), &added)?;
+    let calls = [
+        Call::Reads(""),
+        Call::Opens("one"),
+        Call::Reads("abcd"),
+        Call::Reads("efgh"),
+        Call::Reads("ij"),
+        Call::Reads(""),
+        Call::Opens("two"),
+        Call::Reads("seco"),
+    ];
+    call_all(&rt, &mut files, &calls);
+    assert_eq!(rt; (files.calls(), files.faults(), files.strays()), (8, 0, 0));
     Ok(())
 }
 
 #[test]
 fn mem_files_fail_where_listed_and_at_strays(rt: HostRuntime) -> Result<(), Fail> {
-    let alloc = rt.alloc();
-    let mut files = MemFiles::new(alloc, vec![in alloc; 2, 4]?);
-    files.add("one", bytes_of(alloc, "abcdef")?)?;
-    let mut buf = [0; 4];
-    assert_eq!(rt; files.open_file("one"), Ok(()));
-    assert_eq!(rt; files.read(&mut buf), Err(Failed));
-    reads(&rt, &mut files, "abcd")?;
-    assert_eq!(rt; files.open_file("one"), Err(Failed));
-    reads(&rt, &mut files, "")?;
-    assert_eq!(rt; files.open_file("other"), Err(Failed));
-    assert_eq!(rt; files.calls(), 6);
-    assert_eq!(rt; files.faults(), 3);
-    assert_eq!(rt; files.strays(), 1);
+    let added = [("one", "abcdef")];
+    let mut files = files_of(rt.alloc(), vec![in rt.alloc(); 2, 4]?, &added)?;
+    let calls = [
+        Call::Opens("one"),
+        Call::Fails,
+        Call::Reads("abcd"),
+        Call::Misses("one"),
+        Call::Reads(""),
+        Call::Misses("other"),
+    ];
+    call_all(&rt, &mut files, &calls);
+    assert_eq!(rt; (files.calls(), files.faults(), files.strays()), (6, 3, 1));
     Ok(())
 }
 
@@ -97,13 +136,15 @@ fn pieces_are_sent_whole_or_fail(rt: HostRuntime) -> Result<(), Fail> {
 
 #[test]
 fn sure_files_read_a_name_that_was_not_added_as_empty(rt: HostRuntime) -> Result<(), Fail> {
-    let alloc = rt.alloc();
-    let mut files = SureFiles::new(alloc);
-    files.add("one", bytes_of(alloc, "abcdef")?)?;
-    assert_eq!(rt; files.open_file("one"), Ok(()));
-    reads(&rt, &mut files, "abcd")?;
-    assert_eq!(rt; files.open_file("other"), Ok(()));
-    reads(&rt, &mut files, "")?;
+    let mut files = SureFiles::new(rt.alloc());
+    files.add("one", bytes_of(rt.alloc(), "abcdef")?)?;
+    let calls = [
+        Call::Opens("one"),
+        Call::Reads("abcd"),
+        Call::Opens("other"),
+        Call::Reads(""),
+    ];
+    call_all(&rt, &mut files, &calls);
     Ok(())
 }
 
@@ -118,17 +159,19 @@ fn count_sinks_count(rt: HostRuntime) {
 
 #[test]
 fn disk_files_are_the_host_s(rt: HostRuntime) -> Result<(), Fail> {
-    let path = "iop_ports_disk_files_test";
-    fs::write(&rt, path, "abcdef")?;
+    fs::write(&rt, DISK_FILE, "abcdef")?;
     let mut files = DiskFiles::new(rt.clone()?);
-    reads(&rt, &mut files, "")?;
-    assert_eq!(rt; files.open_file(path), Ok(()));
-    for wanted in ["abcd", "ef", ""] {
-        reads(&rt, &mut files, wanted)?;
-    }
-    fs::remove_file(&rt, path)?;
-    assert_eq!(rt; files.open_file(path), Err(Failed));
-    reads(&rt, &mut files, "")?;
+    let calls = [
+        Call::Reads(""),
+        Call::Opens(DISK_FILE),
+        Call::Reads("abcd"),
+        Call::Reads("ef"),
+        Call::Reads(""),
+    ];
+    call_all(&rt, &mut files, &calls);
+    fs::remove_file(&rt, DISK_FILE)?;
+    let calls = [Call::Misses(DISK_FILE), Call::Reads("")];
+    call_all(&rt, &mut files, &calls);
     Ok(())
 }
 

@@ -29,7 +29,7 @@ module _ (P : Entry → Type 0) where
   rest_by true x xs all = All-tail P x xs all
   rest_by false x xs all = all
 
-  All-each_priority : (xs : List Entry) → ((p : ℕ) → All P (of_priority p xs)) → All P xs
+  pub All-each_priority : (xs : List Entry) → ((p : ℕ) → All P (of_priority p xs)) → All P xs
   All-each_priority [] each = All-nil P
   All-each_priority (x ∷ xs) each =
       let own : (x.priority == x.priority) ≡ true = grind (arith, nat_tests) in
@@ -182,9 +182,9 @@ rotated-by_first {own} {xs} p o found h =
     ap (λ first. moved_last first xs) (sym (first_of-stands h p) ∙ found)
 
 -- it is the first of its priority, and there is none of a smaller number
-record IsBest (x : Entry) (xs : List Entry) : Type 0 where
-  here : first_of x.priority xs ≡ Some x
-  none : (p : ℕ) → p < x.priority → first_of p xs ≡ None
+pub record IsBest (x : Entry) (xs : List Entry) : Type 0 where
+  pub here : first_of x.priority xs ≡ Some x
+  pub none : (p : ℕ) → p < x.priority → first_of p xs ≡ None
 
 best_alone : (x : Entry) → IsBest x (x ∷ [])
 best_alone x = record {
@@ -205,7 +205,7 @@ better_is_best x y xs h false e = record {
       grind (arith, nat_tests, h.none p less);
 }
 
-best_is_best : (x : Entry) (xs : List Entry)
+pub best_is_best : (x : Entry) (xs : List Entry)
     → IsBest (better (λ e. e.priority) x (best_of xs)) (x ∷ xs)
 best_is_best x [] = best_alone x
 best_is_best x (y ∷ ys) =

@@ -2,6 +2,7 @@
 use Rattle.std.specs.Prelude.{◌≡◌, ℕ, List, [], ◌∷◌, ◌++◌}
 use Rattle.iop_ready.specs.declared.entry.Entry.{Entry}
 use Rattle.iop_ready.specs.ReadyList.{CanEnter, without, rotated, best_slot, StandsFor}
+use Rattle.iop_ready.specs.Queues.{Queues, Hold}
 
 -- what two lists that stand for one another have in common, and that every change keeps
 pub record Agree (xs ys : List Entry) : Type 0 where
@@ -13,3 +14,7 @@ pub record Agree (xs ys : List Entry) : Type 0 where
 
 abbrev pub ReadyListsAgree : Type 0
 ReadyListsAgree = (xs ys : List Entry) → StandsFor xs ys → Agree xs ys
+
+pub record QueuesHoldOneList : Type 0 where
+  pub same : (q : Queues) (xs ys : List Entry) → Hold q xs → Hold q ys → StandsFor xs ys
+  pub any : (q : Queues) (xs ys : List Entry) → Hold q xs → StandsFor xs ys → Hold q ys

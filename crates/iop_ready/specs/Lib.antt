@@ -1,3 +1,6 @@
 pub mod Priorities
 pub mod ReadyList
+pub mod PrioritySets
+pub mod Queues
+pub mod KernelReady
 pub mod Laws

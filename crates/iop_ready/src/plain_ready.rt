@@ -8,9 +8,6 @@ use crate::slot::{MOST_THREADS, Slot};
 use std::alloc::{AllocError, Global};
 use std::marker::Model;
 
-/// The ready list of the kernel.
-pub type KernelReady = PlainReady;
-
 /// The ready threads in a plain list, in order of their arrival.
 #[derive(Drop)]
 pub struct PlainReady {

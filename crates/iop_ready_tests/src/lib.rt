@@ -1,4 +1,5 @@
-//! Tests of iop_ready: which slot is the best after each change, and which words are priorities.
+//! Tests of iop_ready: which slot is the best after each change, what the queues hold, and which
+//! words are priorities.
 #![tactic(auto)]
 
 #[cfg(test)]

@@ -1,5 +1,18 @@
-use iop_ready::{KernelReady, Priority, Ready, Slot};
+ghost use Rattle.std.specs.Prelude.{[]};
+
+use iop_ready::{KernelReady, PlainReady, Priority, QueueReady, Ready, Slot};
+use std::process::Abort;
 use std::test::Fail;
+
+/// Puts three threads into a list of none: first 3 and 4 of priority 20, and then 5 of priority 10,
+/// in front of them.
+fn add_three<R: Ready>(ready: &mut R)
+    requires { R.stands ready.old [] }
+{
+    ready.add_last(Slot::new(3), Priority::new(20));
+    ready.add_last(Slot::new(4), Priority::new(20));
+    ready.add_first(Slot::new(5), Priority::new(10));
+}
 
 /// What a row of the table does.
 #[derive(Drop)]
@@ -9,13 +22,11 @@ enum Change {
     Rotate(Priority),
 }
 
-#[test]
-fn best_after_changes(rt: HostRuntime) -> Result<(), Fail> {
-    let mut ready = KernelReady::new(rt.alloc())?;
-    assert_eq!(rt; ready.best(), None);
-    ready.add_last(Slot::new(3), Priority::new(20));
-    ready.add_last(Slot::new(4), Priority::new(20));
-    ready.add_first(Slot::new(5), Priority::new(10));
+/// Compares the best thread of a list, in which none is yet, after each change.
+fn tell_the_best<R: Ready>(rt: &impl Abort, ready: &mut R)
+    requires { R.stands ready.old [] }
+{
+    add_three(ready);
     let rows = [
         (Change::Nothing, Some(5)),
         (Change::Remove(Slot::new(5)), Some(3)),
@@ -34,6 +45,32 @@ fn best_after_changes(rt: HostRuntime) -> Result<(), Fail> {
         }
         assert_eq!(rt; ready.best().map(|slot| slot.number()), best);
     }
+}
+
+#[test]
+fn best_after_changes(rt: HostRuntime) -> Result<(), Fail> {
+    tell_the_best(&rt, &mut PlainReady::new(rt.alloc())?);
+    tell_the_best(&rt, &mut QueueReady::new(rt.alloc())?);
+    Ok(())
+}
+
+#[test]
+fn queue_shape(rt: HostRuntime) -> Result<(), Fail> {
+    let mut ready = KernelReady::new(rt.alloc())?;
+    assert_eq!(rt; ready.bits(), 0);
+    assert_eq!(rt; ready.best(), None);
+    add_three(&mut ready);
+    assert_eq!(rt; ready.bits(), (1 << 20) + (1 << 10));
+    assert_eq!(rt; ready.arena().first(19), Some(3));
+    assert_eq!(rt; ready.arena().next(3), Some(4));
+    assert_eq!(rt; ready.arena().first(9), Some(5));
+    assert_eq!(rt; ready.arena().list_of(4), Some(19));
+    assert_eq!(rt; ready.best().map(|slot| slot.number()), Some(5));
+    ready.remove(Slot::new(5));
+    ready.rotate(Priority::new(20));
+    assert_eq!(rt; ready.bits(), 1 << 20);
+    assert_eq!(rt; ready.arena().first(19), Some(4));
+    assert_eq!(rt; ready.arena().list_of(5), None);
     Ok(())
 }
 

@@ -5,3 +5,5 @@ pub mod Binding
 pub mod FirstWords
 pub mod LayersLemmas
 pub mod GuestMemoryLemmas
+pub mod WordSets
+pub mod Covering

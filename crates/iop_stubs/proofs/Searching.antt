@@ -7,13 +7,13 @@ use Rattle.std.proofs.lemmas.Bool.{ltb-true, ltb-false, le-ltb, ne_eqb, cases_lt
 use Rattle.std.proofs.lemmas.List.Folds.{list_any_none}
 use Rattle.iop_base.proofs.Lists.{find-none}
 use Rattle.iop_stubs.specs.Stubs.{stands_at, stands_before, stands_from, meets}
-use Rattle.iop_stubs.specs.Binding.{IsInOrder, IsWithin}
+use Rattle.iop_stubs.specs.Binding.{IsInOrder}
 use Rattle.iop_stubs.specs.declared.live_stub.Stub.{Stub}
 
-in_order-tail : (first : Stub) (rest : List Stub) → IsInOrder (first ∷ rest) → IsInOrder rest
+pub in_order-tail : (first : Stub) (rest : List Stub) → IsInOrder (first ∷ rest) → IsInOrder rest
 in_order-tail first rest h = λ i j d lt below. h (suc i) (suc j) d (omega arith) (omega arith)
 
-in_order-behind : (first : Stub) (rest : List Stub) → IsInOrder (first ∷ rest) →
+pub in_order-behind : (first : Stub) (rest : List Stub) → IsInOrder (first ∷ rest) →
     All (λ s. first.at + 8 ≤ s.at) rest
 in_order-behind first rest h = λ k d below. h 0 (suc k) d (omega arith) (omega arith)
 
@@ -92,16 +92,3 @@ module _ (place : ℕ) where
         first ≡ find (stands_from (place - 7)) stubs →
         is_met place len first ≡ list_any (meets place len) stubs
     found_met stubs h first e = ap (is_met place len) e ∙ sym (any_met_is stubs h)
-
-    -- the bounds of all are apart from the range
-    pub none_behind : (low high : ℕ) (stubs : List Stub) → All (IsWithin low high) stubs →
-        high ≤ place → list_any (meets place len) stubs ≡ false
-    none_behind low high stubs h le =
-        list_any_none (meets place len) stubs (λ k d below. le-ltb _ _
-        (omega (arith, le, (h k d below).1)))
-
-    pub none_before : (low high : ℕ) (stubs : List Stub) → All (IsWithin low high) stubs →
-        place + len ≤ low → list_any (meets place len) stubs ≡ false
-    none_before low high stubs h le =
-        list_any_none (meets place len) stubs (λ k d below. le-ltb _ _
-        (omega (arith, le, (h k d below).0)))

@@ -52,10 +52,6 @@ pub record IsBound (ram : List ℕ) (stub : Stub) : Type 0 where
 abbrev pub IsInOrder : List Stub → Type 0
 IsInOrder live = AllPairs (λ first second. first.at + SIZE ≤ second.at) live
 
--- the stub's bytes lie in these bounds
-abbrev pub IsWithin : ℕ → ℕ → Stub → Type 0
-IsWithin low high stub = (low ≤ stub.at) × (stub.at + SIZE ≤ high)
-
 -- what holds of every memory
 pub record IsSound (memory : Memory) : Type 0 where
   pub sized : IsRamSize (length memory.ram)

@@ -3,3 +3,5 @@ pub mod Binding
 pub mod Layers
 pub mod Laws
 pub mod Lending
+pub mod WordSets
+pub mod Covering

@@ -35,9 +35,12 @@ impl Model for Guest {
 
     ghost Value = { Memory };
 
-    ghost view = { λ g. record { ram = g.ram; live = g.live } };
+    ghost view = { λ g. record { ram = g.ram; live = g.live.stubs } };
 
-    ghost invariant = { λ g. IsGuestMemory (record { ram = g.ram; live = g.live }) };
+    ghost use Rattle.std.specs.Prelude.{◌≡◌, length};
+
+    ghost invariant = { λ g. IsGuestMemory (record { ram = g.ram; live = g.live.stubs })
+        × (g.live.ram ≡ length g.ram) };
 }
 
 impl Guest {
@@ -51,7 +54,7 @@ impl Guest {
         ensures sound { IfOk result IsSound }
     {
         let ram = Ram::new(alloc, size)?;
-        let live = LiveStubs::new(alloc)?;
+        let live = LiveStubs::new(alloc, size)?;
         Ok(Guest { ram, live })
     }
 

@@ -1,11 +1,14 @@
-ghost use Rattle.std.specs.Prelude.{◌≡◌, ◌+◌, ◌^◌, ◌≤◌, ◌<◌, false, All, [], find, IfOk, is_some, length, option_copied, vec_capacity, vec_len};
+ghost use Rattle.std.specs.Prelude.{◌≡◌, ◌+◌, ◌*◌, ◌%◌, ◌≤◌, ◌<◌, false, All, [], find, IfOk, is_some, length, option_copied, vec_capacity, vec_len};
 ghost use Rattle.std.specs.List.{list_any, prefix_len};
 ghost use Rattle.iop_base.specs.Output.{Gives};
 ghost use Rattle.iop_stubs.specs.Stubs.{is_of, stands_at, stands_before, stands_from, meets, remaining_stubs, stub_lines};
 ghost use Rattle.iop_stubs.specs.Binding.{with_stub, IsInOrder};
+ghost use Rattle.iop_stubs.specs.Covering.{StandsIn, Uncovers, bytes_of_room};
+ghost use Rattle.iop_stubs.specs.declared.word_set.TheConstants.{WORDS, WORD_BYTES};
 ghost use Rattle.iop_stubs.specs.declared.live_stub.TheConstants.Stub.{SIZE, MOST_LIVE};
 
 use crate::live_stub::Stub;
+use crate::word_set::WordSet;
 use iop_base::Lines;
 use std::alloc::{AllocError, Global};
 use std::marker::Model;
@@ -14,91 +17,98 @@ use std::marker::Model;
 #[derive(Drop)]
 pub(crate) struct LiveStubs {
     stubs: Vec<Stub>,
-    /// No stub stands before it.
-    low: u32,
-    /// Each stub ends there or before it.
-    high: u32,
+    /// The words of RAM that they cover.
+    covered: WordSet,
 }
 
 impl Model for LiveStubs {
-    ghost use Rattle.std.specs.Prelude.{List, ◌≤◌, All};
+    ghost use Rattle.std.specs.Prelude.{◌≤◌};
     ghost use Rattle.std.specs.Vec.{vec_capacity};
-    ghost use Rattle.iop_stubs.specs.declared.live_stub.Stub.{Stub as Live};
     ghost use Rattle.iop_stubs.specs.declared.live_stub.TheConstants.Stub.{MOST_LIVE};
-    ghost use Rattle.iop_stubs.specs.Binding.{IsInOrder, IsWithin};
+    ghost use Rattle.iop_stubs.specs.Covering.{LiveTable, IsTable, bytes_of_room};
 
-    ghost Value = { List Live };
+    ghost Value = { LiveTable };
 
-    ghost view = { λ live. live.stubs.items };
+    ghost view = { λ live. record {
+      stubs = live.stubs.items;
+      ram = bytes_of_room live.covered.bits.items;
+    } };
 
-    ghost invariant = { λ live. IsInOrder live.stubs.items
-        × All (IsWithin live.low live.high) live.stubs.items
+    ghost invariant = { λ live. IsTable live.covered.bits.items live.stubs.items
         × (MOST_LIVE ≤ vec_capacity live.stubs) };
 }
 
 impl LiveStubs {
-    /// Makes the list of no stub, with room for all that can be live.
-    pub(crate) fn new(alloc: Global) -> Result<Self, AllocError>
-        ensures { IfOk result (λ live. live ≡ []) }
+    /// Makes the list of no stub, with room for all that can be live, in so many bytes of RAM.
+    pub(crate) fn new(alloc: Global, ram: u32) -> Result<Self, AllocError>
+        requires { ram % (WORD_BYTES * WORDS) ≡ 0 }
+        ensures { IfOk result (λ live. live ≡ record { stubs = []; ram = ram }) }
     {
         Ok(LiveStubs {
             stubs: Vec::with_capacity(alloc, Stub::MOST_LIVE as usize)?,
-            low: u32::MAX,
-            high: 0,
+            covered: WordSet::new(alloc, ram)?,
         })
     }
 
     /// Counts them.
     pub(crate) fn len(&self) -> usize
-        ensures { result ≡ length self.now }
+        ensures { result ≡ length self.now.stubs }
     {
         self.stubs.len()
     }
 
     /// Finds the stub at a place.
     pub(crate) fn at(&self, place: u32) -> Option<Stub>
-        ensures { result ≡ find (stands_at place) self.now }
+        ensures { result ≡ find (stands_at place) self.now.stubs }
     {
         find_at(&self.stubs, place)
     }
 
     /// Tells whether there is one of the library of this name and major version.
     pub(crate) fn has_of(&self, name: &[u8; 8], major: u8) -> bool
-        ensures { result ≡ is_some (find (is_of name.now major) self.now) }
+        ensures { result ≡ is_some (find (is_of name.now major) self.now.stubs) }
     {
         find_of(&self.stubs, name, major).is_some()
     }
 
-    /// Tells whether the range meets one. It asks one of them at most.
+    /// Tells whether a range of RAM meets one. Within one word it looks at one bit, else it searches
+    /// by halving.
     fn is_met(&self, place: u32, len: u32) -> bool
-        requires { place + len < 2 ^ 32 }
-        ensures { result ≡ list_any (meets place len) self.now }
+        requires { place + len ≤ self.now.ram }
+        ensures { result ≡ list_any (meets place len) self.now.stubs }
     {
-        place < self.high && self.low < place + len && meets_one(&self.stubs, place, len)
+        if len > 0 && len <= 4 - place % 4 {
+            self.covered.has(place / 4)
+        } else {
+            meets_one(&self.stubs, place, len)
+        }
     }
 
-    /// Takes out each that the range meets, and gives its line of moment `t`.
+    /// Takes out each that a range of RAM meets, and gives its line of moment `t`.
     pub(crate) fn end_in<L: Lines>(&mut self, place: u32, len: u32, t: u64, lines: &mut L)
-        requires { place + len < 2 ^ 32 }
-        ensures live { self.new ≡ remaining_stubs place len self.old }
+        requires { place + len ≤ self.old.ram }
+        ensures live { self.new.stubs ≡ remaining_stubs place len self.old.stubs }
+        ensures ram { self.new.ram ≡ self.old.ram }
         ensures lines { Gives (L.output lines.old) (L.output lines.new)
-            (stub_lines t place len self.old) }
+            (stub_lines t place len self.old.stubs) }
     {
         if self.is_met(place, len) {
+            uncover(&mut self.covered, &self.stubs, place, len);
             take_out(&mut self.stubs, place, len, t, lines);
         }
     }
 
     /// Puts one more among them. It overlaps none, and there is room for it.
     pub(crate) fn insert(&mut self, stub: Stub)
-        requires room { length self.old < MOST_LIVE }
-        requires inside { stub.at + SIZE < 2 ^ 32 }
-        requires apart { All (λ other. meets stub.at SIZE other ≡ false) self.old }
-        ensures { self.new ≡ with_stub stub self.old }
+        requires room { length self.old.stubs < MOST_LIVE }
+        requires stands { StandsIn self.old.ram stub }
+        requires apart { All (λ other. meets stub.at SIZE other ≡ false) self.old.stubs }
+        ensures live { self.new.stubs ≡ with_stub stub self.old.stubs }
+        ensures ram { self.new.ram ≡ self.old.ram }
     {
         put_in_order(&mut self.stubs, stub);
-        self.low = self.low.min(stub.at);
-        self.high = self.high.max(stub.at + Stub::SIZE);
+        self.covered.insert(stub.at / 4);
+        self.covered.insert(stub.at / 4 + 1);
     }
 }
 
@@ -145,6 +155,19 @@ fn give_lines<L: Lines>(stubs: &[Stub], place: u32, len: u32, t: u64, lines: &mu
 {
     for stub in stubs {
         stub.give_line(place, len, t, lines);
+    }
+}
+
+/// Takes the words out of the set that are covered by a stub which the range meets.
+fn uncover(covered: &mut WordSet, stubs: &[Stub], place: u32, len: u32)
+    requires { All (StandsIn (bytes_of_room covered.old.bits.items)) stubs.now }
+    ensures { Uncovers place len stubs.now covered.old.bits.items covered.new.bits.items }
+{
+    for stub in stubs {
+        if stub.meets(place, len) {
+            covered.remove(stub.at / 4);
+            covered.remove(stub.at / 4 + 1);
+        }
     }
 }
 

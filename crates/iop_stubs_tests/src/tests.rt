@@ -96,110 +96,128 @@ fn put_last_in(guest: &mut Guest, at: u32, len: u32, byte: u8, told: &mut Told) 
     guest.with_window(at, len, 5, told, |window| put_last(window, byte))
 }
 
+/// What a step does, and what is wanted of it.
+#[derive(Clone, Copy)]
+enum Step {
+    /// Stores 7 by its width at moment 1.
+    Store(u32, Width, Result<(), Bad>),
+    /// Stores `end` at moment 2.
+    Bytes(u32, Result<(), Bad>),
+    /// Fills so many bytes with 255 at moment 3.
+    Fill(u32, u32, Result<(), Bad>),
+    /// Writes 0x99 as the last byte of so many, one at least, at moment 5: what stood there.
+    Last(u32, u32, Option<u8>),
+    /// Whether the stub is live.
+    Lives(bool),
+    /// The word at an address.
+    Word(u32, u32),
+}
+
+/// Tells whether the stub is live, by its place, its library and the room that is left.
+fn lives(guest: &Guest) -> (bool, bool, bool) {
+    (
+        guest.at(STUB.at) == Some(STUB),
+        guest.bound_to(STUB.name, STUB.major),
+        guest.room() == 65_535,
+    )
+}
+
+/// Takes a step.
+fn take(rt: &impl Abort, guest: &mut Guest, told: &mut Told, step: Step) {
+    match step {
+        Step::Store(at, width, wanted) => {
+            assert_eq!(rt; guest.store(at, width, 7, 1, told), wanted);
+        }
+        Step::Bytes(at, wanted) => assert_eq!(rt; guest.store_bytes(at, b"end", 2, told), wanted),
+        Step::Fill(at, len, wanted) => assert_eq!(rt; guest.fill(at, len, 255, 3, told), wanted),
+        Step::Last(at, len, wanted) => {
+            assert!(rt; len > 0);
+            assert_eq!(rt; put_last_in(guest, at, len, 0x99, told), wanted);
+        }
+        Step::Lives(wanted) => assert_eq!(rt; lives(guest), (wanted, wanted, wanted)),
+        Step::Word(at, wanted) => assert_eq!(rt; guest.ram().load32(at), Ok(wanted)),
+    }
+}
+
+/// Takes steps, one after the other, in memory in which the stub is bound, and compares what is
+/// told of it.
+fn take_all(
+    rt: &impl Abort,
+    alloc: Global,
+    steps: &[Step],
+    wanted: &[(u64, u32)],
+) -> Result<(), Fail> {
+    let mut told = Told {
+        stubs: Vec::new(alloc),
+    };
+    let mut guest = bound(rt, alloc, &mut told)?;
+    for step in steps {
+        take(rt, &mut guest, &mut told, *step);
+    }
+    assert_eq!(rt; told.stubs.as_slice(), wanted);
+    Ok(())
+}
+
 #[test]
 fn stores_end_a_stub(rt: HostRuntime) -> Result<(), Fail> {
-    let mut told = Told {
-        stubs: Vec::new(rt.alloc()),
-    };
-    let mut guest = bound(&rt, rt.alloc(), &mut told)?;
-    for (at, width, result) in [
-        (0x1_0010, Width::Word, Ok(())),
-        (0x1_001C, Width::Word, Ok(())),
-        (0x1_0015, Width::Half, Err(Bad)),
-        (0x20_0000, Width::Byte, Err(Bad)),
-    ] {
-        assert_eq!(rt; guest.store(at, width, 7, 1, &mut told), result);
-    }
-    assert_eq!(rt; guest.at(0x1_0014), Some(STUB));
-    assert_eq!(rt; guest.at(0x1_0018), None);
-    for (name, major, wanted) in [
-        (*b"sysmem\0\0", 1, true),
-        (*b"sysmem\0\0", 2, false),
-        (*b"stdio\0\0\0", 1, false),
-    ] {
-        assert_eq!(rt; guest.bound_to(name, major), wanted);
-    }
-    assert_eq!(rt;
-        guest.store(0xA001_001B, Width::Byte, 7, 2, &mut told),
-        Ok(())
-    );
-    assert_eq!(rt; guest.at(0x1_0014), None);
-    assert_eq!(rt; guest.room(), 65_536);
-    assert_eq!(rt; guest.ram().load32(0x1_0014), Ok(0x0800_1138));
-    assert_eq!(rt; guest.ram().load32(0x1_0018), Ok(0x0700_000E));
-    assert_eq!(rt; told.stubs.as_slice(), [(2, 0x1_0014)].as_slice());
-    Ok(())
+    let steps = [
+        Step::Store(0x1_0010, Width::Word, Ok(())),
+        Step::Store(0x1_001C, Width::Word, Ok(())),
+        Step::Store(0x1_0015, Width::Half, Err(Bad)),
+        Step::Store(0x20_0000, Width::Byte, Err(Bad)),
+        Step::Lives(true),
+        Step::Store(0xA001_001B, Width::Byte, Ok(())),
+        Step::Lives(false),
+        Step::Word(0x1_0014, 0x0800_1138),
+        Step::Word(0x1_0018, 0x0700_000E),
+        Step::Store(0x1_0014, Width::Word, Ok(())),
+    ];
+    take_all(&rt, rt.alloc(), &steps, &[(1, 0x1_0014)])
 }
 
 #[test]
 fn fills_end_a_stub(rt: HostRuntime) -> Result<(), Fail> {
-    let mut told = Told {
-        stubs: Vec::new(rt.alloc()),
-    };
-    let mut guest = bound(&rt, rt.alloc(), &mut told)?;
-    for (at, len, result) in [
-        (0x1_0018, 0, Ok(())),
-        (0x1_0000, 0x14, Ok(())),
-        (0x1F_FFFF, 2, Err(Bad)),
-        (0x20_0000, 0, Err(Bad)),
-    ] {
-        assert_eq!(rt; guest.fill(at, len, 0xFF, 1, &mut told), result);
-    }
-    for (at, bytes, result) in [
-        (0x1_001C, b"end".as_slice(), Ok(())),
-        (0x1_0011, b"end".as_slice(), Ok(())),
-        (0x1F_FFFE, b"end".as_slice(), Err(Bad)),
-    ] {
-        assert_eq!(rt; guest.store_bytes(at, bytes, 1, &mut told), result);
-    }
-    assert_eq!(rt; guest.at(0x1_0014), Some(STUB));
-    assert_eq!(rt; guest.fill(0x1_0000, 0x15, 0, 3, &mut told), Ok(()));
-    assert_eq!(rt; guest.bound_to(*b"sysmem\0\0", 1), false);
-    assert_eq!(rt; guest.ram().load32(0x1_0014), Ok(0x0800_1100));
-    assert_eq!(rt; guest.ram().load32(0x1_0010), Ok(0));
-    assert_eq!(rt; told.stubs.as_slice(), [(3, 0x1_0014)].as_slice());
-    Ok(())
+    let steps = [
+        Step::Fill(0x1_0018, 0, Ok(())),
+        Step::Fill(0x1_0000, 0x14, Ok(())),
+        Step::Fill(0x1F_FFFF, 2, Err(Bad)),
+        Step::Fill(0x20_0000, 0, Err(Bad)),
+        Step::Lives(true),
+        Step::Fill(0x1_0000, 0x15, Ok(())),
+        Step::Lives(false),
+        Step::Word(0x1_0014, 0x0800_11FF),
+        Step::Word(0x1_0010, 0xFFFF_FFFF),
+    ];
+    take_all(&rt, rt.alloc(), &steps, &[(3, 0x1_0014)])
 }
 
 #[test]
-fn a_store_of_bytes_ends_a_stub(rt: HostRuntime) -> Result<(), Fail> {
-    let mut told = Told {
-        stubs: Vec::new(rt.alloc()),
-    };
-    let mut guest = bound(&rt, rt.alloc(), &mut told)?;
-    assert_eq!(rt;
-        guest.store_bytes(0x8001_001B, b"end", 4, &mut told),
-        Ok(())
-    );
-    assert_eq!(rt; guest.at(0x1_0014), None);
-    assert_eq!(rt; guest.ram().load32(0x1_0018), Ok(0x6500_000E));
-    assert_eq!(rt; guest.ram().load16(0x1_001C), Ok(0x646E));
-    assert_eq!(rt; told.stubs.as_slice(), [(4, 0x1_0014)].as_slice());
-    Ok(())
+fn stores_of_bytes_end_a_stub(rt: HostRuntime) -> Result<(), Fail> {
+    let steps = [
+        Step::Bytes(0x1_001C, Ok(())),
+        Step::Bytes(0x1_0011, Ok(())),
+        Step::Bytes(0x1F_FFFE, Err(Bad)),
+        Step::Lives(true),
+        Step::Bytes(0x8001_001B, Ok(())),
+        Step::Lives(false),
+        Step::Word(0x1_0018, 0x6500_000E),
+        Step::Word(0x1_001C, 0x0064_646E),
+    ];
+    take_all(&rt, rt.alloc(), &steps, &[(2, 0x1_0014)])
 }
 
 #[test]
 fn a_window_ends_a_stub(rt: HostRuntime) -> Result<(), Fail> {
-    let mut told = Told {
-        stubs: Vec::new(rt.alloc()),
-    };
-    let mut guest = bound(&rt, rt.alloc(), &mut told)?;
-    for (at, len, wanted) in [
-        (0x1_0010, 4, Some(0)),
-        (0x1_001C, 9, Some(0)),
-        (0x1F_FFFF, 2, None),
-        (0x20_0000, 1, None),
-    ] {
-        assert_eq!(rt; put_last_in(&mut guest, at, len, 7, &mut told), wanted);
-    }
-    assert_eq!(rt; guest.at(0x1_0014), Some(STUB));
-    assert_eq!(rt;
-        put_last_in(&mut guest, 0x8001_0010, 5, 0x99, &mut told),
-        Some(0x38)
-    );
-    assert_eq!(rt; guest.at(0x1_0014), None);
-    assert_eq!(rt; guest.ram().load32(0x1_0014), Ok(0x0800_1199));
-    assert_eq!(rt; guest.ram().load32(0x1_0010), Ok(0x0700_0000));
-    assert_eq!(rt; told.stubs.as_slice(), [(5, 0x1_0014)].as_slice());
-    Ok(())
+    let steps = [
+        Step::Last(0x1_0010, 4, Some(0)),
+        Step::Last(0x1_001C, 9, Some(0)),
+        Step::Last(0x1F_FFFF, 2, None),
+        Step::Last(0x20_0000, 1, None),
+        Step::Lives(true),
+        Step::Last(0x8001_0010, 5, Some(0x38)),
+        Step::Lives(false),
+        Step::Word(0x1_0014, 0x0800_1199),
+        Step::Word(0x1_0010, 0x9900_0000),
+    ];
+    take_all(&rt, rt.alloc(), &steps, &[(5, 0x1_0014)])
 }

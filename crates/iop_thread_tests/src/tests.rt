@@ -1,4 +1,4 @@
-ghost use Rattle.iop_ready.specs.ReadyList.{StandsFor};
+ghost use Rattle.iop_ready.specs.KernelReady.{KernelStands};
 ghost use Rattle.iop_thread.specs.Standing.{IsSound};
 
 use iop_base::Code;
@@ -29,8 +29,8 @@ enum Call {
 
 /// Makes a call, and tells what it answers: a code, or a number. 0 where it answers nothing.
 fn answer(threads: &mut Threads<KernelReady>, call: Call, cpu: &mut Cpu) -> i64
-    requires { IsSound StandsFor threads.old }
-    ensures { IsSound StandsFor threads.new }
+    requires { IsSound KernelStands threads.old }
+    ensures { IsSound KernelStands threads.new }
 {
     match call {
         Call::Create(priority) => number(threads.create(param(priority), 0x2_0000, 0)),
@@ -66,7 +66,7 @@ fn answer(threads: &mut Threads<KernelReady>, call: Call, cpu: &mut Cpu) -> i64
 /// Makes the calls of a table, and tells which row is the first with another answer. None where
 /// there is no such row.
 fn wrong_row(threads: &mut Threads<KernelReady>, rows: &[(Call, i64)]) -> Option<usize>
-    requires { IsSound StandsFor threads.old }
+    requires { IsSound KernelStands threads.old }
 {
     let mut cpu = registers_at(0);
     for (place, (call, number)) in rows.iter().enumerate() {

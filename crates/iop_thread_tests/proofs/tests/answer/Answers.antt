@@ -1,5 +1,5 @@
 -- The threads are sound after each call.
-use Rattle.iop_ready.specs.ReadyList.{StandsFor}
+use Rattle.iop_ready.specs.KernelReady.{KernelStands}
 use Rattle.iop_thread.specs.Operations.{dispatches}
 use Rattle.iop_thread.proofs.ChoosingThreads.{sound_after_dispatch}
 use Rattle.iop_thread_tests.proofs.tests.answer.Goals as goal
@@ -47,5 +47,5 @@ pub returns-in-Dispatch : goal.returns-in-Dispatch
 returns-in-Dispatch c =
     let (s, h) = c.requires in
     let cpu = c.args.cpu.now in
-    sound_after_dispatch StandsFor s cpu (dispatches s cpu) c.dispatch.result c.dispatch.new.self
+    sound_after_dispatch KernelStands s cpu (dispatches s cpu) c.dispatch.result c.dispatch.new.self
     c.dispatch.new.cpu (c.dispatch.ensures s h)

@@ -1,8 +1,8 @@
-use Rattle.std.proofs.Common.{◌≡◌, true, false, arith, rules}
+use Rattle.std.proofs.Common.{◌≡◌, true, false, refl, arith, rules}
 use Rattle.std.specs.Option.{is_some}
 use Rattle.iop_cblock.proofs.Standing.{sound_from, view_from}
 use Rattle.iop_cblock.proofs.Takes.{take-stands, before_below, behind_below, unlinked-free}
-use Rattle.iop_cblock.proofs.Fields.{links, own, listed-read, free-read}
+use Rattle.iop_cblock.proofs.Fields.{links, own, listed-read, listed_in, free-read}
 use Rattle.iop_cblock.proofs.Disjoint.{disjoint-from, view_disjoint}
 use Rattle.iop_cblock.proofs.arena.Arena.unlink.Goals as goal
 
@@ -57,7 +57,11 @@ returns-then-is_some c =
     take-stands a.nodes a.next.items a.previous.items a.owner.items c.args.node s f c.requires
     listed.0 listed.1 c.index-before.result.now c.index-behind.result.now
     c.index-before.ensures c.index-behind.ensures in
-    record { lists = view_from _ _ after; disjoint = view_disjoint _ _ after }
+    record {
+      lists = view_from _ _ after;
+      free = λ none. absurd (listed_in (links a) s f c.args.node c.requires listed.0 listed.1 none);
+      disjoint = view_disjoint _ _ after;
+    }
 
 pub returns-else-is_some : goal.returns-else-is_some
 returns-else-is_some c =
@@ -70,5 +74,6 @@ returns-else-is_some c =
           unlinked-free a.nodes a.next.items a.previous.items a.owner.items c.args.node s f
           c.requires
           (free-read (links a) s f c.args.node c.requires c.index.result.now c.index.ensures none);
+      free = λ is_free. refl;
       disjoint = disjoint-from (links a) s f;
     }

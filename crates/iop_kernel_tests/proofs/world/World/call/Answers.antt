@@ -1,5 +1,5 @@
 use Rattle.std.proofs.Common.{◌≡◌, true, ap, sym, ◌∙◌, arith, rules}
-use Rattle.iop_ready.specs.ReadyList.{StandsFor}
+use Rattle.iop_ready.specs.KernelReady.{KernelStands}
 use Rattle.iop_time.specs.Timers.{Timers}
 use Rattle.iop_kernel.proofs.Bodies.Worlds.{next_served}
 use Rattle.iop_kernel_tests.proofs.world.World.call.Goals as goal
@@ -24,7 +24,7 @@ returns g c =
       sound = (_, record { holds = told.served.core.kernel; placed = told.placed });
       few = omega (
         arith,
-        next_served StandsFor _ c.args.code _ _ _ _ _ _ _
+        next_served KernelStands _ c.args.code _ _ _ _ _ _ _
             (sym (c.active.ensures k stands) ∙ active) told,
         ap (λ (t : Timers). t.next) stands.holds.timers,
         c.requires.few,

@@ -1,5 +1,5 @@
 use Rattle.std.proofs.Common.{ap, arith}
-use Rattle.iop_ready.specs.ReadyList.{StandsFor}
+use Rattle.iop_ready.specs.KernelReady.{KernelStands}
 use Rattle.iop_time.specs.Timers.{Timers}
 use Rattle.iop_kernel.specs.Dispatching.{dispatches}
 use Rattle.iop_kernel.specs.Standing.{core}
@@ -14,10 +14,10 @@ returns c =
     let now = core k c.args.self.now.cpu in
     let did = c.dispatch-taken.ensures k stands in
     record {
-      sound = sound_after_dispatch StandsFor now (dispatches now) _ _ _ _ did;
+      sound = sound_after_dispatch KernelStands now (dispatches now) _ _ _ _ did;
       few = omega (
         arith,
-        next_dispatched StandsFor now _ _ _ _ _ did,
+        next_dispatched KernelStands now _ _ _ _ _ did,
         ap (λ (t : Timers). t.next) stands.holds.timers,
         c.requires.few,
       );

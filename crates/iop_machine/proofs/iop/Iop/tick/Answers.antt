@@ -1,6 +1,6 @@
 use Rattle.std.proofs.Common.{◌+◌, arith, subst}
 use Rattle.iop_kernel.specs.Standing.{Stands}
-use Rattle.iop_ready.specs.ReadyList.{StandsFor}
+use Rattle.iop_ready.specs.KernelReady.{KernelStands}
 use Rattle.iop_machine.proofs.StandingLemmas.{moment_is, stands_with_kernel}
 use Rattle.iop_machine.proofs.iop.Iop.tick.Goals as goal
 
@@ -19,5 +19,5 @@ advance-requires c =
 pub returns : goal.returns
 returns c =
     stands_with_kernel c.args.self.now c.advance.new.self (λ k. record k { clock = k.clock + 1 })
-    (λ k h. subst (λ t. Stands StandsFor c.advance.new.self (record k { clock = t + 1 }))
+    (λ k h. subst (λ t. Stands KernelStands c.advance.new.self (record k { clock = t + 1 }))
     (c.now-now.ensures.moment k h) (c.advance.ensures k h))

@@ -1,17 +1,16 @@
-use Rattle.std.proofs.Common.{sym, ◌∙◌}
-use Rattle.std.proofs.lemmas.Bool.{ltb-false}
-use Rattle.iop_stubs.proofs.Searching.{none_behind, none_before}
-use Rattle.iop_stubs.proofs.live_stubs.LiveStubs.is_met.Goals.{then-place-self, else-place-self}
+use Rattle.std.proofs.Common.{◌∙◌, ◌+◌, ◌≤◌, sym, subst, ap, arith}
+use Rattle.std.specs.List.{list_any}
+use Rattle.iop_stubs.specs.Stubs.{meets}
+use Rattle.iop_stubs.specs.Covering.{LiveTable, bytes_of_room}
+use Rattle.iop_stubs.proofs.Covering.{met_in_word}
 use Rattle.iop_stubs.proofs.live_stubs.LiveStubs.is_met.Goals as goal
 
-pub returns-else-self-place : goal.returns-else-self-place
-returns-else-self-place c =
-    rw (← c.self.view_is) (c.if-self-place.false ∙ sym (elim c.if-place-self.branch [
-      | then-place-self w ↦
-          none_before c.args.place c.args.len c.self.inside.low c.self.inside.high
-          c.self.inside.stubs.items c.self.invariant.1
-          (ltb-false _ _ (sym w.value-is ∙ c.if-self-place.false))
-      | else-place-self w ↦
-          none_behind c.args.place c.args.len c.self.inside.low c.self.inside.high
-          c.self.inside.stubs.items c.self.invariant.1 w.if-place-self.false
-    ]))
+pub returns-then-len-place : goal.returns-then-len-place
+returns-then-len-place c =
+    let bits = c.self.inside.covered.bits.items in
+    let within : c.args.place + c.args.len ≤ bytes_of_room bits =
+    subst (λ (t : LiveTable). c.args.place + c.args.len ≤ t.ram) (sym c.self.view_is) c.requires in
+    c.has.ensures
+    ∙ met_in_word c.args.place c.args.len c.if-len-gt0.true (omega (arith, c.if-len-place.true)) bits
+    c.self.inside.stubs.items c.self.invariant.0 within
+    ∙ ap (λ (t : LiveTable). list_any (meets c.args.place c.args.len) t.stubs) c.self.view_is
