@@ -8,7 +8,7 @@ use Rattle.std.proofs.lemmas.Nat.{and_assoc, and_comm}
 use Rattle.iop_event.specs.WakeConditions.{is_met, has_bit, pattern_after}
 use Rattle.iop_event.specs.declared.wanted.TheConstants.{EITHER, CLEAR}
 use Rattle.iop_event.specs.declared.wanted.Wanted.{Wanted}
-use Rattle.iop_objects.specs.declared.queued.Queued.{Queued}
+use Rattle.iop_queues.specs.declared.queued.Queued.{Queued}
 use Rattle.iop_objects.specs.declared.waiter.Waiter.{Waiter}
 
 -- the condition of a thread that waits does not hold of a pattern

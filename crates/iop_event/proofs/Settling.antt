@@ -11,8 +11,8 @@ use Rattle.iop_event.specs.declared.met.Met.{Met}
 use Rattle.iop_event.specs.declared.wanted.Wanted.{Wanted}
 use Rattle.iop_objects.specs.Objects.{state_of, waiters_of, with_state, with_waiters, takes_where}
 use Rattle.iop_objects.specs.Objects as objects
-use Rattle.iop_objects.specs.Queue.{Choice, chooses_where, chooses_behind}
-use Rattle.iop_objects.specs.declared.queued.Queued.{Queued}
+use Rattle.iop_queues.specs.Queue.{Choice, chooses_where, chooses_behind}
+use Rattle.iop_queues.specs.declared.queued.Queued.{Queued}
 use Rattle.iop_objects.specs.declared.waiter.Waiter.{Waiter}
 use Rattle.iop_objects.proofs.Changes.{state_of-with_state, state_of-with_waiters, waiters_of-with_waiters, waiters_of-with_state}
 

@@ -7,7 +7,8 @@ use crate::event_flag::{EventFlag, MANY_WAITERS, is_attribute};
 use crate::met::Met;
 use crate::wanted::{Wanted, holds, pattern_after};
 use iop_base::Code;
-use iop_objects::{Condition, Objects, Waiter};
+use iop_objects::{Objects, Waiter};
+use iop_queues::Condition;
 use std::alloc::{AllocError, Global};
 use std::marker::Model;
 

@@ -7,7 +7,7 @@ use Rattle.iop_base.specs.declared.code.TheConstants.Code.{WAIT_RELEASED}
 use Rattle.iop_event.specs.WakeConditions.{settles}
 use Rattle.iop_exec.specs.Row.{reg}
 use Rattle.iop_objects.specs.Objects.{object_of, waiters_in, waiters_of, with_waiters}
-use Rattle.iop_objects.specs.declared.queued.Queued.{Queued}
+use Rattle.iop_queues.specs.declared.queued.Queued.{Queued}
 use Rattle.iop_objects.specs.declared.waiter.Waiter.{Waiter}
 use Rattle.iop_stubs.specs.Stubs.{Memory}
 use Rattle.iop_thread.specs.declared.kind.Kind.{Kind}

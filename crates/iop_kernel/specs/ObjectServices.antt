@@ -7,7 +7,7 @@ use Rattle.iop_base.specs.declared.code.TheConstants.Code.{OK, UNKNOWN_SEMAPHORE
 use Rattle.iop_base.specs.declared.guest_fault.GuestFault.TheVariants.{Address, Service}
 use Rattle.iop_objects.specs.Objects as objects
 use Rattle.iop_objects.specs.Objects.{object_of, state_of}
-use Rattle.iop_objects.specs.Queue.{in_order}
+use Rattle.iop_queues.specs.Queue.{in_order}
 use Rattle.iop_thread.specs.ThreadTable.{priority_of}
 use Rattle.iop_thread.specs.declared.kind.Kind.{Kind}
 use Rattle.iop_thread.specs.declared.kind.Kind.TheVariants.{Semaphore, EventFlag, Mailbox}

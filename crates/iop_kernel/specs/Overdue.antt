@@ -2,7 +2,7 @@
 use Rattle.std.specs.Prelude.{◌≡◌, ℕ, Some, List, [], ◌⊎◌}
 use Rattle.iop_event.specs.Laws as flags
 use Rattle.iop_objects.specs.Objects.{state_of, waiters_of}
-use Rattle.iop_objects.specs.declared.queued.Queued.{Queued}
+use Rattle.iop_queues.specs.declared.queued.Queued.{Queued}
 use Rattle.iop_objects.specs.declared.waiter.Waiter.{Waiter}
 use Rattle.iop_thread.specs.Laws.{SleepersAreUnwoken}
 use Rattle.iop_thread.specs.declared.kind.Kind.{Kind}

@@ -1,5 +1,6 @@
+pub mod Reading
+mod Counted
 mod MailboxTables
-mod MailboxChanges
-mod WaiterChanges
-mod MailboxCalls
+mod LiveMailboxes
+mod Creating
 mod Receiving

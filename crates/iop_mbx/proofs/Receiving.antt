@@ -3,14 +3,14 @@ use Rattle.std.proofs.Common.{◌≡◌, ◌≢◌, ℕ, ◌<◌, Bool, true, fa
 use Rattle.std.proofs.lemmas.Bool.Decides.{nat_tests}
 use Rattle.iop_base.specs.declared.code.Code.{Code}
 use Rattle.iop_base.specs.declared.code.TheConstants.Code.{OK, NO_MEMORY}
-use Rattle.iop_objects.specs.Laws.{IsTaken}
+use Rattle.iop_queues.specs.Laws.{IsTaken}
 use Rattle.iop_objects.specs.Objects.{state_of, waiters_of, with_state, with_waiters}
 use Rattle.iop_objects.specs.Objects as objects
-use Rattle.iop_objects.specs.Queue.{Choice, chooses, chooses_first}
-use Rattle.iop_objects.specs.declared.queued.Queued.{Queued}
+use Rattle.iop_queues.specs.Queue.{Choice, chooses, chooses_first}
+use Rattle.iop_queues.specs.declared.queued.Queued.{Queued}
 use Rattle.iop_objects.specs.declared.waiter.Waiter.{Waiter}
 use Rattle.iop_objects.proofs.Changes.{state_of-with_state, state_of-with_waiters, waiters_of-with_waiters}
-use Rattle.iop_objects.proofs.QueuesChosen.{queues_chosen}
+use Rattle.iop_queues.proofs.Choosing.{queues_chosen}
 use Rattle.iop_mbx.specs.Laws.{IsReceived, IsSent, TakesNext, MailboxKeeps}
 use Rattle.iop_mbx.specs.Mailboxes.{Mailbox, Mailboxes, messages_by_priority, waiters_by_priority, is_by_priority, message_count, next_message, with_messages, has_room, gets, gets_by, gets_it, puts, puts_it, takes_waiter, waiter_for}
 use Rattle.iop_mbx.specs.declared.mailboxes.TheConstants.{MOST_MESSAGES}

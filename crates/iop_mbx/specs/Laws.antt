@@ -3,10 +3,10 @@ use Rattle.std.specs.Prelude.{◌≡◌, ◌≢◌, ◌↔◌, ℕ, ◌<◌, tru
 use Rattle.iop_base.specs.declared.code.TheConstants.Code.{OK}
 use Rattle.iop_mbx.specs.Mailboxes.{Mailbox, Mailboxes, messages_by_priority, waiters_by_priority, message_count, takes_waiter, takes_waiter_of, puts, gets}
 use Rattle.iop_mbx.specs.declared.mailboxes.TheConstants.{MOST_MESSAGES}
-use Rattle.iop_objects.specs.Laws.{IsBest, IsTaken}
+use Rattle.iop_queues.specs.Laws.{IsBest, IsTaken}
 use Rattle.iop_objects.specs.Objects.{state_of, waiters_of}
-use Rattle.iop_objects.specs.Queue.{Choice, chooses}
-use Rattle.iop_objects.specs.declared.queued.Queued.{Queued}
+use Rattle.iop_queues.specs.Queue.{Choice, chooses}
+use Rattle.iop_queues.specs.declared.queued.Queued.{Queued}
 use Rattle.iop_objects.specs.declared.waiter.Waiter.{Waiter}
 
 -- a message that was queued before others and behind others is received, and all others stay

@@ -1,32 +1,39 @@
--- How the program's table stands for the mailboxes: the messages of all of them stand in one list.
-use Rattle.std.specs.Prelude.{◌≡◌, ◌≢◌, ℕ, ◌<◌, List, length, map, All, AllPairs}
+-- How the tables of the program stand for the mailboxes: the messages of each stand in a queue of its
+-- own, which has a number.
+use Rattle.std.specs.Prelude.{◌≡◌, ℕ, List, [], length, map}
 use Rattle.iop_mbx.specs.Mailboxes as mailboxes
-use Rattle.iop_mbx.specs.Mailboxes.{Mailboxes, message_count}
-use Rattle.iop_mbx.specs.declared.mailbox.Mailbox.{Mailbox}
+use Rattle.iop_mbx.specs.Mailboxes.{Mailboxes}
+use Rattle.iop_mbx.specs.declared.mailboxes.Numbered.{Numbered}
 use Rattle.iop_objects.specs.Objects.{Object, Objects}
-use Rattle.iop_objects.specs.Owners.{queue_of}
-use Rattle.iop_objects.specs.declared.queues.Owned.{Owned}
+use Rattle.iop_objects.specs.declared.objects.TheConstants.{MOST_OBJECTS}
+use Rattle.iop_queues.specs.Numbers.{AreNumbers, uses}
+use Rattle.iop_queues.specs.Queues.{queue_at}
+use Rattle.iop_queues.specs.declared.queued.Queued.{Queued}
 
--- a mailbox, with its messages
-abbrev pub mailbox_in : List (Owned ℕ) → Object Mailbox ℕ → Object mailboxes.Mailbox ℕ
-mailbox_in messages o = record {
-  id = o.id;
-  state = record {
-    attr = o.state.attr;
-    option = o.state.option;
-    messages = queue_of o.id messages;
-  };
-  waiters = o.waiters;
+-- what is known of a mailbox, with its messages
+abbrev pub known : List (List (Queued ℕ)) → Numbered → mailboxes.Mailbox
+known messages x = record {
+  attr = x.mailbox.attr;
+  option = x.mailbox.option;
+  messages = queue_at x.queue messages;
 }
 
-abbrev pub mailboxes_in : Objects Mailbox ℕ → List (Owned ℕ) → Mailboxes
+abbrev pub mailbox_in : List (List (Queued ℕ)) → Object Numbered ℕ → Object mailboxes.Mailbox ℕ
+mailbox_in messages o =
+    record { id = o.id; state = known messages o.state; waiters = o.waiters }
+
+abbrev pub mailboxes_in : Objects Numbered ℕ → List (List (Queued ℕ)) → Mailboxes
 mailboxes_in objects messages =
     record { live = map (mailbox_in messages) objects.live; next = objects.next }
 
--- what holds of every table
-pub record IsTable (objects : Objects Mailbox ℕ) (messages : List (Owned ℕ)) : Type 0 where
-  -- no two mailboxes have one id, and none has one that is still to be given
-  pub ids : AllPairs (λ a b. a.id ≢ b.id) objects.live
-  pub given : All (λ o. o.id < objects.next) objects.live
-  -- no message stands in a mailbox that is not live
-  pub count : length messages ≡ message_count (mailboxes_in objects messages)
+-- the queues of the mailboxes
+abbrev pub queues_of : Objects Numbered ℕ → List ℕ
+queues_of objects = map (λ o. o.state.queue) objects.live
+
+-- what holds of every table, of whose queues these are used and those are free
+pub record IsTable (used free : List ℕ) (messages : List (List (Queued ℕ))) : Type 0 where
+  -- no two mailboxes have one queue
+  pub numbers : AreNumbers MOST_OBJECTS used free
+  pub queues : length messages ≡ MOST_OBJECTS
+  -- no message stands in a queue of no mailbox
+  pub empty : (n : ℕ) → uses n used ≡ 0 → queue_at n messages ≡ []

@@ -1,3 +1,5 @@
+#![tactic(auto, using(crate::proofs::Reading::readings))]
+
 ghost use Rattle.std.specs.Prelude.{◌≡◌, ◌<◌, ◌≤◌, [], IfOk, is_some, option_map, option_and_then, true, length};
 ghost use Rattle.iop_objects.specs.Objects.{no_objects, object_of, state_of, waiters_of, waiting, drops, requeues};
 ghost use Rattle.iop_objects.specs.declared.objects.TheConstants.{MOST_WAITERS};
@@ -6,33 +8,46 @@ ghost use Rattle.iop_mbx.specs.Mailboxes.{without_messages, messages_of, next_me
 
 use crate::mailbox::{Mailbox, is_attribute};
 use iop_base::Code;
-use iop_objects::{Objects, Queued, Queues, Waiter};
+use iop_objects::{MOST_OBJECTS, Objects, Waiter};
+use iop_queues::{Queued, Queues};
 use std::alloc::{AllocError, Global};
 use std::marker::Model;
 
 /// The most messages that can stand in all mailboxes together.
-pub const MOST_MESSAGES: usize = 4096;
+pub const MOST_MESSAGES: u32 = 4096;
+
+/// A mailbox, and the queue of its messages.
+#[derive(Clone, Copy, Drop)]
+struct Numbered {
+    mailbox: Mailbox,
+    /// The number of the queue.
+    queue: u32,
+}
 
 /// The live mailboxes, the messages of each, and the threads that wait for one. A message is the
 /// address that was sent.
 #[derive(Drop)]
 pub struct Mailboxes {
-    objects: Objects<Mailbox, u32>,
+    objects: Objects<Numbered, u32>,
+    /// The queues of no live mailbox.
+    free: Vec<u32>,
     messages: Queues<u32, MOST_MESSAGES>,
 }
 
 impl Model for Mailboxes {
-    ghost use Rattle.std.specs.Prelude.{ℕ};
+    ghost use Rattle.std.specs.Prelude.{ℕ, ◌≤◌, vec_capacity};
     ghost use Rattle.iop_objects.specs.Objects.{Objects};
+    ghost use Rattle.iop_objects.specs.declared.objects.TheConstants.{MOST_OBJECTS};
     ghost use Rattle.iop_mbx.specs.Mailboxes.{Mailbox as Known};
 
     ghost Value = { Objects Known ℕ };
 
-    ghost use Rattle.iop_mbx.specs.Standing.{mailboxes_in, IsTable};
+    ghost use Rattle.iop_mbx.specs.Standing.{mailboxes_in, queues_of, IsTable};
 
     ghost view = { λ s. mailboxes_in s.objects s.messages };
 
-    ghost invariant = { λ s. IsTable s.objects s.messages };
+    ghost invariant = { λ s. IsTable (queues_of s.objects) s.free.items s.messages
+        × (MOST_OBJECTS ≤ vec_capacity s.free) };
 }
 
 impl Mailboxes {
@@ -43,7 +58,8 @@ impl Mailboxes {
     {
         Ok(Mailboxes {
             objects: Objects::new(alloc)?,
-            messages: Queues::new(alloc)?,
+            free: (0..MOST_OBJECTS as u32).collect(alloc)?,
+            messages: Queues::new(alloc, MOST_OBJECTS as u32)?,
         })
     }
 
@@ -51,7 +67,7 @@ impl Mailboxes {
     pub fn get(&self, id: u32) -> Option<Mailbox>
         ensures { result ≡ option_map without_messages (state_of self.now id) }
     {
-        self.objects.state(id)
+        self.objects.state(id).map(|numbered| numbered.mailbox)
     }
 
     /// Tells how many threads wait for a mailbox: 0 where none of this id is live.
@@ -67,7 +83,10 @@ impl Mailboxes {
         ensures count { result ≡ length (messages_of self.now id) }
         ensures few { result ≤ MOST_MESSAGES }
     {
-        self.messages.count(id)
+        match self.objects.state(id) {
+            Some(numbered) => self.messages.count(numbered.queue),
+            None => 0,
+        }
     }
 
     /// Reads the message of a mailbox that is received next. None exactly where it has none, or no
@@ -76,8 +95,9 @@ impl Mailboxes {
         ensures { result ≡ option_and_then
             (λ x. option_map (λ c. c.one.item) (next_message x)) (state_of self.now id) }
     {
-        let mailbox = self.get(id)?;
-        let message = self.messages.peek(id, mailbox.messages_by_priority())?;
+        let numbered = self.objects.state(id)?;
+        let by_priority = numbered.mailbox.messages_by_priority();
+        let message = self.messages.peek(numbered.queue, by_priority)?;
         Some(message.item)
     }
 
@@ -85,7 +105,7 @@ impl Mailboxes {
     pub fn has_room(&self) -> bool
         ensures { result ≡ has_room self.now }
     {
-        self.messages.len() < MOST_MESSAGES
+        self.messages.len() < MOST_MESSAGES as usize
     }
 
     /// Makes a mailbox, and answers its id. `ILLEGAL_ATTRIBUTE` exactly where the attribute has other
@@ -98,7 +118,13 @@ impl Mailboxes {
         if !is_attribute(attr) {
             return Err(Code::ILLEGAL_ATTRIBUTE);
         }
-        self.objects.create(Mailbox { attr, option })
+        let Some(queue) = self.free.last().copied() else {
+            return Err(Code::NO_MEMORY);
+        };
+        let mailbox = Mailbox { attr, option };
+        let id = self.objects.create(Numbered { mailbox, queue })?;
+        self.free.pop();
+        Ok(id)
     }
 
     /// Deletes a mailbox, for which no thread waits, with its messages. `UNKNOWN_MAILBOX` exactly where
@@ -108,10 +134,11 @@ impl Mailboxes {
         ensures answer { result ≡ (deletes self.old id).0 }
         ensures left { self.new ≡ (deletes self.old id).1 }
     {
-        if self.get(id).is_none() {
+        let Some(numbered) = self.objects.state(id) else {
             return Code::UNKNOWN_MAILBOX;
-        }
-        self.messages.clear(id);
+        };
+        self.messages.clear(numbered.queue);
+        self.free.push_reserved(numbered.queue);
         self.objects.delete(id);
         Code::OK
     }
@@ -134,14 +161,15 @@ impl Mailboxes {
         ensures answer { result ≡ (puts self.old id message priority).0 }
         ensures left { self.new ≡ (puts self.old id message priority).1 }
     {
-        if self.get(id).is_none() {
+        let Some(numbered) = self.objects.state(id) else {
             return Code::UNKNOWN_MAILBOX;
-        }
+        };
         if !self.has_room() {
             return Code::NO_MEMORY;
         }
         let item = message;
-        self.messages.push(id, Queued { priority, item });
+        self.messages
+            .push(numbered.queue, Queued { priority, item });
         Code::OK
     }
 
@@ -152,10 +180,11 @@ impl Mailboxes {
         ensures answer { result ≡ (gets self.old id).0 }
         ensures left { self.new ≡ (gets self.old id).1 }
     {
-        let Some(mailbox) = self.get(id) else {
+        let Some(numbered) = self.objects.state(id) else {
             return Err(Code::UNKNOWN_MAILBOX);
         };
-        match self.messages.take(id, mailbox.messages_by_priority()) {
+        let by_priority = numbered.mailbox.messages_by_priority();
+        match self.messages.take(numbered.queue, by_priority) {
             Some(message) => Ok(message.item),
             None => Err(Code::NO_MESSAGE),
         }

@@ -5,9 +5,9 @@ use Rattle.std.proofs.lemmas.Bool.Decides.{nat_tests}
 use Rattle.iop_base.specs.declared.limits.TheConstants.{LAST_ID}
 use Rattle.iop_objects.specs.Objects.{Object, Objects, AreObjects, no_objects, object_of, has_room, with_waiters, takes}
 use Rattle.iop_objects.specs.Laws.{IsChange, GivesNoId, KeepsState, IsMade, IsSet, ChangeOne, ObjectsKeepApart}
-use Rattle.iop_objects.specs.Queue.{Choice}
+use Rattle.iop_queues.specs.Queue.{Choice}
 use Rattle.iop_objects.specs.declared.objects.TheConstants.{MOST_OBJECTS}
-use Rattle.iop_objects.specs.declared.queued.Queued.{Queued}
+use Rattle.iop_queues.specs.declared.queued.Queued.{Queued}
 use Rattle.iop_objects.specs.declared.waiter.Waiter.{Waiter}
 use Rattle.iop_objects.proofs.Apart.{changes_one, deletes_one, none_stays, makes_one, made_found}
 use Rattle.iop_objects.proofs.Changes.{object_of-changed, waiters_of-with_state}

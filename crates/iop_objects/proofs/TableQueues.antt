@@ -1,134 +1,201 @@
 -- The queue of one object of a table changes.
-use Rattle.std.proofs.Common.{◌≡◌, ◌≢◌, ℕ, Bool, true, false, if◌then◌else◌, is_some, Option, Some, None, option_map, List, [], ◌∷◌, map, find, refl, ap, sym, ◌∙◌, subst, arith}
-use Rattle.std.specs.Prelude.{◌==◌}
-use Rattle.std.proofs.lemmas.Bool.Decides.{nat_tests}
-use Rattle.iop_objects.specs.Objects.{Object, Objects, object_of, waiters_in, waiters_of, with_waiters, takes}
-use Rattle.iop_objects.specs.Owners.{queue_of, Replaces}
-use Rattle.iop_objects.specs.Queue.{Choice, chooses, left_by}
+use Rattle.std.proofs.Common.{◌≡◌, ◌≢◌, ℕ, ◌<◌, Bool, true, false, is_some, Option, Some, None, option_map, List, [], length, map, find, All, refl, ap, sym, ◌∙◌, subst, arith, get_or, set}
+use Rattle.std.proofs.lemmas.List.{length-map, length-set, get_or-map, get_or-set_same, get_or-set_other, set-get_or}
+use Rattle.std.proofs.lemmas.List.Sums.{sum_by-set}
+use Rattle.iop_queues.specs.Queue.{Choice, chooses, left_by}
+use Rattle.iop_queues.specs.Queues.{queue_at, with_queue}
+use Rattle.iop_queues.specs.declared.queued.Queued.{Queued}
+use Rattle.iop_queues.proofs.Numbers.{free_apart, used_apart}
+use Rattle.iop_objects.specs.Objects.{Object, Objects, object_of, waiters_of, with_waiters, takes}
 use Rattle.iop_objects.specs.Standing.{object_in, objects_in, IsTable}
-use Rattle.iop_objects.specs.WaiterQueues.{requeued}
 use Rattle.iop_objects.specs.declared.objects.Live.{Live}
-use Rattle.iop_objects.specs.declared.queued.Queued.{Queued}
-use Rattle.iop_objects.specs.declared.queues.Owned.{Owned}
 use Rattle.iop_objects.specs.declared.waiter.Waiter.{Waiter}
-use Rattle.iop_objects.proofs.MappedLists.{find-map}
-use Rattle.iop_objects.proofs.Tables.{table_of, waiting-total, all_counted, waiters_of-queue}
-use Rattle.iop_objects.proofs.Totals.{total_as_live}
+use Rattle.iop_objects.proofs.MappedLists.{map-at_one}
+use Rattle.iop_objects.proofs.Places.{has_id, IsObject, found_object}
+use Rattle.iop_objects.proofs.TableChanges.{object_here, place_inside, changes-at_place}
+use Rattle.iop_objects.proofs.Tables.{table_of, object_of-live, waiters_of-queue, changes-none}
+use Rattle.iop_objects.proofs.Totals.{all_held, all_held-set}
 
-module _ {A W : Type 0} where
-  -- the queue of an object is another, all other queues are as they were
-  module _ (live : List (Live A)) (old new : List (Owned (Waiter W))) (next id : ℕ)
-      (queue : List (Queued (Waiter W))) (changed : Replaces id queue old new) where
-    abbrev with_queue : Object A W → Object A W
-    with_queue o = if o.id == id then record o { waiters = queue } else o
+module _ {A W : Type 0} (live : List (Live A)) (free : List ℕ)
+    (waiters : List (List (Queued (Waiter W)))) (next : ℕ)
+    (table : IsTable live free waiters next) where
+  abbrev own : Objects A W
+  own = objects_in live waiters next
 
-    object_by : (b : Bool) (o : Live A) → (o.id == id) ≡ b
-        → object_in new o ≡ (if b then record (object_in old o) { waiters = queue } else object_in old o)
-    object_by true o is =
-        let same : o.id ≡ id = grind (arith, nat_tests, is) in
-        let own : queue_of o.id new ≡ queue = ap (λ n. queue_of n new) same ∙ changed.own in
-        ap (λ q. let p : Object A W = record { id = o.id; state = o.state; waiters = q } in p) own
-    object_by false o is =
-        let apart : o.id ≢ id = grind (arith, nat_tests, is) in
-        ap (λ q. let p : Object A W = record { id = o.id; state = o.state; waiters = q } in p)
-        (changed.others o.id apart)
+  -- the queue of an object
+  module _ (id place : ℕ) (o : Live A) (h : IsObject live id place o) where
+    queues : (i : ℕ) → i < length live
+        → get_or (map (λ x. x.queue) live) i o.queue ≡ (get_or live i o).queue
+    queues i inside = get_or-map (λ x. x.queue) live i o o.queue inside
 
-    objects_by : (xs : List (Live A))
-        → map (object_in new) xs ≡ map with_queue (map (object_in old) xs)
-    objects_by [] = refl
-    objects_by (x ∷ xs) =
-        ap (λ y. y ∷ map (object_in new) xs) (object_by (x.id == id) x refl)
-        ∙ ap (λ l. with_queue (object_in old x) ∷ l) (objects_by xs)
+    own_queue : get_or (map (λ x. x.queue) live) place o.queue ≡ o.queue
+    own_queue = queues place h.inside ∙ ap (λ x. x.queue) h.object
 
-    pub objects_in-with : objects_in live new next ≡ with_waiters (objects_in live old next) id queue
-    objects_in-with = ap (λ l. table_of l next) (objects_by live)
+    inside_used : (i : ℕ) → i < length live → i < length (map (λ x. x.queue) live)
+    inside_used i inside = omega (arith, length-map live (λ x. x.queue), inside)
 
-    -- what holds of the table holds again, where the queue of an id that is not live stays empty
-    pub IsTable-changed : IsTable live old next
-        → (is_some (object_of (objects_in live old next).live id) ≡ false → queue ≡ [])
-        → IsTable live new next
-    IsTable-changed table empty = record {
-      ids = table.ids;
-      given = table.given;
-      few = table.few;
-      next_first = table.next_first;
-      next_last = table.next_last;
-      count =
-          total_as_live changed (is_some (find (λ o. o.id == id) live)) live table.ids
-          (all_counted live old next table) refl
-          (λ none. empty (ap is_some (find-map (λ (o : Object A W). o.id == id) (object_in old) live)
-          ∙ is_some-option_map (object_in old) (find (λ o. o.id == id) live) ∙ none))
-          ∙ sym (waiting-total live new next);
-    }
+    -- it is one of the queues
+    queue_inside : o.queue < length waiters
+    queue_inside =
+        let below = table.numbers.used_below place o.queue (inside_used place h.inside) in
+        omega (arith, table.queues, own_queue, below)
+
+    -- it is not that of another object, and not free
+    other_queues : (i : ℕ) → i < length live → i ≢ place → (get_or live i o).queue ≢ o.queue
+    other_queues i inside apart e =
+        used_apart table.numbers place i o.queue (inside_used place h.inside)
+        (inside_used i inside) apart (queues i inside ∙ e ∙ sym own_queue)
+
+    free_queues : All (λ n. n ≢ o.queue) free
+    free_queues =
+        subst (λ queue. All (λ n. n ≢ queue) free) own_queue
+        (free_apart table.numbers place o.queue (inside_used place h.inside))
+
+    module _ (queue : List (Queued (Waiter W))) where
+      abbrev left : List (List (Queued (Waiter W)))
+      left = with_queue o.queue queue waiters
+
+      abbrev changed : List (Queued (Waiter W)) → Object A W
+      changed others = record { id = o.id; state = o.state; waiters = others }
+
+      objects_left : map (object_in left) live ≡ set own.live place (changed queue)
+      objects_left =
+          map-at_one (object_in left) (object_in waiters) live place o h.inside h.object
+          (λ i inside apart. ap (λ q. let x = get_or live i o in
+          let p : Object A W = record { id = x.id; state = x.state; waiters = q } in p)
+          (get_or-set_other waiters o.queue (get_or live i o).queue queue []
+          (other_queues i inside apart)))
+          ∙ ap (λ q. set own.live place (changed q))
+          (get_or-set_same waiters o.queue queue [] queue_inside)
+
+      objects_in-at_place : objects_in live left next ≡ with_waiters own id queue
+      objects_in-at_place =
+          ap (λ l. table_of l next)
+          (objects_left
+          ∙ sym (changes-at_place live free waiters next table id place o h
+          (λ p. record p { waiters = queue })))
+
+      IsTable-at_place : IsTable live free left next
+      IsTable-at_place = record {
+        ids = table.ids;
+        given = table.given;
+        next_first = table.next_first;
+        next_last = table.next_last;
+        numbers = table.numbers;
+        queues = length-set waiters o.queue queue ∙ table.queues;
+        empty = λ k d below.
+            get_or-set_other waiters o.queue (get_or free k d) queue [] (free_queues k d below)
+            ∙ table.empty k d below;
+        count =
+            omega (
+              arith,
+              table.count,
+              sum_by-set length waiters o.queue queue [] queue_inside,
+              ap all_held objects_left,
+              all_held-set own.live place (changed queue) (object_in waiters o)
+                  (place_inside live free waiters next table id place o h),
+              ap (λ p. length p.waiters) (object_here live free waiters next table id place o h),
+            );
+      }
+
+  -- the object of an id has a queue
+  module _ (id queue : ℕ)
+      (found : Some queue ≡ option_map (λ o. o.queue) (find (has_id id) live)) where
+    -- what holds of its queue by the place of the object
+    by_place : (P : ℕ → Type 0) → ((place : ℕ) (o : Live A) → IsObject live id place o → P o.queue)
+        → P queue
+    by_place P each = by (find (has_id id) live) refl found
       where
-        is_some-option_map : {X Y : Type 0} (f : X → Y) (o : Option X)
-            → is_some (option_map f o) ≡ is_some o
-        is_some-option_map f None = refl
-        is_some-option_map f (Some x) = refl
+        by : (r : Option (Live A)) → find (has_id id) live ≡ r
+            → Some queue ≡ option_map (λ o. o.queue) r → P queue
+        by None is e = cc
+        by (Some o) is e =
+            let at = found_object live id o is in
+            let same : o.queue ≡ queue = cc in
+            subst P same (each at.0 o at.1)
 
-  module _ (live : List (Live A)) (old new : List (Owned (Waiter W))) (next id : ℕ)
-      (table : IsTable live old next) where
-    abbrev was : Objects A W
-    was = objects_in live old next
+    pub queue_below : queue < length waiters
+    queue_below = by_place (λ n. n < length waiters) (queue_inside id)
 
-    -- the queue is what a function gives of the one that it was
+    -- others wait for it then
     pub objects_in-changed : (f : List (Queued (Waiter W)) → List (Queued (Waiter W)))
-        → Replaces id (f (queue_of id old)) old new
-        → objects_in live new next ≡ with_waiters was id (f (waiters_of was id))
-    objects_in-changed f changed =
-        objects_in-with live old new next id (f (queue_of id old)) changed
-        ∙ ap (λ q. with_waiters was id (f q)) (sym (waiters_of-queue live old next table id))
+        → objects_in live (with_queue queue (f (queue_at queue waiters)) waiters) next
+        ≡ with_waiters own id (f (waiters_of own id))
+    objects_in-changed f =
+        by_place (λ n. objects_in live (with_queue n (f (queue_at queue waiters)) waiters) next
+        ≡ with_waiters own id (f (queue_at queue waiters)))
+        (λ place o h. objects_in-at_place id place o h (f (queue_at queue waiters)))
+        ∙ ap (λ q. with_waiters own id (f q))
+        (sym (waiters_of-queue live free waiters next table id (Some queue) found))
 
-    -- the function leaves an empty queue empty
-    pub IsTable-left : (f : List (Queued (Waiter W)) → List (Queued (Waiter W))) → f [] ≡ []
-        → Replaces id (f (queue_of id old)) old new → IsTable live new next
-    IsTable-left f empty changed =
-        IsTable-changed live old new next id (f (queue_of id old)) changed table
-        (λ none. ap f (sym (waiters_of-queue live old next table id)
-        ∙ none_found (object_of was.live id) none) ∙ empty)
+    pub IsTable-changed : (others : List (Queued (Waiter W)))
+        → IsTable live free (with_queue queue others waiters) next
+    IsTable-changed others =
+        by_place (λ n. IsTable live free (with_queue n others waiters) next)
+        (λ place o h. IsTable-at_place id place o h others)
+
+    taken_by : (c : Option (Choice (Waiter W)))
+        → objects_in live (with_queue queue (left_by (queue_at queue waiters) c) waiters) next
+        ≡ (takes own id c).1
+    taken_by None = ap (λ w. objects_in live w next) (set-get_or waiters queue [])
+    taken_by (Some c) =
+        by_place (λ n. objects_in live (with_queue n c.others waiters) next
+        ≡ with_waiters own id c.others)
+        (λ place o h. objects_in-at_place id place o h c.others)
+
+    answer_by : (c : Option (Choice (Waiter W)))
+        → option_map (λ x. x.item) (option_map (λ d. d.one) c) ≡ (takes own id c).0
+    answer_by None = refl
+    answer_by (Some c) = refl
+
+    module _ (choose : List (Queued (Waiter W)) → Option (Choice (Waiter W))) where
+      same_choice : choose (queue_at queue waiters) ≡ choose (waiters_of own id)
+      same_choice =
+          ap choose (sym (waiters_of-queue live free waiters next table id (Some queue) found))
+
+      -- one is chosen, and waits no more
+      pub objects_in-taken : objects_in live (with_queue queue
+          (left_by (queue_at queue waiters) (choose (queue_at queue waiters))) waiters) next
+          ≡ (takes own id (choose (waiters_of own id))).1
+      objects_in-taken =
+          taken_by (choose (queue_at queue waiters)) ∙ ap (λ c. (takes own id c).1) same_choice
+
+      -- the answer is the one that is chosen
+      pub taken_is : option_map (λ x. x.item)
+          (option_map (λ c. c.one) (choose (queue_at queue waiters)))
+          ≡ (takes own id (choose (waiters_of own id))).0
+      taken_is =
+          answer_by (choose (queue_at queue waiters)) ∙ ap (λ c. (takes own id c).0) same_choice
+
+  -- no object of an id is live
+  module _ (id : ℕ) (none : None ≡ option_map (λ o. o.queue) (find (has_id id) live)) where
+    not_found : find (has_id id) live ≡ None
+    not_found = by (find (has_id id) live) refl none
       where
-        none_found : (o : Option (Object A W)) → is_some o ≡ false → waiters_in o ≡ []
-        none_found None none = refl
-        none_found (Some o) none = cc
+        by : (r : Option (Live A)) → find (has_id id) live ≡ r
+            → None ≡ option_map (λ o. o.queue) r → find (has_id id) live ≡ None
+        by None is e = is
+        by (Some o) is e = cc
 
-    unchanged : Replaces id (queue_of id old) old new → objects_in live new next ≡ was
-    unchanged changed = ap (λ l. table_of l next) (each live)
-      where
-        queue_by : (n : ℕ) (b : Bool) → (n == id) ≡ b → queue_of n new ≡ queue_of n old
-        queue_by n true is =
-            let same : n ≡ id = grind (arith, nat_tests, is) in
-            subst (λ m. queue_of m new ≡ queue_of m old) (sym same) changed.own
-        queue_by n false is =
-            let apart : n ≢ id = grind (arith, nat_tests, is) in
-            changed.others n apart
+    pub waiters_of-none : waiters_of own id ≡ []
+    waiters_of-none = waiters_of-queue live free waiters next table id None none
 
-        each : (xs : List (Live A)) → map (object_in new) xs ≡ map (object_in old) xs
-        each [] = refl
-        each (x ∷ xs) =
-            ap (λ q. let p : Object A W = record { id = x.id; state = x.state; waiters = q } in
-            p ∷ map (object_in new) xs) (queue_by x.id (x.id == id) refl)
-            ∙ ap (λ l. object_in old x ∷ l) (each xs)
+    pub objects_in-unchanged : (queue : List (Queued (Waiter W))) → own ≡ with_waiters own id queue
+    objects_in-unchanged queue =
+        sym (changes-none live free waiters next table id not_found
+        (λ o. record o { waiters = queue }))
 
-    taken_by : (o : Option (Choice (Waiter W))) → Replaces id (left_by (queue_of id old) o) old new
-        → objects_in live new next ≡ (takes was id o).1
-    taken_by None changed = unchanged changed
-    taken_by (Some c) changed = objects_in-with live old new next id c.others changed
+    pub not_live : is_some (object_of own.live id) ≡ false
+    not_live =
+        ap is_some (object_of-live live free waiters next table id
+        ∙ ap (option_map (object_in waiters)) not_found)
 
-    -- one is chosen, and waits no more
-    pub objects_in-taken : (choose : List (Queued (Waiter W)) → Option (Choice (Waiter W)))
-        → Replaces id (left_by (queue_of id old) (choose (queue_of id old))) old new
-        → objects_in live new next ≡ (takes was id (choose (waiters_of was id))).1
-    objects_in-taken choose changed =
-        taken_by (choose (queue_of id old)) changed
-        ∙ ap (λ q. (takes was id (choose q)).1) (sym (waiters_of-queue live old next table id))
+    -- nothing is chosen
+    pub takes-none : (choose : List (Queued (Waiter W)) → Option (Choice (Waiter W)))
+        → choose [] ≡ None → (None, own) ≡ takes own id (choose (waiters_of own id))
+    takes-none choose empty =
+        sym (ap (λ q. takes own id (choose q)) waiters_of-none ∙ ap (takes own id) empty)
 
-module _ {W : Type 0} where
-  pub left_by-nil : (by_priority : Bool)
-      → left_by [] (chooses {T = Waiter W} by_priority []) ≡ []
-  left_by-nil true = refl
-  left_by-nil false = refl
-
-  pub requeued-nil : (by_priority : Bool) (thread priority : ℕ)
-      → requeued {W = W} by_priority thread priority [] ≡ []
-  requeued-nil true thread priority = refl
-  requeued-nil false thread priority = refl
+pub chooses-nil : {T : Type 0} (by_priority : Bool) → chooses {T = T} by_priority [] ≡ None
+chooses-nil true = refl
+chooses-nil false = refl

@@ -1,213 +1,135 @@
--- What a table stands for, and what its changes leave of it: an object more or less, or one of which
--- something else is known.
-use Rattle.std.proofs.Common.{◌≡◌, ◌≢◌, ℕ, ◌+◌, ◌<◌, ◌≤◌, Bool, true, false, if◌then◌else◌, not, is_some, Option, Some, None, Result, Ok, Err, option_map, List, [], ◌∷◌, ◌++◌, length, map, filter, find, All, AllPairs, refl, ap, sym, ◌∙◌, arith, get_or}
+-- What a table stands for.
+use Rattle.std.proofs.Common.{◌≡◌, ◌≢◌, ℕ, ◌+◌, ◌<◌, false, if◌then◌else◌, not, Option, Some, None, option_map, List, [], length, map, find, replicate, All, AllPairs, refl, ap, sym, ◌∙◌, arith, get_or}
 use Rattle.std.specs.Prelude.{◌==◌}
-use Rattle.std.proofs.lemmas.Bool.Decides.{nat_tests}
-use Rattle.std.proofs.lemmas.List.{length-map, get_or-map, map_push, length-append}
-use Rattle.std.proofs.lemmas.List.Elements.{All-push, All-weaker, All-filter, All-map}
-use Rattle.std.proofs.lemmas.List.Kept.{AllPairs-filter}
-use Rattle.std.proofs.lemmas.List.Quantifiers.{all_pairs_push}
-use Rattle.std.proofs.lemmas.List.Sums.{sum_by-cons, length-filter, count_by-le-length}
-use Rattle.iop_base.specs.declared.code.Code.{Code}
-use Rattle.iop_base.specs.declared.code.TheConstants.Code.{NO_MEMORY}
-use Rattle.iop_base.specs.declared.limits.TheConstants.{LAST_ID}
-use Rattle.iop_objects.specs.Objects.{Object, Objects, AreObjects, state_of, waiters_in, waiters_of, waiting, has_room, creates, deletes, takes}
-use Rattle.iop_objects.specs.Owners.{queue_of}
-use Rattle.iop_objects.specs.Queue.{Choice}
+use Rattle.std.specs.List.{range_with_len}
+use Rattle.std.proofs.lemmas.List.{length-map, get_or-map, length-replicate, get_or-replicate}
+use Rattle.std.proofs.lemmas.List.Elements.{All-map}
+use Rattle.std.proofs.lemmas.List.Folds.{map_fixed, list_any_none, sum_by-replicate}
+use Rattle.iop_base.proofs.Lists.{filter-none_fails}
+use Rattle.iop_queues.specs.Queues.{queue_at, total}
+use Rattle.iop_queues.specs.declared.queued.Queued.{Queued}
+use Rattle.iop_queues.proofs.Numbers.{AreNumbers-first}
+use Rattle.iop_objects.specs.Objects.{Object, Objects, AreObjects, object_of, state_of, waiters_in, waiters_of, deletes, changes}
 use Rattle.iop_objects.specs.Standing.{object_in, objects_in, IsTable}
 use Rattle.iop_objects.specs.declared.objects.Live.{Live}
-use Rattle.iop_objects.specs.declared.objects.TheConstants.{MOST_OBJECTS}
-use Rattle.iop_objects.specs.declared.queued.Queued.{Queued}
-use Rattle.iop_objects.specs.declared.queues.Owned.{Owned}
+use Rattle.iop_objects.specs.declared.objects.TheConstants.{FIRST_ID, MOST_OBJECTS}
 use Rattle.iop_objects.specs.declared.waiter.Waiter.{Waiter}
 use Rattle.iop_objects.proofs.MappedLists.{find-map, filter-map}
-use Rattle.iop_objects.proofs.Totals.{IsOther, HaveTwoIds, AreDistinct, total, total-push, total-deleted, total-map, others_from_none, queue_of-other}
+use Rattle.iop_objects.proofs.Places.{none_found, has_id}
+
+-- the first queues
+empty-first : {T : Type 0} (bound : ℕ)
+    → All (λ n. queue_at {T = T} n (replicate bound []) ≡ []) (range_with_len 0 bound)
+empty-first bound = λ k d below.
+    get_or-replicate bound (get_or (range_with_len 0 bound) k d) [] []
+    ((AreNumbers-first bound).free_below k d below)
+
+total-first : (T : Type 0) (bound : ℕ) → total {T = T} (replicate bound []) ≡ 0
+total-first T bound =
+    let none : List (Queued T) = [] in omega (arith, sum_by-replicate length bound none)
+
+-- the queue of a number, if there is one
+abbrev pub queue_in : {T : Type 0} → List (List (Queued T)) → Option ℕ → List (Queued T)
+queue_in queues None = []
+queue_in queues (Some queue) = queue_at queue queues
 
 module _ {A W : Type 0} where
   abbrev pub table_of : List (Object A W) → ℕ → Objects A W
   table_of live next = record { live = live; next = next }
 
-  pub waiting-total : (live : List (Live A)) (waiters : List (Owned (Waiter W))) (next : ℕ)
-      → waiting (objects_in live waiters next) ≡ total live waiters
-  waiting-total [] waiters next = refl
-  waiting-total (o ∷ live) waiters next =
-      let own = length (queue_of o.id waiters) in
-      sum_by-cons (λ n. n) own (map (λ p. length p.waiters) (map (object_in waiters) live))
-      ∙ ap (λ n. own + n) (waiting-total live waiters next)
+  -- the object of an id changes
+  abbrev pub changed : ℕ → (Object A W → Object A W) → Object A W → Object A W
+  changed id f o = if o.id == id then f o else o
 
-  module _ (live : List (Live A)) (waiters : List (Owned (Waiter W))) (next : ℕ)
-      (table : IsTable live waiters next) where
-    abbrev own : Objects A W
-    own = objects_in live waiters next
+  -- the table of no object
+  pub IsTable-first : IsTable {A = A} {W = W} [] (range_with_len 0 MOST_OBJECTS)
+      (replicate MOST_OBJECTS []) FIRST_ID
+  IsTable-first = record {
+    ids = λ i j d less below. absurd (omega (arith, below));
+    given = λ k d below. absurd (omega (arith, below));
+    next_first = omega arith;
+    next_last = omega arith;
+    numbers = AreNumbers-first MOST_OBJECTS;
+    queues = length-replicate {A = List (Queued (Waiter W))} MOST_OBJECTS [];
+    empty = empty-first MOST_OBJECTS;
+    count = total-first (Waiter W) MOST_OBJECTS;
+  }
 
-    pub all_counted : length waiters ≡ total live waiters
-    all_counted = table.count ∙ waiting-total live waiters next
+module _ {A W : Type 0} (live : List (Live A)) (free : List ℕ)
+    (waiters : List (List (Queued (Waiter W)))) (next : ℕ)
+    (table : IsTable live free waiters next) where
+  abbrev own : Objects A W
+  own = objects_in live waiters next
 
-    none_waits : (id : ℕ) → All (IsOther id) live → queue_of id waiters ≡ []
-    none_waits id away = queue_of-other id live waiters table.ids all_counted away
+  -- each queue is that of an object, or free
+  pub all_queues : length live + length free ≡ MOST_OBJECTS
+  all_queues = omega (arith, length-map live (λ o. o.queue), table.numbers.all)
 
-    next_is_other : All (IsOther next) live
-    next_is_other = λ k d below e. let less = table.given k d below in omega (arith, less, e)
+  two_ids_in : AllPairs (λ a b. a.id ≢ b.id) own.live
+  two_ids_in i j d less below e =
+      let inside : j < length live = omega (arith, length-map live (object_in waiters), below) in
+      let before : i < length live = omega (arith, less, inside) in
+      let none : Live A = record { id = d.id; state = d.state; queue = 0 } in
+      let first = ap (λ o. o.id) (get_or-map (object_in waiters) live i none d before) in
+      let second = ap (λ o. o.id) (get_or-map (object_in waiters) live j none d inside) in
+      omega (arith, table.ids i j none less inside, first, second, e)
 
-    waiters_by : (id : ℕ) (o : Option (Live A)) → find (λ p. p.id == id) live ≡ o
-        → (is_some o ≡ true → option_map (λ p. p.id) o ≡ Some id)
-        → waiters_in (option_map (object_in waiters) o) ≡ queue_of id waiters
-    waiters_by id None e passes =
-        sym (none_waits id (others_from_none id live (ap is_some e)))
-    waiters_by id (Some o) e passes =
-        let same : o.id ≡ id = let so = passes refl in cc in
-        ap (λ n. queue_of n waiters) same
+  -- what holds of the table holds of the objects that it stands for
+  pub AreObjects-in : AreObjects own
+  AreObjects-in = record {
+    ids = two_ids_in;
+    given = All-map (λ (o : Object A W). o.id < next) (object_in waiters) live table.given;
+    few = omega (arith, length-map live (object_in waiters), all_queues);
+    next_first = table.next_first;
+    next_last = table.next_last;
+  }
 
-    -- those that wait for an object are its queue
-    pub waiters_of-queue : (id : ℕ) → waiters_of own id ≡ queue_of id waiters
-    waiters_of-queue id =
-        ap waiters_in (find-map (λ (o : Object A W). o.id == id) (object_in waiters) live)
-        ∙ waiters_by id (find (λ p. p.id == id) live) refl (found_id id live)
-      where
-        found_id : (id : ℕ) (xs : List (Live A)) → is_some (find (λ p. p.id == id) xs) ≡ true
-            → option_map (λ p. p.id) (find (λ p. p.id == id) xs) ≡ Some id
-        found_id id [] found = cc
-        found_id id (x ∷ xs) found = grind (arith, nat_tests, found, found_id id xs)
+  pub object_of-live : (id : ℕ)
+      → object_of own.live id ≡ option_map (object_in waiters) (find (has_id id) live)
+  object_of-live id = find-map (λ (o : Object A W). o.id == id) (object_in waiters) live
 
-    two_ids_in : AllPairs (λ a b. a.id ≢ b.id) own.live
-    two_ids_in i j d less below e =
-        let inside : j < length live = omega (arith, length-map live (object_in waiters), below) in
-        let before : i < length live = omega (arith, less, inside) in
-        let none : Live A = record { id = d.id; state = d.state } in
-        let first = ap (λ o. o.id) (get_or-map (object_in waiters) live i none d before) in
-        let second = ap (λ o. o.id) (get_or-map (object_in waiters) live j none d inside) in
-        table.ids i j none less inside (sym first ∙ e ∙ second)
+  -- those that wait for an object are its queue
+  pub waiters_of-queue : (id : ℕ) (r : Option ℕ)
+      → r ≡ option_map (λ o. o.queue) (find (has_id id) live)
+      → waiters_of own id ≡ queue_in waiters r
+  waiters_of-queue id r is =
+      ap waiters_in (object_of-live id) ∙ either (find (has_id id) live)
+      ∙ ap (queue_in waiters) (sym is)
+    where
+      either : (o : Option (Live A)) → waiters_in (option_map (object_in waiters) o)
+          ≡ queue_in waiters (option_map (λ p. p.queue) o)
+      either None = refl
+      either (Some o) = refl
 
-    -- what holds of the table holds of the objects that it stands for
-    pub AreObjects-in : AreObjects own
-    AreObjects-in = record {
-      ids = two_ids_in;
-      given = All-map (λ (o : Object A W). o.id < next) (object_in waiters) live table.given;
-      few = omega (arith, length-map live (object_in waiters), table.few);
-      next_first = table.next_first;
-      next_last = table.next_last;
-    }
+  -- what is known of an object
+  pub state_of-live : (id : ℕ)
+      → state_of own id ≡ option_map (λ o. o.state) (find (has_id id) live)
+  state_of-live id =
+      ap (option_map (λ (o : Object A W). o.state)) (object_of-live id)
+      ∙ either (find (has_id id) live)
+    where
+      either : (o : Option (Live A))
+          → option_map (λ (p : Object A W). p.state) (option_map (object_in waiters) o)
+          ≡ option_map (λ p. p.state) o
+      either None = refl
+      either (Some o) = refl
 
-    answer_by : (id : ℕ) (o : Option (Choice (Waiter W)))
-        → option_map (λ x. x.item) (option_map (λ c. c.one) o) ≡ (takes own id o).0
-    answer_by id None = refl
-    answer_by id (Some c) = refl
+  -- where no object has an id, none changes
+  module _ (id : ℕ) (none : find (has_id id) live ≡ None) where
+    none_has : All (λ o. has_id id o ≡ false) live
+    none_has = none_found (has_id id) live none
 
-    -- the answer is the one that is chosen
-    pub taken_is : (id : ℕ) (choose : List (Queued (Waiter W)) → Option (Choice (Waiter W)))
-        → option_map (λ x. x.item) (option_map (λ c. c.one) (choose (queue_of id waiters)))
-        ≡ (takes own id (choose (waiters_of own id))).0
-    taken_is id choose =
-        answer_by id (choose (queue_of id waiters))
-        ∙ ap (λ q. (takes own id (choose q)).0) (sym (waiters_of-queue id))
+    pub changes-none : (f : Object A W → Object A W) → changes own id f ≡ own
+    changes-none f =
+        ap (λ l. table_of l next)
+        (map_fixed (changed id f) own.live
+        (All-map (λ o. changed id f o ≡ o) (object_in waiters) live
+        (λ k d below. ap (λ b. let o = object_in waiters (get_or live k d) in
+        if b then f o else o) (none_has k d below))))
 
-    -- what is known of an object
-    pub state_of-live : (id : ℕ)
-        → state_of own id ≡ option_map (λ o. o.state) (find (λ o. o.id == id) live)
-    state_of-live id =
-        ap (option_map (λ (o : Object A W). o.state))
-        (find-map (λ (o : Object A W). o.id == id) (object_in waiters) live)
-        ∙ state_by (find (λ o. o.id == id) live)
-      where
-        state_by : (o : Option (Live A))
-            → option_map (λ (p : Object A W). p.state) (option_map (object_in waiters) o)
-            ≡ option_map (λ p. p.state) o
-        state_by None = refl
-        state_by (Some o) = refl
-
-    -- a new object, where there is room
-    module _ (state : A) (room : length live < MOST_OBJECTS) (left : next ≤ LAST_ID) where
-      abbrev made : Live A
-      made = record { id = next; state = state }
-
-      has_room-live : has_room own ≡ true
-      has_room-live = grind (arith, nat_tests, length-map live (object_in waiters), room, left)
-
-      abbrev with_made : List (Queued (Waiter W)) → Objects A W
-      with_made queue =
-          let new : Object A W = record { id = next; state = state; waiters = queue } in
-          table_of (map (object_in waiters) live ++ new ∷ []) (next + 1)
-
-      made_by : (b : Bool) → b ≡ true → with_made []
-          ≡ (let both : Result ℕ Code × Objects A W =
-          if b then (Ok next, with_made []) else (Err NO_MEMORY, own) in both.1)
-      made_by true e = refl
-      made_by false e = cc
-
-      pub objects_in-created : objects_in (live ++ made ∷ []) waiters (next + 1)
-          ≡ (creates own state).1
-      objects_in-created =
-          ap (λ l. table_of l (next + 1)) (map_push (object_in waiters) live made)
-          ∙ ap with_made (none_waits next next_is_other)
-          ∙ made_by (has_room own) has_room-live
-
-      pub IsTable-created : IsTable (live ++ made ∷ []) waiters (next + 1)
-      IsTable-created = record {
-        ids = all_pairs_push HaveTwoIds live made table.ids next_is_other;
-        given =
-            All-push (λ o. o.id < next + 1) live made
-            (All-weaker (λ o. o.id < next) (λ o. o.id < next + 1) (λ o less. omega (arith, less)) live
-            table.given)
-            (omega arith);
-        few = omega (arith, length-append live (made ∷ []), room);
-        next_first = omega (arith, table.next_first);
-        next_last = omega (arith, left);
-        count =
-            let none = ap length (none_waits next next_is_other) in
-            omega (
-              arith,
-              all_counted,
-              none,
-              total-push live made waiters,
-              waiting-total (live ++ made ∷ []) waiters (next + 1),
-            );
-      }
-
-    -- an object less, for which no thread waits
-    module _ (id : ℕ) (none : waiters_of own id ≡ []) where
-      abbrev stays : Live A → Bool
-      stays o = not (o.id == id)
-
-      pub objects_in-deleted : objects_in (filter stays live) waiters next ≡ deletes own id
-      objects_in-deleted =
-          ap (λ l. table_of l next)
-          (sym (filter-map (λ (o : Object A W). not (o.id == id)) (object_in waiters) live))
-
-      pub IsTable-deleted : IsTable (filter stays live) waiters next
-      IsTable-deleted = record {
-        ids = AllPairs-filter HaveTwoIds stays live table.ids;
-        given = All-filter stays (λ o. o.id < next) live table.given;
-        few = omega (arith, length-filter stays live, count_by-le-length stays live, table.few);
-        next_first = table.next_first;
-        next_last = table.next_last;
-        count =
-            all_counted
-            ∙ sym (total-deleted id live waiters (sym (waiters_of-queue id) ∙ none))
-            ∙ sym (waiting-total (filter stays live) waiters next);
-      }
-
-    -- objects of which more or less is known
-    module _ (change : Live A → Live A) (same : (o : Live A) → (change o).id ≡ o.id) where
-      distinct_changed : AreDistinct (map change live)
-      distinct_changed i j d less below e =
-          let inside : j < length live = omega (arith, length-map live change, below) in
-          let before : i < length live = omega (arith, less, inside) in
-          let first = ap (λ o. o.id) (get_or-map change live i d d before) in
-          let second = ap (λ o. o.id) (get_or-map change live j d d inside) in
-          table.ids i j d less inside
-          (sym (first ∙ same (get_or live i d)) ∙ e ∙ second ∙ same (get_or live j d))
-
-      pub IsTable-mapped : IsTable (map change live) waiters next
-      IsTable-mapped = record {
-        ids = distinct_changed;
-        given =
-            All-map (λ o. o.id < next) change live
-            (All-weaker (λ o. o.id < next) (λ o. (change o).id < next)
-            (λ o less. omega (arith, less, same o)) live table.given);
-        few = omega (arith, length-map live change, table.few);
-        next_first = table.next_first;
-        next_last = table.next_last;
-        count =
-            all_counted ∙ sym (total-map change same live waiters)
-            ∙ sym (waiting-total (map change live) waiters next);
-      }
+    pub deletes-none : deletes own id ≡ own
+    deletes-none =
+        ap (λ l. table_of l next)
+        (filter-map (λ (o : Object A W). not (o.id == id)) (object_in waiters) live
+        ∙ ap (map (object_in waiters))
+        (filter-none_fails (has_id id) live (list_any_none (has_id id) live none_has)))

@@ -1,57 +1,8 @@
--- What the laws of queues and of objects say.
-use Rattle.std.specs.Prelude.{◌≡◌, ◌≢◌, ℕ, ◌+◌, ◌<◌, ◌≤◌, ◌==◌, ◌⊎◌, Bool, true, None, Some, is_some, option_map, List, [], ◌∷◌, ◌++◌, length, filter, map, flat_map, All, AllPairs, Contains}
-use Rattle.iop_base.specs.Choosing.{best}
+-- What the laws of objects say.
+use Rattle.std.specs.Prelude.{◌≡◌, ◌≢◌, ℕ, ◌+◌, ◌<◌, ◌≤◌, ◌⊎◌, Bool, true, false, None, Some, is_some, option_map, List, [], ◌∷◌, ◌++◌, length, map, flat_map, All, AllPairs, Contains}
 use Rattle.iop_objects.specs.Objects.{Object, Objects, AreObjects, no_objects, object_of, state_of, waiters_of, waiting, has_room, creates, deletes, with_state, waits, takes_next, takes_where, drops, requeues}
-use Rattle.iop_objects.specs.Queue.{Choice, chooses, chooses_best, chooses_where, in_order, sorted}
-use Rattle.iop_objects.specs.declared.queued.Queued.{Queued}
+use Rattle.iop_queues.specs.declared.queued.Queued.{Queued}
 use Rattle.iop_objects.specs.declared.waiter.Waiter.{Waiter}
-
--- an item stands in a queue before others and behind others
-pub record IsTaken {T : Type 0} (queue : List (Queued T)) (c : Choice T) : Type 0 where
-  pub before : List (Queued T)
-  pub behind : List (Queued T)
-  pub queue_is : queue ≡ before ++ c.one ∷ behind
-  pub others_are : c.others ≡ before ++ behind
-
--- the choice by priority: those before it have a greater number, those behind it none that is smaller
-pub record IsBest {T : Type 0} (queue : List (Queued T)) (c : Choice T) : Type 0 where
-  pub taken : IsTaken queue c
-  pub first : All (λ x. c.one.priority < x.priority) taken.before
-  pub least : All (λ x. c.one.priority ≤ x.priority) taken.behind
-
--- the choice by a condition: it does not hold of those before it
-pub record IsFirstWhere {T : Type 0} (p : T → Bool) (queue : List (Queued T)) (c : Choice T)
-    : Type 0 where
-  pub taken : IsTaken queue c
-  pub holds : p c.one.item ≡ true
-  pub first : All (λ x. p x.item ≡ true → ⊥) taken.before
-
--- the items of a priority
-abbrev pub of_priority : {T : Type 0} → ℕ → List (Queued T) → List (Queued T)
-of_priority priority queue = filter (λ x. x.priority == priority) queue
-
-pub record QueuesAreChosen (T : Type 0) : Type 0 where
-  -- nothing is chosen from an empty queue alone
-  pub empty : (by_priority : Bool) (queue : List (Queued T))
-      → chooses by_priority queue ≡ None → queue ≡ []
-  pub by_priority : (queue : List (Queued T)) (c : Choice T)
-      → chooses_best queue ≡ Some c → IsBest queue c
-  -- it is the choice that the ready list makes
-  pub as_ready : (queue : List (Queued T))
-      → option_map (λ c. c.one) (chooses_best queue) ≡ best (λ x. x.priority) queue
-  pub first_where : (p : T → Bool) (queue : List (Queued T)) (c : Choice T)
-      → chooses_where p queue ≡ Some c → IsFirstWhere p queue c
-  pub none_where : (p : T → Bool) (queue : List (Queued T))
-      → chooses_where p queue ≡ None → All (λ x. p x.item ≡ true → ⊥) queue
-  -- the order is that of the choices, one after the other
-  pub order : (by_priority : Bool) (queue : List (Queued T)) (c : Choice T)
-      → chooses by_priority queue ≡ Some c
-      → in_order by_priority queue ≡ c.one ∷ in_order by_priority c.others
-  -- it has the items of each priority in order of their arrival
-  pub stable : (queue : List (Queued T)) (priority : ℕ)
-      → of_priority priority (sorted queue) ≡ of_priority priority queue
-  pub size : (by_priority : Bool) (queue : List (Queued T))
-      → length (in_order by_priority queue) ≡ length queue
 
 module _ {A W : Type 0} where
   -- an object of this id is live
@@ -133,3 +84,28 @@ WaitersLeaveRoom A W =
     → AllPairs (λ a b. a ≢ b) (threads_waiting s) → All (Contains threads) (threads_waiting s)
     → Contains threads thread → (Contains (threads_waiting s) thread → ⊥)
     → waiting s < length threads
+
+-- one of those that wait is this thread, and no other one is
+pub record IsAmong {W : Type 0} (thread : ℕ) (waiters : List (Queued (Waiter W))) : Type 0 where
+  pub before : List (Queued (Waiter W))
+  pub one : Queued (Waiter W)
+  pub behind : List (Queued (Waiter W))
+  pub waiters_are : waiters ≡ before ++ one ∷ behind
+  pub is_thread : one.item.thread ≡ thread
+  pub others_before : All (λ y. y.item.thread ≢ thread) before
+  pub others_behind : All (λ y. y.item.thread ≢ thread) behind
+
+-- where one waits no more the others keep their order. With another priority it stands behind all
+-- others where they are chosen by priority, and else where it stood
+pub record KeepsOrder {A W : Type 0} (s : Objects A W) (id thread priority : ℕ)
+    (h : IsAmong thread (waiters_of s id)) : Type 0 where
+  pub dropped : waiters_of (drops s id thread) id ≡ h.before ++ h.behind
+  pub last : waiters_of (requeues s id true thread priority) id
+      ≡ h.before ++ h.behind ++ record h.one { priority = priority } ∷ []
+  pub placed : waiters_of (requeues s id false thread priority) id
+      ≡ h.before ++ record h.one { priority = priority } ∷ h.behind
+
+abbrev pub WaitersKeepOrder : (A W : Type 0) → Type 0
+WaitersKeepOrder A W =
+    (s : Objects A W) (id thread priority : ℕ) (h : IsAmong thread (waiters_of s id))
+    → KeepsOrder s id thread priority h

@@ -1,5 +1,3 @@
-pub mod Queue
-pub mod Owners
 pub mod WaiterQueues
 pub mod Objects
 pub mod Standing

@@ -1,31 +1,41 @@
--- How the program's table stands for the objects: the threads that wait for all of them stand in one list.
-use Rattle.std.specs.Prelude.{◌≡◌, ◌≢◌, ℕ, ◌+◌, ◌<◌, ◌≤◌, List, length, map, All, AllPairs}
+-- How the program's table stands for the objects: each has a queue of its own, in which those stand
+-- that wait for it, and all other queues are free.
+use Rattle.std.specs.Prelude.{◌≡◌, ℕ, ◌+◌, ◌<◌, ◌≤◌, List, [], length, map, All, AllPairs}
 use Rattle.iop_base.specs.declared.limits.TheConstants.{LAST_ID}
+use Rattle.iop_queues.specs.Numbers.{AreNumbers}
+use Rattle.iop_queues.specs.Queues.{queue_at, total}
+use Rattle.iop_queues.specs.declared.queued.Queued.{Queued}
 use Rattle.iop_objects.specs.Objects.{Object, Objects, waiting}
-use Rattle.iop_objects.specs.Owners.{queue_of}
 use Rattle.iop_objects.specs.declared.objects.Live.{Live}
 use Rattle.iop_objects.specs.declared.objects.TheConstants.{FIRST_ID, MOST_OBJECTS}
-use Rattle.iop_objects.specs.declared.queues.Owned.{Owned}
 use Rattle.iop_objects.specs.declared.waiter.Waiter.{Waiter}
+
+-- their ids rise
+abbrev pub IsInOrder : {A : Type 0} → List (Live A) → Type 0
+IsInOrder live = AllPairs (λ a b. a.id < b.id) live
 
 module _ {A W : Type 0} where
   -- a live object, with those that wait for it
-  abbrev pub object_in : List (Owned (Waiter W)) → Live A → Object A W
+  abbrev pub object_in : List (List (Queued (Waiter W))) → Live A → Object A W
   object_in waiters o =
-      record { id = o.id; state = o.state; waiters = queue_of o.id waiters }
+      record { id = o.id; state = o.state; waiters = queue_at o.queue waiters }
 
-  abbrev pub objects_in : List (Live A) → List (Owned (Waiter W)) → (next : ℕ) → Objects A W
+  abbrev pub objects_in : List (Live A) → List (List (Queued (Waiter W))) → (next : ℕ)
+      → Objects A W
   objects_in live waiters next =
       record { live = map (object_in waiters) live; next = next }
 
   -- what holds of every table
-  pub record IsTable (live : List (Live A)) (waiters : List (Owned (Waiter W))) (next : ℕ)
-      : Type 0 where
+  pub record IsTable (live : List (Live A)) (free : List ℕ)
+      (waiters : List (List (Queued (Waiter W)))) (next : ℕ) : Type 0 where
     -- no two live objects have one id, and none has one that is still to be given
-    pub ids : AllPairs (λ a b. a.id ≢ b.id) live
+    pub ids : IsInOrder live
     pub given : All (λ o. o.id < next) live
-    pub few : length live ≤ MOST_OBJECTS
     pub next_first : FIRST_ID ≤ next
     pub next_last : next ≤ LAST_ID + 1
+    -- each queue is that of one live object, or free
+    pub numbers : AreNumbers MOST_OBJECTS (map (λ o. o.queue) live) free
+    pub queues : length waiters ≡ MOST_OBJECTS
     -- none waits for an object that is not live
-    pub count : length waiters ≡ waiting (objects_in live waiters next)
+    pub empty : All (λ n. queue_at n waiters ≡ []) free
+    pub count : total waiters ≡ waiting (objects_in live waiters next)

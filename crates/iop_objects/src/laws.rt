@@ -1,14 +1,7 @@
 //! Facts about the definitions that no call computes. Each is the contract of a function that does
 //! nothing.
 
-ghost use Rattle.iop_objects.specs.Laws.{QueuesAreChosen, ObjectsKeepApart, WaitersLeaveRoom};
-
-/// By priority the first item among those of the least number is chosen, as the ready list chooses.
-/// The order of a queue is that of the choices, one after the other: none is lost, and items of one
-/// priority come in order of their arrival.
-pub fn queues_are_chosen<T>()
-    ensures { QueuesAreChosen T }
-{}
+ghost use Rattle.iop_objects.specs.Laws.{ObjectsKeepApart, WaitersLeaveRoom, WaitersKeepOrder};
 
 /// Each call changes the object of one id alone; what a wait, a take, a drop or a requeue changes
 /// of it is its waiters. Ids rise, and that of an object that was deleted is never given again.
@@ -20,4 +13,10 @@ pub fn objects_keep_apart<A, W>()
 /// that does not wait.
 pub fn waiters_leave_room<A, W>()
     ensures { WaitersLeaveRoom A W }
+{}
+
+/// Where a thread waits no more the others keep their order. With another priority it waits behind
+/// all others where they are chosen by priority, and else where it waited.
+pub fn waiters_keep_order<A, W>()
+    ensures { WaitersKeepOrder A W }
 {}

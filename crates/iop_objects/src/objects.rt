@@ -1,12 +1,11 @@
-ghost use Rattle.std.specs.Prelude.{◌≡◌, ◌<◌, ◌≤◌, [], IfOk, is_some, length, true};
+ghost use Rattle.std.specs.Prelude.{◌≡◌, ◌==◌, ◌<◌, ◌≤◌, [], IfOk, IfSome, is_some, option_map, find, length, position, true};
 ghost use Rattle.iop_objects.specs.Objects.{AreObjects, no_objects, object_of, state_of, waiters_of, waiting, creates, deletes, with_state, waits, takes_next, takes_where, drops, requeues};
+ghost use Rattle.iop_objects.specs.Standing.{IsInOrder};
 ghost use Rattle.iop_objects.specs.declared.objects.TheConstants.{MOST_WAITERS};
 
-use crate::condition::Condition;
-use crate::queued::Queued;
-use crate::queues::Queues;
 use crate::waiter::Waiter;
 use iop_base::{Code, LAST_ID};
+use iop_queues::{Condition, Queued, Queues};
 use std::alloc::{AllocError, Global};
 use std::marker::Model;
 
@@ -17,7 +16,7 @@ pub const FIRST_ID: u32 = 1;
 pub const MOST_OBJECTS: usize = 255;
 
 /// The most threads that can wait for the objects of one kind.
-pub const MOST_WAITERS: usize = 255;
+pub const MOST_WAITERS: u32 = 255;
 
 /// A live object.
 #[derive(Clone, Copy, Drop)]
@@ -26,13 +25,18 @@ struct Live<A> {
     id: u32,
     /// What is known of it.
     state: A,
+    /// The queue of those that wait for it.
+    queue: u32,
 }
 
 /// The live objects of one kind, and the threads that wait for each. An object has an id, from
 /// `FIRST_ID` on, that is never used again, and a state.
 #[derive(Drop)]
 pub struct Objects<A, W> {
+    /// In the order of their ids.
     live: Vec<Live<A>>,
+    /// The queues of no live object.
+    free: Vec<u32>,
     waiters: Queues<Waiter<W>, MOST_WAITERS>,
     next: u32,
 }
@@ -48,8 +52,8 @@ impl<A, W> Model for Objects<A, W> {
 
     ghost view = { λ s. objects_in s.live.items s.waiters s.next };
 
-    ghost invariant = { λ s. IsTable s.live.items s.waiters s.next
-        × (MOST_OBJECTS ≤ vec_capacity s.live) };
+    ghost invariant = { λ s. IsTable s.live.items s.free.items s.waiters s.next
+        × (MOST_OBJECTS ≤ vec_capacity s.live) × (MOST_OBJECTS ≤ vec_capacity s.free) };
 }
 
 impl<A: Copy, W: Copy> Objects<A, W> {
@@ -58,10 +62,15 @@ impl<A: Copy, W: Copy> Objects<A, W> {
     pub fn new(alloc: Global) -> Result<Self, AllocError>
         ensures { IfOk result (λ objects. objects ≡ no_objects) }
     {
+        let live = Vec::with_capacity(alloc, MOST_OBJECTS)?;
+        let free = (0..MOST_OBJECTS as u32).collect(alloc)?;
+        let waiters = Queues::new(alloc, MOST_OBJECTS as u32)?;
+        let next = FIRST_ID;
         Ok(Objects {
-            live: Vec::with_capacity(alloc, MOST_OBJECTS)?,
-            waiters: Queues::new(alloc)?,
-            next: FIRST_ID,
+            live,
+            free,
+            waiters,
+            next,
         })
     }
 
@@ -71,11 +80,14 @@ impl<A: Copy, W: Copy> Objects<A, W> {
         ensures answer { result ≡ (creates self.old state).0 }
         ensures left { self.new ≡ (creates self.old state).1 }
     {
-        if self.live.len() >= MOST_OBJECTS || self.next > LAST_ID {
+        if self.next > LAST_ID {
             return Err(Code::NO_MEMORY);
         }
+        let Some(queue) = self.free.pop() else {
+            return Err(Code::NO_MEMORY);
+        };
         let id = self.next;
-        self.live.push_reserved(Live { id, state });
+        self.live.push_reserved(Live { id, state, queue });
         self.next += 1;
         Ok(id)
     }
@@ -85,7 +97,10 @@ impl<A: Copy, W: Copy> Objects<A, W> {
         requires none { waiters_of self.old id ≡ [] }
         ensures { self.new ≡ deletes self.old id }
     {
-        self.live.retain(|object| object.id != id);
+        if let Some(place) = position(&self.live, id) {
+            let object = self.live.remove(place);
+            self.free.push_reserved(object.queue);
+        }
     }
 
     /// Reads what is known of an object. None exactly where none of this id is live.
@@ -93,20 +108,16 @@ impl<A: Copy, W: Copy> Objects<A, W> {
         ensures known { result ≡ state_of self.now id }
         ensures sound { AreObjects self.now }
     {
-        self.live
-            .iter()
-            .find(|object| object.id == id)
-            .map(|object| object.state)
+        let place = position(&self.live, id)?;
+        Some(self.live[place].state)
     }
 
     /// Changes what is known of an object, if it is live.
     pub fn set_state(&mut self, id: u32, state: A)
         ensures { self.new ≡ with_state self.old id state }
     {
-        for object in self.live.iter_mut() {
-            if object.id == id {
-                object.state = state;
-            }
+        if let Some(place) = position(&self.live, id) {
+            self.live[place].state = state;
         }
     }
 
@@ -116,7 +127,10 @@ impl<A: Copy, W: Copy> Objects<A, W> {
         ensures few { result ≤ MOST_WAITERS }
         ensures sound { AreObjects self.now }
     {
-        self.waiters.count(id)
+        match queue_of(&self.live, id) {
+            Some(queue) => self.waiters.count(queue),
+            None => 0,
+        }
     }
 
     /// Lets a thread wait for a live object, behind all others.
@@ -125,13 +139,10 @@ impl<A: Copy, W: Copy> Objects<A, W> {
         requires room { waiting self.old < MOST_WAITERS }
         ensures { self.new ≡ waits self.old id (record { priority = priority; item = waiter }) }
     {
-        self.waiters.push(
-            id,
-            Queued {
-                priority,
-                item: waiter,
-            },
-        );
+        if let Some(queue) = queue_of(&self.live, id) {
+            let item = waiter;
+            self.waiters.push(queue, Queued { priority, item });
+        }
     }
 
     /// Takes the thread out that is next among those that wait for an object, by priority or by
@@ -140,7 +151,8 @@ impl<A: Copy, W: Copy> Objects<A, W> {
         ensures answer { result ≡ (takes_next self.old id by_priority).0 }
         ensures left { self.new ≡ (takes_next self.old id by_priority).1 }
     {
-        let taken = self.waiters.take(id, by_priority);
+        let queue = queue_of(&self.live, id)?;
+        let taken = self.waiters.take(queue, by_priority);
         taken.map(|queued| queued.item)
     }
 
@@ -154,7 +166,8 @@ impl<A: Copy, W: Copy> Objects<A, W> {
         ensures answer { result ≡ (takes_where self.old id (C.holds_for condition.now)).0 }
         ensures left { self.new ≡ (takes_where self.old id (C.holds_for condition.now)).1 }
     {
-        let taken = self.waiters.take_where(id, condition);
+        let queue = queue_of(&self.live, id)?;
+        let taken = self.waiters.take_where(queue, condition);
         taken.map(|queued| queued.item)
     }
 
@@ -162,7 +175,9 @@ impl<A: Copy, W: Copy> Objects<A, W> {
     pub fn drop_waiter(&mut self, id: u32, thread: u32)
         ensures { self.new ≡ drops self.old id thread }
     {
-        self.waiters.drop_thread(id, thread);
+        if let Some(queue) = queue_of(&self.live, id) {
+            self.waiters.remove_where(queue, &IsThread { id: thread });
+        }
     }
 
     /// Changes the priority of a thread that waits for an object, if it does. By priority it waits
@@ -170,6 +185,51 @@ impl<A: Copy, W: Copy> Objects<A, W> {
     pub fn requeue(&mut self, id: u32, by_priority: bool, thread: u32, priority: u8)
         ensures { self.new ≡ requeues self.old id by_priority thread priority }
     {
-        self.waiters.requeue(id, by_priority, thread, priority);
+        if let Some(queue) = queue_of(&self.live, id) {
+            let condition = IsThread { id: thread };
+            if by_priority {
+                self.waiters.move_last(queue, &condition, priority);
+            } else {
+                self.waiters.set_priority(queue, &condition, priority);
+            }
+        }
+    }
+}
+
+/// Finds where the object of an id stands, by halving.
+fn position<A>(live: &[Live<A>], id: u32) -> Option<usize>
+    requires { IsInOrder live.now }
+    ensures place { result ≡ position (λ object. object.id == id) live.now }
+    ensures below { IfSome result (λ place. place < length live.now) }
+{
+    let place = live.partition_point(|object| object.id < id);
+    let object = live.get(place)?;
+    (object.id == id).then_some(place)
+}
+
+/// Finds the queue of those that wait for an object.
+fn queue_of<A>(live: &[Live<A>], id: u32) -> Option<u32>
+    requires { IsInOrder live.now }
+    ensures { result
+        ≡ option_map (λ object. object.queue) (find (λ object. object.id == id) live.now) }
+{
+    let place = position(live, id)?;
+    Some(live[place].queue)
+}
+
+/// It is the thread of an id.
+#[derive(Drop)]
+struct IsThread {
+    /// The id.
+    id: u32,
+}
+
+impl<W> Condition<Waiter<W>> for IsThread {
+    ghost use Rattle.std.specs.Prelude.{◌==◌};
+
+    ghost holds_for = { λ condition waiter. waiter.thread == condition.id };
+
+    fn holds(&self, item: &Waiter<W>) -> bool {
+        item.thread == self.id
     }
 }

@@ -1,5 +1,6 @@
 use iop_base::Code;
-use iop_objects::{Condition, MOST_OBJECTS, Objects, Waiter};
+use iop_objects::{MOST_OBJECTS, Objects, Waiter};
+use iop_queues::Condition;
 use std::alloc::{AllocError, Global};
 use std::test::Fail;
 

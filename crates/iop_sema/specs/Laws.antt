@@ -2,7 +2,7 @@
 use Rattle.std.specs.Prelude.{◌≡◌, ◌≢◌, ◌↔◌, ℕ, ◌+◌, ◌<◌, ◌≤◌, ⊤, Some, None, Ok, Err, []}
 use Rattle.iop_base.specs.declared.code.TheConstants.Code.{OK, SEMAPHORE_OVERFLOW}
 use Rattle.iop_objects.specs.Objects.{state_of, waiters_of}
-use Rattle.iop_objects.specs.Queue.{Choice, chooses}
+use Rattle.iop_queues.specs.Queue.{Choice, chooses}
 use Rattle.iop_objects.specs.declared.waiter.Waiter.{Waiter}
 use Rattle.iop_sema.specs.Semaphores.{Semaphores, by_priority, creates, signals, takes, with_count}
 use Rattle.iop_sema.specs.declared.semaphore.Semaphore.{Semaphore}

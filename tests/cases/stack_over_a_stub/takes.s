@@ -11,7 +11,7 @@ main:
     syscall 261
     lui $a0, %hi(param)
     addiu $a0, $a0, %lo(param)
-    syscall 772
+    syscall 772 ; over a stub
     lui $t0, 1
     lw $t1, 20($t0)
     addiu $t2, $0, -1

@@ -7,11 +7,11 @@ use Rattle.iop_base.specs.declared.code.Code.{Code}
 use Rattle.iop_base.specs.declared.code.TheConstants.Code.{OK, OBJECT_DELETED}
 use Rattle.iop_objects.specs.Objects as objects
 use Rattle.iop_objects.specs.Objects.{object_of, waiters_in, waiters_of, takes_next, Object, Objects, state_of, takes, with_waiters, deletes}
-use Rattle.iop_objects.specs.Queue.{in_order, Choice, chooses}
-use Rattle.iop_objects.specs.declared.queued.Queued.{Queued}
+use Rattle.iop_queues.specs.Queue.{in_order, Choice, chooses}
+use Rattle.iop_queues.specs.declared.queued.Queued.{Queued}
 use Rattle.iop_objects.specs.declared.waiter.Waiter.{Waiter}
 use Rattle.iop_objects.proofs.Changes.{object_of-changed}
-use Rattle.iop_objects.proofs.QueuesChosen.{queues_chosen}
+use Rattle.iop_queues.proofs.Choosing.{queues_chosen}
 use Rattle.iop_ready.specs.declared.entry.Entry.{Entry}
 use Rattle.iop_thread.specs.Operations.{wakes}
 use Rattle.iop_thread.specs.ThreadTable.{ThreadTable}

@@ -8,7 +8,7 @@ use Rattle.iop_event.specs.declared.met.Met.{Met}
 use Rattle.iop_event.specs.declared.wanted.Wanted.{Wanted}
 use Rattle.iop_event.proofs.Settling.{Waiting, settles-taken, settles-none}
 use Rattle.iop_objects.specs.Objects.{object_of, state_of, waiters_in, waiters_of, changes, takes, with_state}
-use Rattle.iop_objects.specs.Queue.{Choice, chooses_where}
+use Rattle.iop_queues.specs.Queue.{Choice, chooses_where}
 use Rattle.iop_objects.specs.declared.waiter.Waiter.{Waiter}
 use Rattle.iop_objects.proofs.Changes.{object_of-changed}
 use Rattle.iop_kernel.specs.EventFlags.{LiveFlag}

@@ -10,8 +10,8 @@ use Rattle.iop_base.specs.declared.guest_fault.GuestFault.{GuestFault}
 use Rattle.iop_base.specs.declared.guest_fault.GuestFault.TheVariants.{Address, Service as NoService}
 use Rattle.iop_exec.specs.Row.{reg}
 use Rattle.iop_objects.specs.Objects.{object_of, state_of, deletes, waits}
-use Rattle.iop_objects.specs.Queue.{Choice, chooses}
-use Rattle.iop_objects.specs.declared.queued.Queued.{Queued}
+use Rattle.iop_queues.specs.Queue.{Choice, chooses}
+use Rattle.iop_queues.specs.declared.queued.Queued.{Queued}
 use Rattle.iop_objects.specs.declared.waiter.Waiter.{Waiter}
 use Rattle.iop_services.specs.Table.{row_of, allows}
 use Rattle.iop_services.specs.declared.codes.TheConstants.{THBASE}

@@ -8,7 +8,7 @@ use Rattle.iop_base.specs.declared.code.TheConstants.Code.{OK, UNKNOWN_SEMAPHORE
 use Rattle.iop_base.specs.declared.guest_fault.GuestFault.TheVariants.{Address}
 use Rattle.iop_objects.specs.Objects.{object_of, state_of, waiters_of, with_state}
 use Rattle.iop_objects.specs.Objects as objects
-use Rattle.iop_objects.specs.Queue.{Choice, chooses}
+use Rattle.iop_queues.specs.Queue.{Choice, chooses}
 use Rattle.iop_objects.specs.declared.waiter.Waiter.{Waiter}
 use Rattle.iop_sema.specs.Semaphores.{Semaphores, by_priority, with_count}
 use Rattle.iop_sema.specs.Semaphores as semaphores

@@ -10,8 +10,8 @@ use Rattle.iop_mbx.specs.Mailboxes.{Mailbox, Mailboxes, is_by_priority, next_mes
 use Rattle.iop_mbx.specs.Mailboxes as mailboxes
 use Rattle.iop_objects.specs.Objects.{object_of, state_of, waiters_of, with_state, with_waiters}
 use Rattle.iop_objects.specs.Objects as objects
-use Rattle.iop_objects.specs.Queue.{Choice, chooses}
-use Rattle.iop_objects.specs.declared.queued.Queued.{Queued}
+use Rattle.iop_queues.specs.Queue.{Choice, chooses}
+use Rattle.iop_queues.specs.declared.queued.Queued.{Queued}
 use Rattle.iop_objects.specs.declared.waiter.Waiter.{Waiter}
 use Rattle.iop_services.specs.declared.service.Service.{Service}
 use Rattle.iop_services.specs.declared.service.Service.TheVariants.{Thmsgbx}

@@ -10,8 +10,8 @@ use Rattle.iop_event.specs.WakeConditions.{Settled, is_met, pattern_after}
 use Rattle.iop_event.proofs.FewerBits.{IsUnmet, unmet_cleared, unmet_after}
 use Rattle.iop_mbx.specs.Mailboxes.{messages_by_priority, waiters_by_priority}
 use Rattle.iop_objects.specs.Objects.{state_of, waiters_of, changes, with_state, with_waiters, creates, deletes, waits, drops, requeues}
-use Rattle.iop_objects.specs.Queue.{Choice, chooses}
-use Rattle.iop_objects.specs.declared.queued.Queued.{Queued}
+use Rattle.iop_queues.specs.Queue.{Choice, chooses}
+use Rattle.iop_queues.specs.declared.queued.Queued.{Queued}
 use Rattle.iop_objects.specs.declared.waiter.Waiter.{Waiter}
 use Rattle.iop_sema.specs.Semaphores.{by_priority}
 use Rattle.iop_thread.specs.declared.kind.Kind.{Kind}

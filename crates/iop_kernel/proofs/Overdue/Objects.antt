@@ -7,7 +7,7 @@ use Rattle.std.proofs.lemmas.List.Folds.{find-append}
 use Rattle.std.proofs.lemmas.Option.{same_Some}
 use Rattle.iop_base.specs.declared.code.Code.{Code}
 use Rattle.iop_objects.specs.Objects.{Object, Objects, object_of, state_of, waiters_in, waiters_of, has_room, creates, deletes, changes, with_state, with_waiters}
-use Rattle.iop_objects.specs.declared.queued.Queued.{Queued}
+use Rattle.iop_queues.specs.declared.queued.Queued.{Queued}
 use Rattle.iop_objects.specs.declared.waiter.Waiter.{Waiter}
 use Rattle.iop_kernel.proofs.Placing.Objects.{changed, object_of_id, object_of_changed, object_of_without}
 

@@ -9,7 +9,7 @@ use Rattle.iop_base.specs.declared.code.Code.{Code}
 use Rattle.iop_event.specs.EventFlags.{with_pattern}
 use Rattle.iop_event.specs.WakeConditions.{Settled, settles, is_met, pattern_after, met_by, meets, stays}
 use Rattle.iop_event.specs.declared.wanted.Wanted.{Wanted}
-use Rattle.iop_objects.specs.declared.queued.Queued.{Queued}
+use Rattle.iop_queues.specs.declared.queued.Queued.{Queued}
 use Rattle.iop_objects.specs.declared.waiter.Waiter.{Waiter}
 use Rattle.iop_ready.specs.declared.slot.TheConstants.{MOST_THREADS}
 use Rattle.iop_thread.specs.Operations as threads

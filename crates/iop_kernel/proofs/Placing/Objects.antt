@@ -7,7 +7,7 @@ use Rattle.std.proofs.lemmas.List.Elements.{All-filter, All-map, All-push, All-w
 use Rattle.std.proofs.lemmas.List.Kept.{AllPairs-filter}
 use Rattle.std.proofs.lemmas.List.Quantifiers.{all_pairs_push}
 use Rattle.iop_objects.specs.Objects.{Object, Objects, object_of, state_of, waiters_in, waiters_of, changes, deletes, with_waiters}
-use Rattle.iop_objects.specs.declared.queued.Queued.{Queued}
+use Rattle.iop_queues.specs.declared.queued.Queued.{Queued}
 use Rattle.iop_objects.specs.declared.waiter.Waiter.{Waiter}
 use Rattle.iop_objects.proofs.Changes.{object_of-changed}
 

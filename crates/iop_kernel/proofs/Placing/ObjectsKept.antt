@@ -6,11 +6,11 @@ use Rattle.std.proofs.lemmas.Bool.{cond_both, eqb-true}
 use Rattle.std.proofs.lemmas.List.{length-map, get_or-map}
 use Rattle.std.proofs.lemmas.List.Elements.{All-head, All-tail, All-cons, All-append, All-weaker, All-map, All-filter, All-contains}
 use Rattle.iop_objects.specs.Objects.{Objects, object_of, waiters_in, waiters_of, with_waiters, drops, requeues}
-use Rattle.iop_objects.specs.Queue.{Choice, chooses}
+use Rattle.iop_queues.specs.Queue.{Choice, chooses}
 use Rattle.iop_objects.specs.WaiterQueues.{is_thread, without, with_priority, requeued}
-use Rattle.iop_objects.specs.declared.queued.Queued.{Queued}
+use Rattle.iop_queues.specs.declared.queued.Queued.{Queued}
 use Rattle.iop_objects.specs.declared.waiter.Waiter.{Waiter}
-use Rattle.iop_objects.proofs.QueuesChosen.{queues_chosen}
+use Rattle.iop_queues.proofs.Choosing.{queues_chosen}
 use Rattle.iop_kernel.specs.CodeLaws.{KeepsObjects}
 use Rattle.iop_kernel.proofs.Placing.Objects.{with_waiters_but, waiters_now, waiters_leave_states}
 

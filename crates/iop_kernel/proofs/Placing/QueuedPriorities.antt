@@ -6,7 +6,7 @@ use Rattle.std.proofs.lemmas.List.Elements.{All-append, All-cons, All-filter, Al
 use Rattle.iop_base.specs.Numbers.{one_if}
 use Rattle.iop_objects.specs.Objects.{waiters_of}
 use Rattle.iop_objects.specs.WaiterQueues.{is_thread, without, with_priority, requeued}
-use Rattle.iop_objects.specs.declared.queued.Queued.{Queued}
+use Rattle.iop_queues.specs.declared.queued.Queued.{Queued}
 use Rattle.iop_objects.specs.declared.waiter.Waiter.{Waiter}
 use Rattle.iop_thread.specs.ThreadTable.{ThreadTable, priority_of}
 use Rattle.iop_thread.specs.Waits.{wait_of}

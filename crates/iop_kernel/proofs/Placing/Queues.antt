@@ -7,11 +7,11 @@ use Rattle.std.proofs.lemmas.List.{length-append, map-append}
 use Rattle.std.proofs.lemmas.List.Elements.{filter-append}
 use Rattle.std.proofs.lemmas.Option.{same_Some}
 use Rattle.iop_base.specs.Numbers.{one_if}
-use Rattle.iop_objects.specs.Queue.{Choice, chooses, chooses_best, in_order, put_by_priority, sorted}
+use Rattle.iop_queues.specs.Queue.{Choice, chooses, chooses_best, in_order, put_by_priority, sorted}
 use Rattle.iop_objects.specs.WaiterQueues.{is_thread, without, with_priority, in_place, moved_last, requeued}
-use Rattle.iop_objects.specs.declared.queued.Queued.{Queued}
+use Rattle.iop_queues.specs.declared.queued.Queued.{Queued}
 use Rattle.iop_objects.specs.declared.waiter.Waiter.{Waiter}
-use Rattle.iop_objects.proofs.QueuesChosen.{queues_chosen}
+use Rattle.iop_queues.proofs.Choosing.{queues_chosen}
 use Rattle.iop_thread.specs.Placing.{times}
 use Rattle.iop_thread.proofs.ReadyIds.{times_first, times_last}
 use Rattle.iop_time.specs.Timers.{is_delay_of}

@@ -14,7 +14,7 @@ use Rattle.iop_event.specs.declared.wanted.TheConstants.{CLEAR}
 use Rattle.iop_event.specs.declared.wanted.Wanted.{Wanted}
 use Rattle.iop_exec.specs.Laws.{IsSteady}
 use Rattle.iop_objects.specs.Objects.{object_of, state_of}
-use Rattle.iop_objects.specs.declared.queued.Queued.{Queued}
+use Rattle.iop_queues.specs.declared.queued.Queued.{Queued}
 use Rattle.iop_objects.specs.declared.waiter.Waiter.{Waiter}
 use Rattle.iop_objects.proofs.Changes.{state_of-with_state}
 use Rattle.iop_services.specs.declared.thevent_service.TheventService.TheVariants.{WaitEventFlag, PollEventFlag}

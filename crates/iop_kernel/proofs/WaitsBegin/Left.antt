@@ -13,7 +13,7 @@ use Rattle.iop_exec.specs.declared.cpu.Cpu.{Cpu}
 use Rattle.iop_mbx.specs.Mailboxes as mailboxes
 use Rattle.iop_mbx.specs.Mailboxes.{Mailboxes, next_message}
 use Rattle.iop_objects.specs.Objects.{state_of}
-use Rattle.iop_objects.specs.Queue.{Choice}
+use Rattle.iop_queues.specs.Queue.{Choice}
 use Rattle.iop_ready.specs.Priorities.{priority_of as priority_of_word}
 use Rattle.iop_sema.specs.Semaphores as semaphores
 use Rattle.iop_sema.specs.Semaphores.{Semaphores}

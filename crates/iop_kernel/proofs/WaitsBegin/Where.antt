@@ -4,7 +4,7 @@ use Rattle.std.specs.Prelude.{⊤}
 use Rattle.std.proofs.lemmas.Bool.{eq-eqb, ne_eqb}
 use mathlib.Core.Logic.{◌⊎◌, inl, inr}
 use Rattle.iop_mbx.specs.Mailboxes.{messages_by_priority}
-use Rattle.iop_objects.specs.Queue.{chooses}
+use Rattle.iop_queues.specs.Queue.{chooses}
 use Rattle.iop_ready.specs.Priorities.{priority_of as priority_of_word}
 use Rattle.iop_services.specs.declared.service.Service.TheVariants.{Thbase, Thsemap, Thevent, Thmsgbx}
 use Rattle.iop_services.specs.declared.thbase_service.ThbaseService.TheVariants.{RotateThreadReadyQueue, SleepThread, DelayThread}

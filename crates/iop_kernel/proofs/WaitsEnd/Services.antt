@@ -7,7 +7,7 @@ use Rattle.iop_base.specs.declared.code.TheConstants.Code.{ILLEGAL_THREAD, WAIT_
 use Rattle.iop_event.specs.WakeConditions.{settles}
 use Rattle.iop_mbx.specs.Mailboxes as mailboxes
 use Rattle.iop_objects.specs.Objects.{object_of, state_of, waiters_in, waiters_of, takes, with_waiters}
-use Rattle.iop_objects.specs.Queue.{chooses}
+use Rattle.iop_queues.specs.Queue.{chooses}
 use Rattle.iop_sema.specs.Semaphores as semaphores
 use Rattle.iop_thread.specs.Operations.{wakes, wakes_up}
 use Rattle.iop_thread.specs.Placing.{times}

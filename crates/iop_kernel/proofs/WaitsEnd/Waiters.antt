@@ -3,10 +3,10 @@ use Rattle.std.proofs.Common.{◌≡◌, ℕ, zero, suc, ◌+◌, ◌<◌, ◌�
 use Rattle.std.proofs.lemmas.Bool.{eq-eqb}
 use Rattle.iop_base.specs.Numbers.{one_if}
 use Rattle.iop_objects.specs.Objects.{object_of, waiters_in}
-use Rattle.iop_objects.specs.Queue.{Choice, chooses, chooses_best, chooses_between, in_order, sorted}
-use Rattle.iop_objects.specs.declared.queued.Queued.{Queued}
+use Rattle.iop_queues.specs.Queue.{Choice, chooses, chooses_best, chooses_between, in_order, sorted}
+use Rattle.iop_queues.specs.declared.queued.Queued.{Queued}
 use Rattle.iop_objects.specs.declared.waiter.Waiter.{Waiter}
-use Rattle.iop_objects.proofs.QueuesChosen.{queues_chosen}
+use Rattle.iop_queues.proofs.Choosing.{queues_chosen}
 use Rattle.iop_thread.specs.Operations.{wakes}
 use Rattle.iop_thread.specs.Placing.{times}
 use Rattle.iop_thread.specs.ThreadTable.{ThreadTable}

@@ -9,8 +9,8 @@ use Rattle.iop_event.specs.declared.wanted.Wanted.{Wanted}
 use Rattle.iop_mbx.specs.Mailboxes as mailboxes
 use Rattle.iop_mbx.specs.Mailboxes.{Mailboxes, next_message, waiters_by_priority, with_messages}
 use Rattle.iop_objects.specs.Objects.{waiters_of}
-use Rattle.iop_objects.specs.Queue.{Choice, chooses}
-use Rattle.iop_objects.specs.declared.queued.Queued.{Queued}
+use Rattle.iop_queues.specs.Queue.{Choice, chooses}
+use Rattle.iop_queues.specs.declared.queued.Queued.{Queued}
 use Rattle.iop_sema.specs.Semaphores as semaphores
 use Rattle.iop_sema.specs.Semaphores.{Semaphores, by_priority, with_count}
 use Rattle.iop_sema.specs.declared.semaphore.Semaphore as semaphore

@@ -14,7 +14,7 @@ use Rattle.iop_exec.specs.declared.cpu.Cpu.{Cpu}
 use Rattle.iop_intr.specs.InterruptLines.{IrqLine}
 use Rattle.iop_objects.specs.Objects.{object_of, state_of, waiters_of, with_state, with_waiters}
 use Rattle.iop_objects.specs.Objects as objects
-use Rattle.iop_objects.specs.Queue.{Choice, chooses}
+use Rattle.iop_queues.specs.Queue.{Choice, chooses}
 use Rattle.iop_objects.specs.declared.waiter.Waiter.{Waiter}
 use Rattle.iop_registry.specs.declared.registry.Entry.{Entry}
 use Rattle.iop_services.specs.declared.codes.TheConstants.{LOADCORE, SYSMEM, INTRMAN, THBASE, THEVENT}

@@ -8,7 +8,7 @@ use Rattle.iop_base.specs.declared.code.Code.{Code}
 use Rattle.iop_base.specs.declared.code.TheConstants.Code.{OK, UNKNOWN_SEMAPHORE, SEMAPHORE_OVERFLOW, SEMAPHORE_ZERO}
 use Rattle.iop_objects.specs.Objects as objects
 use Rattle.iop_objects.specs.Objects.{state_of, waiters_of, with_state}
-use Rattle.iop_objects.specs.Queue.{Choice, chooses}
+use Rattle.iop_queues.specs.Queue.{Choice, chooses}
 use Rattle.iop_objects.specs.declared.waiter.Waiter.{Waiter}
 use Rattle.iop_sema.specs.Semaphores as semaphores
 use Rattle.iop_sema.specs.Semaphores.{Semaphores, by_priority, with_count}

@@ -1,23 +1,32 @@
-use Rattle.std.proofs.Common.{[], ◌∙◌, ap, sym, subst}
-use Rattle.iop_objects.specs.Objects as objects
-use Rattle.iop_mbx.specs.Standing.{mailboxes_in, IsTable}
-use Rattle.iop_mbx.proofs.MailboxCalls.{creates-accepted}
-use Rattle.iop_mbx.proofs.MailboxChanges.{IsTable-created, created-left}
-use Rattle.iop_mbx.proofs.MailboxTables.{known}
+use Rattle.std.proofs.Common.{◌≡◌, ◌-◌, Some, slice_get, length, take, ◌∙◌, ap, sym, arith}
+use Rattle.iop_mbx.specs.declared.mailboxes.Numbered.{Numbered}
+use Rattle.iop_mbx.proofs.Reading.{creates-in}
+use Rattle.iop_mbx.proofs.Creating.{known-made, IsTable-created}
+use Rattle.iop_mbx.proofs.mailboxes.Mailboxes.create.Goals.{After-pop}
 use Rattle.iop_mbx.proofs.mailboxes.Mailboxes.create.Goals as goal
 
-pub invariant_of-self : goal.invariant_of-self
-invariant_of-self c =
-    subst (λ o. IsTable o c.self.inside.messages) (sym c.create.ensures.left)
-    (IsTable-created c.self.inside.objects c.self.inside.messages c.self.invariant
-    (record { attr = c.args.attr; option = c.args.option }))
+-- its queue is the last one that is free
+last : (c : goal.After-pop) → Some c.in-Some.queue
+    ≡ slice_get c.self.inside.free.items (length c.self.inside.free.items - 1)
+last c =
+    c.in-Some.ensures ∙ c.last.ensures.value
+    ∙ ap (λ l. slice_get l (length l - 1)) c.deref.ensures.value
+
+pub invariant_of-self-2 : goal.invariant_of-self-2
+invariant_of-self-2 c =
+    let left = c.pop.ensures.rest
+    ∙ ap (λ n. take (n - 1) c.self.inside.free.items) c.self.inside.free.ok.0 in (
+      rw (c.create.ensures.left, left)
+          (IsTable-created c.self.inside.objects c.self.invariant.0 _ (last c)
+          c.in_ok-id.id (sym c.create.ensures.answer ∙ c.in_ok-id.was)),
+      omega (arith, c.pop.ensures.capacity, c.self.invariant.1),
+    )
 
 pub returns-clause-left : goal.returns-clause-left
 returns-clause-left c =
-    let accepted = sym c.is_attribute.ensures ∙ c.if-not-is_attribute.false in
-    ap (λ o. mailboxes_in o c.self.inside.messages) c.create.ensures.left
-    ∙ created-left c.self.inside.objects c.self.inside.messages c.self.invariant
-    (record { attr = c.args.attr; option = c.args.option })
-    ∙ ap (λ s. (objects.creates s
-    (known [] (record { attr = c.args.attr; option = c.args.option }))).1) c.self.view_is
-    ∙ sym (ap (λ r. r.1) (creates-accepted c.args.self.now c.args.attr c.args.option accepted))
+    let made : Numbered = record {
+      mailbox = record { attr = c.args.attr; option = c.args.option };
+      queue = c.in-Some.queue;
+    } in
+    let is = known-made c.self.inside.objects c.self.invariant.0 made (last c) in
+    grind (arith, creates-in, is)

@@ -1,32 +1,25 @@
-use Rattle.std.proofs.Common.{is_some, [], refl, ◌∙◌, ap, sym, subst}
-use Rattle.iop_objects.specs.Objects as objects
-use Rattle.iop_objects.specs.Objects.{waiters_of}
-use Rattle.iop_mbx.specs.Standing.{mailboxes_in, IsTable}
-use Rattle.iop_mbx.proofs.MailboxCalls.{deletes-live}
-use Rattle.iop_mbx.proofs.MailboxChanges.{IsTable-deleted, IsTable-replaced, mailboxes_in-deleted}
-use Rattle.iop_mbx.proofs.MailboxTables.{waiters_of-in}
+use Rattle.std.proofs.Common.{arith}
+use Rattle.iop_mbx.proofs.Reading.{state_of-in, deletes-in, deletes-with_state}
+use Rattle.iop_mbx.proofs.LiveMailboxes.{queue_inside, IsTable-deleted, mailboxes_in-changed}
 use Rattle.iop_mbx.proofs.mailboxes.Mailboxes.delete.Goals as goal
 
-pub delete-requires : goal.delete-requires
-delete-requires c = record {
-  none =
-      sym (waiters_of-in c.self.inside.objects c.self.inside.messages c.args.id)
-      ∙ ap (λ s. waiters_of s c.args.id) c.self.view_is ∙ c.requires.none;
-}
+pub clear-requires : goal.clear-requires
+clear-requires c = (
+  omega arith,
+  queue_inside c.in-Some.ensures.sound c.self.invariant.0 c.args.id c.in-Some.ensures.known,
+)
 
 pub invariant_of-self : goal.invariant_of-self
-invariant_of-self c =
-    subst (λ o. IsTable o c.clear.new.self) (sym c.delete.ensures)
-    (IsTable-deleted c.self.inside.objects c.args.id c.clear.new.self
-    (IsTable-replaced c.self.inside.objects c.self.inside.messages c.clear.new.self c.args.id []
-    c.clear.ensures c.self.invariant (λ none. refl))
-    c.clear.ensures.own)
+invariant_of-self c = (
+  rw (c.delete.ensures, c.push_reserved.ensures.items, c.clear.ensures)
+      (IsTable-deleted c.in-Some.ensures.sound c.self.invariant.0 c.args.id
+      c.in-Some.ensures.known),
+  omega (arith, c.push_reserved.ensures.capacity, c.self.invariant.1),
+)
 
 pub returns-clause-left : goal.returns-clause-left
 returns-clause-left c =
-    let live = ap is_some (sym c.get.ensures) ∙ c.if-is_none.ensures in
-    ap (λ o. mailboxes_in o c.clear.new.self) c.delete.ensures
-    ∙ mailboxes_in-deleted c.self.inside.objects c.args.id c.self.inside.messages c.clear.new.self
-    c.clear.ensures
-    ∙ ap (λ s. objects.deletes s c.args.id) c.self.view_is
-    ∙ sym (deletes-live c.args.self.now c.args.id live)
+    let changed =
+    mailboxes_in-changed c.in-Some.ensures.sound c.self.invariant.0 c.args.id
+    c.in-Some.ensures.known in
+    grind (arith, state_of-in, deletes-in, deletes-with_state, changed)

@@ -1,18 +1,29 @@
-use Rattle.std.proofs.Common.{is_some, ◌∙◌, ap, sym}
-use Rattle.iop_mbx.proofs.MailboxCalls.{is_live, puts-left}
-use Rattle.iop_mbx.proofs.MailboxChanges.{IsTable-replaced}
+use Rattle.std.proofs.Common.{◌∙◌, sym, arith}
+use Rattle.std.proofs.lemmas.Bool.Decides.{nat_tests}
+use Rattle.iop_mbx.proofs.Reading.{state_of-in}
+use Rattle.iop_mbx.proofs.LiveMailboxes.{queue_inside, IsTable-changed, mailboxes_in-changed}
+use Rattle.iop_mbx.proofs.MailboxTables.{total-messages}
 use Rattle.iop_mbx.proofs.mailboxes.Mailboxes.put.Goals as goal
 
+pub push-requires : goal.push-requires
+push-requires c =
+    let inside =
+    queue_inside c.in-Some.ensures.sound c.self.invariant.0 c.args.id c.in-Some.ensures.known in
+    let room = sym c.has_room.ensures ∙ c.if-not-has_room.false in
+    let all = total-messages c.self.inside.objects c.self.invariant.0 in
+    (omega arith, (inside, grind (arith, nat_tests, room, all)))
+
 pub invariant_of-self : goal.invariant_of-self
-invariant_of-self c =
-    let live = is_live c.self.inside.objects c.self.inside.messages c.args.self.now c.self.view_is c.args.id
-    (ap is_some (sym c.get.ensures) ∙ c.if-is_none.ensures) in
-    IsTable-replaced c.self.inside.objects c.self.inside.messages c.push.new.self c.args.id _
-    c.push.ensures c.self.invariant (λ none. let some = sym live ∙ ap is_some none in cc)
+invariant_of-self c = (
+  rw c.push.ensures
+      (IsTable-changed c.in-Some.ensures.sound c.self.invariant.0 c.args.id
+      c.in-Some.ensures.known _),
+  c.self.invariant.1,
+)
 
 pub returns-clause-left : goal.returns-clause-left
 returns-clause-left c =
-    puts-left c.self.inside.objects c.self.inside.messages c.args.self.now c.self.view_is c.args.id
-    c.args.message c.args.priority c.push.new.self
-    (ap is_some (sym c.get.ensures) ∙ c.if-is_none.ensures)
-    (sym c.has_room.ensures ∙ c.if-not-has_room.false) c.self.invariant c.push.ensures
+    let changed =
+    mailboxes_in-changed c.in-Some.ensures.sound c.self.invariant.0 c.args.id
+    c.in-Some.ensures.known in
+    grind (arith, state_of-in, changed)

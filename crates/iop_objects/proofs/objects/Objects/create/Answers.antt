@@ -1,24 +1,44 @@
-use Rattle.std.proofs.Common.{◌<◌, ◌+◌, ◌∙◌, ap, length, arith, subst, sym}
-use Rattle.iop_objects.specs.Objects.{creates}
-use Rattle.iop_objects.specs.Standing.{objects_in, IsTable}
-use Rattle.iop_objects.specs.declared.objects.TheConstants.{MOST_OBJECTS}
-use Rattle.iop_objects.proofs.Tables.{IsTable-created, objects_in-created}
+use Rattle.std.proofs.Common.{◌∙◌, ap, sym, length, append-nil, subst, arith}
+use Rattle.std.proofs.lemmas.List.{length_push}
+use Rattle.iop_objects.specs.Standing.{IsTable}
+use Rattle.iop_objects.proofs.TableChanges.{creates-one, IsTable-created}
+use Rattle.iop_objects.proofs.Tables.{all_queues}
 use Rattle.iop_objects.proofs.objects.Objects.create.Goals as goal
 
-pub invariant_of-self : goal.invariant_of-self
-invariant_of-self g c =
-    let room : length c.self.inside.live.items < MOST_OBJECTS = omega arith in (
-      subst (λ live. IsTable live c.self.inside.waiters (c.self.inside.next + 1))
-          (sym c.push_reserved.ensures.items)
-          (IsTable-created _ _ _
-          c.self.invariant.0 c.args.state room c.if-self-gt-LAST_ID.false),
-      omega (arith, c.push_reserved.ensures.capacity, c.self.invariant.1),
+pub push_reserved-requires : goal.push_reserved-requires
+push_reserved-requires g c =
+    omega (
+      arith,
+      all_queues _ _ _ _ c.self.invariant.0,
+      c.self.invariant.1,
+      ap length c.in-Some.ensures.items,
+      length_push c.pop.new.self.items c.in-Some.queue,
     )
 
-pub returns-clause-left : goal.returns-clause-left
-returns-clause-left g c =
-    let room : length c.self.inside.live.items < MOST_OBJECTS = omega arith in
-    ap (λ live. objects_in live c.self.inside.waiters (c.self.inside.next + 1))
-    c.push_reserved.ensures.items
-    ∙ objects_in-created _ _ _ c.self.invariant.0 c.args.state room c.if-self-gt-LAST_ID.false
-    ∙ ap (λ s. (creates s c.args.state).1) c.self.view_is
+pub invariant_of-self : goal.invariant_of-self
+invariant_of-self g c = (
+  subst (λ free. IsTable c.self.inside.live.items free c.self.inside.waiters c.self.inside.next)
+      (c.in_default.ensures.items ∙ append-nil c.pop.new.self.items) c.self.invariant.0,
+  c.self.invariant.1,
+  omega (arith, c.pop.ensures.capacity, c.self.invariant.2),
+)
+
+pub invariant_of-self-2 : goal.invariant_of-self-2
+invariant_of-self-2 g c =
+    let table =
+    subst (λ free. IsTable c.self.inside.live.items free c.self.inside.waiters c.self.inside.next)
+    c.in-Some.ensures.items c.self.invariant.0 in (
+      rw c.push_reserved.ensures.items
+          (IsTable-created _ _ _ _ _ table c.args.state c.if-self-gt-LAST_ID.false),
+      omega (arith, c.push_reserved.ensures.capacity, c.self.invariant.1),
+      omega (arith, c.pop.ensures.capacity, c.self.invariant.2),
+    )
+
+pub returns : goal.returns
+returns g c =
+    let table =
+    subst (λ free. IsTable c.self.inside.live.items free c.self.inside.waiters c.self.inside.next)
+    c.in-Some.ensures.items c.self.invariant.0 in
+    let both = creates-one _ _ _ _ _ table c.args.state c.if-self-gt-LAST_ID.false in
+    rw (c.push_reserved.ensures.items, ← c.self.view_is)
+    (record { answer = sym (ap (λ t. t.0) both); left = sym (ap (λ t. t.1) both) })

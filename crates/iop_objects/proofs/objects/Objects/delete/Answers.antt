@@ -1,30 +1,41 @@
-use Rattle.std.proofs.Common.{◌≡◌, ◌∙◌, ap, arith, rules, not, filter, subst, sym, []}
-use Rattle.std.specs.Prelude.{◌==◌}
-use Rattle.std.proofs.lemmas.Fn.{filter_same}
+use Rattle.std.proofs.Common.{◌∙◌, ap, sym, arith}
 use Rattle.iop_objects.specs.Objects.{deletes, waiters_of}
-use Rattle.iop_objects.specs.Standing.{objects_in, IsTable}
-use Rattle.iop_objects.proofs.Tables.{IsTable-deleted, objects_in-deleted}
-use Rattle.iop_objects.proofs.objects.Objects.delete.Goals.{After-retain}
+use Rattle.iop_objects.proofs.Places.{object_at, no_object}
+use Rattle.iop_objects.proofs.TableChanges.{IsTable-deleted, objects_in-deleted}
+use Rattle.iop_objects.proofs.Tables.{all_queues, deletes-none}
 use Rattle.iop_objects.proofs.objects.Objects.delete.Goals as goal
 
-is_left : (g : _) (c : goal.After-retain g)
-    → c.retain.new.self.items ≡ filter (λ o. not (o.id == c.args.id)) c.self.inside.live.items
-is_left g c = filter_same _ _ _ (λ x b f' k. search rules) _ _ c.retain.ensures.filtered
-
-none : (g : _) (c : goal.After-retain g)
-    → waiters_of (objects_in c.self.inside.live.items c.self.inside.waiters c.self.inside.next) c.args.id
-    ≡ []
-none g c = ap (λ s. waiters_of s c.args.id) c.self.view_is ∙ c.requires.none
+pub push_reserved-requires : goal.push_reserved-requires
+push_reserved-requires g c =
+    omega (
+      arith,
+      all_queues _ _ _ _ c.self.invariant.0,
+      c.self.invariant.2,
+      c.in-Some.ensures.below,
+    )
 
 pub invariant_of-self : goal.invariant_of-self
-invariant_of-self g c = (
-  subst (λ live. IsTable live c.self.inside.waiters c.self.inside.next) (sym (is_left g c))
-      (IsTable-deleted _ _ _ c.self.invariant.0 c.args.id (none g c)),
-  omega (arith, c.retain.ensures.capacity, c.self.invariant.1),
-)
+invariant_of-self g c =
+    let at = object_at c.self.inside.live.items c.args.id c.in-Some.place c.remove-object.result
+    (rw c.deref.ensures.value at c.in-Some.ensures.place) c.remove-object.ensures.value in
+    let none = ap (λ s. waiters_of s c.args.id) c.self.view_is ∙ c.requires.none in (
+      rw (c.remove-object.ensures.items, c.push_reserved.ensures.items)
+          (IsTable-deleted _ _ _ _ c.self.invariant.0 c.args.id _ _ at.0 at.1 none),
+      omega (arith, c.remove-object.ensures.capacity, c.self.invariant.1),
+      omega (arith, c.push_reserved.ensures.capacity, c.self.invariant.2),
+    )
 
-pub returns : goal.returns
-returns g c =
-    ap (λ live. objects_in live c.self.inside.waiters c.self.inside.next) (is_left g c)
-    ∙ objects_in-deleted _ _ _ c.self.invariant.0 c.args.id (none g c)
+pub returns-in-Some : goal.returns-in-Some
+returns-in-Some g c =
+    let at = object_at c.self.inside.live.items c.args.id c.in-Some.place c.remove-object.result
+    (rw c.deref.ensures.value at c.in-Some.ensures.place) c.remove-object.ensures.value in
+    let none = ap (λ s. waiters_of s c.args.id) c.self.view_is ∙ c.requires.none in
+    rw c.remove-object.ensures.items
+    (objects_in-deleted _ _ _ _ c.self.invariant.0 c.args.id _ _ at.0 at.1 none)
     ∙ ap (λ s. deletes s c.args.id) c.self.view_is
+
+pub returns-in_default : goal.returns-in_default
+returns-in_default g c =
+    rw (← c.self.view_is)
+    (sym (deletes-none _ _ _ _ c.self.invariant.0 c.args.id (no_object c.self.inside.live.items
+    c.args.id (rw c.deref.ensures.value at c.in_default.ensures.place))))

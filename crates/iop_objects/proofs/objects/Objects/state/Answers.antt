@@ -1,20 +1,28 @@
-use Rattle.std.proofs.Common.{◌≡◌, ◌∙◌, ap, sym, subst, rules, tests, nat_eq, option_map}
-use Rattle.std.proofs.lemmas.Iterator.Search.{find_from_yields_List}
-use Rattle.std.proofs.lemmas.Iterator.{YieldsList-from_slice}
-use Rattle.iop_objects.specs.Objects.{AreObjects, state_of}
-use Rattle.iop_objects.proofs.StateSetting.{state_lent}
+use Rattle.std.proofs.Common.{◌≡◌, ◌∙◌, None, option_map, ap, sym, subst, rules}
+use Rattle.iop_objects.specs.Objects.{AreObjects}
+use Rattle.iop_objects.proofs.Places.{object_at, no_object}
 use Rattle.iop_objects.proofs.Tables.{AreObjects-in, state_of-live}
 use Rattle.iop_objects.proofs.objects.Objects.state.Goals as goal
 
+pub returns-in_err-place-clause-known : goal.returns-in_err-place-clause-known
+returns-in_err-place-clause-known g c =
+    let none : c.from_residual.result ≡ None = search rules in
+    rw (none, ← c.self.view_is)
+    (sym (state_of-live _ _ _ _ c.self.invariant.0 c.args.id
+    ∙ ap (option_map (λ o. o.state)) (no_object c.self.inside.live.items c.args.id
+    (rw c.deref.ensures.value at c.in_err-place.ensures.place))))
+
+pub returns-in_err-place-clause-sound : goal.returns-in_err-place-clause-sound
+returns-in_err-place-clause-sound g c =
+    subst AreObjects c.self.view_is (AreObjects-in _ _ _ _ c.self.invariant.0)
+
 pub returns-clause-known : goal.returns-clause-known
 returns-clause-known g c =
-    let is : c.map.result ≡ option_map (λ o. o.now.state) c.find.result = search rules in
-    let found =
-    find_from_yields_List (λ o. nat_eq o.id c.args.id) _ _ _ c.find.ensures.ran
-    (YieldsList-from_slice c.self.inside.live.items cc) (λ x b q k. search (rules, tests)) in
-    is ∙ state_lent _ _ found
-    ∙ sym (state_of-live _ _ _ c.self.invariant.0 c.args.id) ∙ ap (λ s. state_of s c.args.id) c.self.view_is
+    let at = object_at c.self.inside.live.items c.args.id c.in_ok-place.place c.index.result.now
+    (rw c.deref.ensures.value at c.in_ok-place.ensures.place) c.index.ensures in
+    rw (← c.self.view_is)
+    (sym (state_of-live _ _ _ _ c.self.invariant.0 c.args.id ∙ ap (option_map (λ o. o.state)) at.1))
 
 pub returns-clause-sound : goal.returns-clause-sound
 returns-clause-sound g c =
-    subst AreObjects c.self.view_is (AreObjects-in _ _ _ c.self.invariant.0)
+    subst AreObjects c.self.view_is (AreObjects-in _ _ _ _ c.self.invariant.0)

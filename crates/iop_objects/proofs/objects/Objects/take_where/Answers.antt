@@ -1,30 +1,47 @@
-use Rattle.std.proofs.Common.{◌≡◌, ◌∙◌, ap, refl, rules, option_map}
+use Rattle.std.proofs.Common.{◌≡◌, ◌∙◌, ap, refl, arith, rules, None, option_map}
+use Rattle.iop_queues.specs.Queue.{chooses_where}
 use Rattle.iop_objects.specs.Objects.{takes_where}
-use Rattle.iop_objects.specs.Queue.{chooses_where, left_by}
-use Rattle.iop_objects.proofs.TableQueues.{IsTable-left, objects_in-taken}
-use Rattle.iop_objects.proofs.Tables.{taken_is}
+use Rattle.iop_objects.proofs.TableQueues.{queue_below, IsTable-changed, objects_in-taken, taken_is, takes-none}
 use Rattle.iop_objects.proofs.objects.Objects.take_where.Goals as goal
 
+pub take_where-taken-requires : goal.take_where-taken-requires
+take_where-taken-requires g c = (
+  omega arith,
+  queue_below _ _ _ _ c.self.invariant.0 c.args.id c.in_ok-queue.queue
+      (rw c.deref.ensures.value at c.in_ok-queue.ensures),
+)
+
 pub invariant_of-self : goal.invariant_of-self
-invariant_of-self g c =
-    let p = g.C.Condition.holds_for c.args.condition.now in (
-      IsTable-left _ _ _ _ _
-          c.self.invariant.0 (λ q. left_by q (chooses_where p q)) refl
-          c.take_where-taken.ensures.left,
-      c.self.invariant.1,
-    )
+invariant_of-self g c = (
+  rw c.take_where-taken.ensures.left
+      (IsTable-changed _ _ _ _ c.self.invariant.0 c.args.id c.in_ok-queue.queue
+      (rw c.deref.ensures.value at c.in_ok-queue.ensures) _),
+  c.self.invariant.1,
+  c.self.invariant.2,
+)
+
+pub returns-in_err-queue : goal.returns-in_err-queue
+returns-in_err-queue g c =
+    let none : c.from_residual.result ≡ None = search rules in
+    let both =
+    takes-none _ _ _ _ c.self.invariant.0 c.args.id
+    (rw c.deref.ensures.value at c.in_err-queue.ensures)
+    (chooses_where (g.C.Condition.holds_for c.args.condition.now)) refl in
+    rw (none, ← c.self.view_is) (record { answer = ap (λ t. t.0) both; left = ap (λ t. t.1) both })
 
 pub returns-clause-answer : goal.returns-clause-answer
 returns-clause-answer g c =
     let p = g.C.Condition.holds_for c.args.condition.now in
     let is : c.map.result ≡ option_map (λ x. x.item) c.take_where-taken.result = search rules in
     is ∙ ap (option_map (λ x. x.item)) c.take_where-taken.ensures.item
-    ∙ taken_is _ _ _ c.self.invariant.0 c.args.id (chooses_where p)
+    ∙ taken_is _ _ _ _ c.self.invariant.0 c.args.id c.in_ok-queue.queue
+    (rw c.deref.ensures.value at c.in_ok-queue.ensures) (chooses_where p)
     ∙ ap (λ s. (takes_where s c.args.id p).0) c.self.view_is
 
 pub returns-clause-left : goal.returns-clause-left
 returns-clause-left g c =
     let p = g.C.Condition.holds_for c.args.condition.now in
-    objects_in-taken _ _ _ _ _ c.self.invariant.0 (chooses_where p)
-    c.take_where-taken.ensures.left
+    rw c.take_where-taken.ensures.left
+    (objects_in-taken _ _ _ _ c.self.invariant.0 c.args.id c.in_ok-queue.queue
+    (rw c.deref.ensures.value at c.in_ok-queue.ensures) (chooses_where p))
     ∙ ap (λ s. (takes_where s c.args.id p).1) c.self.view_is

@@ -1,0 +1,228 @@
+-- What an object more or less leaves of a table, or one of which something else is known.
+use Rattle.std.proofs.Common.{◌≡◌, ◌≢◌, ℕ, ◌+◌, ◌<◌, ◌≤◌, true, false, if◌then◌else◌, not, Some, Result, Ok, Err, option_map, List, [], ◌∷◌, ◌++◌, length, map, find, take, drop, All, refl, ap, sym, ◌∙◌, subst, suc, arith, get_or, set}
+use Rattle.std.specs.Prelude.{◌==◌}
+use Rattle.std.specs.List.{remove}
+use Rattle.std.proofs.lemmas.Bool.{cond-true, eq-eqb, ne_eqb}
+use Rattle.std.proofs.lemmas.Bool.Decides.{nat_tests}
+use Rattle.std.proofs.lemmas.List.{length-map, length-set, length_push, get_or-map, map_push, map-set, set-get_or}
+use Rattle.std.proofs.lemmas.List.Elements.{All-append, All-take, All-drop, All-push, All-pop, All-weaker, All-set}
+use Rattle.std.proofs.lemmas.List.Quantifiers.{all_pairs_push, all_pairs_remove}
+use Rattle.std.proofs.lemmas.Simd.{map-map}
+use Rattle.iop_base.specs.declared.code.Code.{Code}
+use Rattle.iop_base.specs.declared.code.TheConstants.Code.{NO_MEMORY}
+use Rattle.iop_base.specs.declared.limits.TheConstants.{LAST_ID}
+use Rattle.iop_queues.specs.Numbers.{AreNumbers}
+use Rattle.iop_queues.specs.Queues.{queue_at}
+use Rattle.iop_queues.specs.declared.queued.Queued.{Queued}
+use Rattle.iop_queues.proofs.Numbers.{given, given_back}
+use Rattle.iop_objects.specs.Objects.{Object, Objects, waiters_of, has_room, creates, deletes, changes, with_state}
+use Rattle.iop_objects.specs.Standing.{object_in, objects_in, IsTable}
+use Rattle.iop_objects.specs.declared.objects.Live.{Live}
+use Rattle.iop_objects.specs.declared.objects.TheConstants.{MOST_OBJECTS}
+use Rattle.iop_objects.specs.declared.waiter.Waiter.{Waiter}
+use Rattle.iop_objects.proofs.MappedLists.{filter-map, map-remove, map-at_one, filter-one_passes}
+use Rattle.iop_objects.proofs.Places.{IsObject, ids_apart, has_id}
+use Rattle.iop_objects.proofs.Totals.{all_held, all_held-set, all_held-remove, all_held-push}
+use Rattle.iop_objects.proofs.Tables.{table_of, changed, all_queues, waiters_of-queue}
+
+module _ {A W : Type 0} (live : List (Live A)) (free : List ℕ)
+    (waiters : List (List (Queued (Waiter W)))) (next : ℕ)
+    (table : IsTable live free waiters next) where
+  abbrev own : Objects A W
+  own = objects_in live waiters next
+
+  -- the object of an id, at its place
+  module _ (id place : ℕ) (o : Live A) (h : IsObject live id place o) where
+    abbrev object : Object A W
+    object = object_in waiters o
+
+    pub object_here : get_or own.live place object ≡ object
+    object_here =
+        get_or-map (object_in waiters) live place o object h.inside
+        ∙ ap (object_in waiters) h.object
+
+    pub place_inside : place < length own.live
+    place_inside = omega (arith, length-map live (object_in waiters), h.inside)
+
+    other_ids : (i : ℕ) → i < length live → i ≢ place → has_id id (get_or live i o) ≡ false
+    other_ids i inside apart =
+        ne_eqb _ _ (λ e. ids_apart live table.ids i place o inside h.inside apart
+        (e ∙ sym (ap (λ x. x.id) h.object ∙ h.same_id)))
+
+    -- the object that changes is the one at this place
+    pub changes-at_place : (f : Object A W → Object A W)
+        → (changes own id f).live ≡ set own.live place (f object)
+    changes-at_place f =
+        map-map (changed id f) (object_in waiters) live
+        ∙ map-at_one (λ x. changed id f (object_in waiters x)) (object_in waiters) live place o
+        h.inside h.object
+        (λ i inside apart. ap (λ b. let p = object_in waiters (get_or live i o) in
+        if b then f p else p) (other_ids i inside apart))
+        ∙ ap (λ b. set own.live place (if b then f object else object))
+        (eq-eqb o.id id h.same_id)
+
+    -- something else is known of it
+    module _ (state : A) where
+      abbrev other : Live A
+      other = record o { state = state }
+
+      kept : {Y : Type 0} (f : Live A → Y) → f other ≡ f o
+          → map f (set live place other) ≡ map f live
+      kept f same =
+          map-set f live place other
+          ∙ ap (set (map f live) place)
+          (same ∙ sym (get_or-map f live place o (f o) h.inside ∙ ap f h.object))
+          ∙ set-get_or (map f live) place (f o)
+
+      same_ids : (i : ℕ) (d : Live A) → i < length live
+          → (get_or (set live place other) i d).id ≡ (get_or live i d).id
+      same_ids i d inside =
+          sym (get_or-map (λ x. x.id) (set live place other) i d 0
+          (omega (arith, length-set live place other, inside)))
+          ∙ ap (λ l. get_or l i 0) (kept (λ x. x.id) refl)
+          ∙ get_or-map (λ x. x.id) live i d 0 inside
+
+      pub objects_in-state : objects_in (set live place other) waiters next
+          ≡ with_state own id state
+      objects_in-state =
+          ap (λ l. table_of l next)
+          (map-set (object_in waiters) live place other
+          ∙ sym (changes-at_place (λ p. record p { state = state })))
+
+      pub IsTable-state : IsTable (set live place other) free waiters next
+      IsTable-state = record {
+        ids = λ i j d less below.
+            let inside : j < length live = omega (arith, length-set live place other, below) in
+            let before : i < length live = omega (arith, less, inside) in
+            omega (
+              arith,
+              same_ids i d before,
+              same_ids j d inside,
+              table.ids i j d less inside,
+            );
+        given =
+            All-set (λ x. x.id < next) live place other
+            (subst (λ x. x.id < next) h.object (table.given place o h.inside)) table.given;
+        next_first = table.next_first;
+        next_last = table.next_last;
+        numbers =
+            subst (λ used. AreNumbers MOST_OBJECTS used free) (sym (kept (λ x. x.queue) refl))
+            table.numbers;
+        queues = table.queues;
+        empty = table.empty;
+        count =
+            omega (
+              arith,
+              table.count,
+              ap all_held (map-set (object_in waiters) live place other),
+              all_held-set own.live place (object_in waiters other) object place_inside,
+              ap (λ p. length p.waiters) object_here,
+            );
+      }
+
+    -- it is there no more, and none waits for it
+    module _ (found : find (has_id id) live ≡ Some o) (none : waiters_of own id ≡ []) where
+      none_waits : queue_at o.queue waiters ≡ []
+      none_waits =
+          sym (waiters_of-queue live free waiters next table id (Some o.queue)
+          (sym (ap (option_map (λ x. x.queue)) found)))
+          ∙ none
+
+      pub objects_in-deleted : objects_in (remove live place) waiters next ≡ deletes own id
+      objects_in-deleted =
+          ap (λ l. table_of l next)
+          (sym (filter-map (λ (p : Object A W). not (p.id == id)) (object_in waiters) live
+          ∙ ap (map (object_in waiters)) (filter-one_passes (has_id id) live place o h.inside
+          (ap (has_id id) h.object ∙ eq-eqb o.id id h.same_id) other_ids)))
+
+      pub IsTable-deleted : IsTable (remove live place) (free ++ o.queue ∷ []) waiters next
+      IsTable-deleted = record {
+        ids = all_pairs_remove (λ a b. a.id < b.id) live place h.inside table.ids;
+        given =
+            All-append (λ x. x.id < next) (take place live) (drop (suc place) live)
+            (All-take (λ x. x.id < next) place live table.given)
+            (All-drop (λ x. x.id < next) (suc place) live table.given);
+        next_first = table.next_first;
+        next_last = table.next_last;
+        numbers =
+            let used = map (λ x. x.queue) live in
+            let inside : place < length used =
+            omega (arith, length-map live (λ x. x.queue), h.inside) in
+            let queue : get_or used place o.queue ≡ o.queue =
+            get_or-map (λ x. x.queue) live place o o.queue h.inside
+            ∙ ap (λ x. x.queue) h.object in
+            subst (λ left. AreNumbers MOST_OBJECTS left (free ++ o.queue ∷ []))
+            (sym (map-remove (λ x. x.queue) live place))
+            (subst (λ n. AreNumbers MOST_OBJECTS (remove used place) (free ++ n ∷ [])) queue
+            (given_back table.numbers place o.queue inside));
+        queues = table.queues;
+        empty = All-push (λ n. queue_at n waiters ≡ []) free o.queue table.empty none_waits;
+        count =
+            omega (
+              arith,
+              table.count,
+              ap all_held (map-remove (object_in waiters) live place),
+              all_held-remove own.live place object place_inside,
+              ap (λ p. length p.waiters) object_here,
+              ap length none_waits,
+            );
+      }
+
+-- an object more, with the last of the free queues
+module _ {A W : Type 0} (live : List (Live A)) (free : List ℕ) (queue : ℕ)
+    (waiters : List (List (Queued (Waiter W)))) (next : ℕ)
+    (table : IsTable live (free ++ queue ∷ []) waiters next) (state : A)
+    (left : next ≤ LAST_ID) where
+  abbrev was : Objects A W
+  was = objects_in live waiters next
+
+  abbrev made : Live A
+  made = record { id = next; state = state; queue = queue }
+
+  abbrev new : List (Queued (Waiter W)) → Object A W
+  new others = record { id = next; state = state; waiters = others }
+
+  abbrev with_one : List (Object A W) → Result ℕ Code × Objects A W
+  with_one objects = (Ok next, table_of objects (next + 1))
+
+  empty : All (λ n. queue_at n waiters ≡ []) free × (queue_at queue waiters ≡ [])
+  empty =
+      All-pop (λ n. queue_at n waiters ≡ []) (free ++ queue ∷ []) free (Some queue) refl
+      table.empty
+
+  room : has_room was ≡ true
+  room =
+      let few : length was.live < MOST_OBJECTS =
+      omega (
+        arith,
+        length-map live (object_in waiters),
+        length_push free queue,
+        all_queues live (free ++ queue ∷ []) waiters next table,
+      ) in
+      grind (arith, nat_tests, few, left)
+
+  more : map (object_in waiters) (live ++ made ∷ []) ≡ was.live ++ new [] ∷ []
+  more = map_push (object_in waiters) live made ∙ ap (λ q. was.live ++ new q ∷ []) empty.1
+
+  pub creates-one : creates was state ≡ with_one (map (object_in waiters) (live ++ made ∷ []))
+  creates-one =
+      cond-true (has_room was) (with_one (was.live ++ new [] ∷ [])) (Err NO_MEMORY, was) room
+      ∙ ap with_one (sym more)
+
+  pub IsTable-created : IsTable (live ++ made ∷ []) free waiters (next + 1)
+  IsTable-created = record {
+    ids = all_pairs_push (λ a b. a.id < b.id) live made table.ids table.given;
+    given =
+        All-push (λ o. o.id < next + 1) live made
+        (All-weaker (λ o. o.id < next) (λ o. o.id < next + 1) (λ o less. omega (arith, less))
+        live table.given)
+        (omega arith);
+    next_first = omega (arith, table.next_first);
+    next_last = omega (arith, left);
+    numbers =
+        subst (λ used. AreNumbers MOST_OBJECTS used free)
+        (sym (map_push (λ o. o.queue) live made)) (given queue table.numbers);
+    queues = table.queues;
+    empty = empty.0;
+    count = omega (arith, table.count, ap all_held more, all_held-push was.live (new []));
+  }

@@ -1,0 +1,11 @@
+pub mod Choosing
+pub mod Distinct
+pub mod Beside
+pub mod Moves
+pub mod Puts
+pub mod Rounds
+pub mod Fresh
+pub mod Walking
+pub mod Finding
+pub mod Takes
+pub mod Numbers

@@ -1,0 +1,10 @@
+use Rattle.iop_queues.specs.Queues.{queue_at}
+use Rattle.iop_queues.proofs.Beside.{StayBeside}
+use Rattle.iop_queues.proofs.Rounds.{IsMoving}
+use Rattle.iop_queues.proofs.queues.Queues.move_last.Given as goal
+
+abbrev pub invariant-loop : goal.invariant-loop
+invariant-loop g l =
+    let p = g.C.Condition.holds_for l.condition in
+    StayBeside l.queue l.self l.fn.self
+    × IsMoving p l.priority (queue_at l.queue l.fn.self) (queue_at l.queue l.self) l.counter

@@ -1,0 +1,56 @@
+-- The items of nodes, and which of the nodes in a list is chosen. No contract of a public call
+-- cites this.
+use Rattle.std.specs.Prelude.{◌≡◌, ℕ, ◌<◌, ◌≤◌, Bool, true, false, is_some, Option, Some, None, option_map, unwrap_or}
+use Rattle.std.specs.Prelude.{List, ◌∷◌, ◌++◌, slice_index_or, length, filter_map, All}
+use Rattle.iop_base.specs.Choosing.{better}
+use Rattle.iop_cblock.specs.Lists.{Lists, AreDisjoint, list_at}
+use Rattle.iop_queues.specs.Queue.{Choice}
+use Rattle.iop_queues.specs.declared.queued.Queued.{Queued}
+
+module _ {T : Type 0} where
+  -- the item of a node
+  abbrev pub item_at : List (Option (Queued T)) → ℕ → Option (Queued T)
+  item_at items node = slice_index_or items node None
+
+  -- the items of nodes, in order
+  abbrev pub items_of : List (Option (Queued T)) → List ℕ → List (Queued T)
+  items_of items nodes = filter_map (item_at items) nodes
+
+  -- each of the nodes has an item
+  abbrev pub AreFilled : List (Option (Queued T)) → List ℕ → Type 0
+  AreFilled items nodes = All (λ node. is_some (item_at items node) ≡ true) nodes
+
+  -- each node of a list has an item
+  pub record IsFilled (items : List (Option (Queued T))) (s : Lists) (list : ℕ) : Type 0 where
+    pub list_below : list < length s.lists
+    pub nodes_below : s.nodes ≤ length items
+    pub disjoint : AreDisjoint s
+    pub filled : AreFilled items (list_at list s)
+
+  -- the number of a node's priority
+  abbrev pub priority_at : List (Option (Queued T)) → ℕ → ℕ
+  priority_at items node = unwrap_or (option_map (λ x. x.priority) (item_at items node)) 255
+
+  -- the better of the best node so far, if there is one, and one that comes later
+  abbrev pub with_later : List (Option (Queued T)) → Option ℕ → ℕ → ℕ
+  with_later items None later = later
+  with_later items (Some first) later = better (priority_at items) first (Some later)
+
+  -- whether a condition holds of a node's item
+  abbrev pub holds_at : (T → Bool) → List (Option (Queued T)) → ℕ → Bool
+  holds_at p items node = unwrap_or (option_map (λ x. p x.item) (item_at items node)) false
+
+  -- the item that is chosen is that of this node
+  pub record IsNode (items : List (Option (Queued T))) (nodes : List ℕ) (c : Choice T) (node : ℕ)
+      : Type 0 where
+    pub before : List ℕ
+    pub behind : List ℕ
+    pub nodes_are : nodes ≡ before ++ node ∷ behind
+    pub item_is : item_at items node ≡ Some c.one
+    pub others_are : items_of items (before ++ behind) ≡ c.others
+
+  -- a node is found exactly where an item is chosen, and it has that item
+  abbrev pub Finds : List (Option (Queued T)) → List ℕ → Option ℕ → Option (Choice T) → Type 0
+  Finds items nodes None chosen = chosen ≡ None
+  Finds items nodes (Some node) chosen =
+      (c : Choice T) × (chosen ≡ Some c) × IsNode items nodes c node
