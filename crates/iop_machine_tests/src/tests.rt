@@ -116,3 +116,62 @@ fn runs_in_parts(rt: HostRuntime) -> Result<(), Fail> {
     let mut machine = loads_it_twice(alloc)?;
     run_in_parts(&rt, alloc, &mut machine)
 }
+
+/// The file of the module `order.irx` of the case `run_order`, which makes four threads.
+const ORDER_FILE: &str =
+    "7f454c4601010100000000000000000080ff0800010000005c00000034000000300200000000000034002000\
+    0200280002000000800000707400000000000000000000002000000020000000040000000400000001000000\
+    94000000000000000000000004010000040100000700000010000000ffffffff5c00000000000000c8000000\
+    3c0000000000000001016f72646572000000e041000000000101000074686261736500000800e00304000024\
+    0800e003060000240800e003180000240800e0031900002400000000000000002188e0030500000c00000000\
+    212040000700000c0000000008002002000000002180e0030000043c0f00000cc80084240000043c0f00000c\
+    dc0084240000043c0f00000cdc0084240000043c0f00000cf000842408000002211000002180e0030900000c\
+    0000000008000002000000002180e0030b00000c0500042408000002000000000800e0030000000000000002\
+    00000000ac00000000020000140000000000000200000000c000000000020000140000000000000200000000\
+    98000000000200000a00000040000000040000004c0000000400000060000000050000006400000004000000\
+    68000000060000006c000000050000007000000004000000740000000600000078000000050000007c000000\
+    040000008000000006000000840000000500000088000000040000008c000000060000009c00000004000000\
+    b000000004000000d000000002000000e400000002000000f800000002000000000000000000000000000000\
+    0000000000000000000000000000000000000000000000000000000000000000090000000000000000000000\
+    980100009800000000000000000000000400000008000000";
+
+/// Makes a machine that loads the module of a file.
+fn loads_it(alloc: Global, file: Vec<u8>) -> Result<Machine, AllocError>
+    requires { length file.items ≤ 1000 }
+    ensures { IfOk result IsSoundMachine }
+{
+    let name = String::from_str(alloc, "m.irx")?;
+    let modules = vec![in alloc; Module { name, file }]?;
+    let script = Script {
+        events: Vec::new(alloc),
+        args: Vec::new(alloc),
+    };
+    Machine::new(alloc, 0x20_0000, modules, script)
+}
+
+/// Runs it to its end, behind which no thread is ready.
+fn run_to_its_end(rt: &impl Abort, alloc: Global, machine: &mut Machine) -> Result<(), Fail>
+    requires { IsSoundMachine machine.old }
+{
+    let mut console = MemSink::new(alloc, 100, Vec::new(alloc))?;
+    let mut trace = MemSink::new(alloc, 10_000, Vec::new(alloc))?;
+    run_by(
+        rt,
+        machine,
+        &mut console,
+        &mut trace,
+        200,
+        (Stop::Quiet, 116),
+    );
+    assert_eq!(rt; machine.ready().bits(), 0);
+    Ok(())
+}
+
+#[test]
+fn no_thread_is_ready_at_the_end(rt: HostRuntime) -> Result<(), Fail> {
+    let alloc: Global = rt.alloc();
+    let file = hex::decode(alloc, ORDER_FILE)?;
+    assert!(rt; file.len() <= 1000);
+    let mut machine = loads_it(alloc, file)?;
+    run_to_its_end(&rt, alloc, &mut machine)
+}
