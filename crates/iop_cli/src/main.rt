@@ -17,10 +17,8 @@ struct BehindName<'a, E>(&'a E);
 
 impl<E: Env> Env for BehindName<'_, E> {
     fn arg(&self, i: usize, buf: &mut [u8]) -> Result<usize, FillError> {
-        match i.checked_add(1) {
-            Some(next) => self.0.arg(next, buf),
-            None => Err(FillError::NotPresent),
-        }
+        let next = i.checked_add(1).ok_or(FillError::NotPresent)?;
+        self.0.arg(next, buf)
     }
 
     fn var(&self, name: &str, buf: &mut [u8]) -> Result<usize, FillError> {
