@@ -32,6 +32,7 @@ impl<E: Env> Env for BehindName<'_, E> {
 
 /// The words of the command line, without the program's name. Where one is not UTF-8 there are
 /// none: such a line is no command.
+#[cold]
 fn words(rt: &(impl Env + AllocGlobal)) -> Result<Vec<String>, AllocError> {
     let alloc = rt.alloc();
     match env::args(&(BehindName(rt), alloc)) {
