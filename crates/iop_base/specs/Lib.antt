@@ -1,5 +1,6 @@
 pub mod Numbers
 pub mod Places
+pub mod Bits
 pub mod BlockSizes
 pub mod Strings
 pub mod Choosing

@@ -54,7 +54,10 @@ module _ (nx pv nx' pv' : ℕ → ℕ) where
         let before : pv place ≡ a = ap pv e ∙ o.chain.1 in
         let kept : Chain nx' pv' y ys b =
         frame nx pv nx' pv' (pv place) place node ins.agree y ys b
-        (rw before (record { first = lacks-head a y ys o.start; others = lacks-tail a y ys o.start }))
+        (rw before (record {
+          first = lacks-head a y ys o.start;
+          others = lacks-tail a y ys o.start;
+        }))
         (record { first = lacks-head node y ys m.others; others = lacks-tail node y ys m.others })
         (rw e (record { first = λ q. lacks-head b y ys o.end (sym q); others = o.apart.0 }))
         m.first o.chain.2 in (

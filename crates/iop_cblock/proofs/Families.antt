@@ -21,7 +21,8 @@ pub record ChangesOne (t t' : Links) (list node before behind : ℕ) : Type 0 wh
   pub was_in_no_other : (other : ℕ) → other ≢ list → owner_at t node ≢ Some other
   pub is_in_no_other : (other : ℕ) → other ≢ list → owner_at t' node ≢ Some other
 
-module _ (t t' : Links) (list node before behind : ℕ) (change : ChangesOne t t' list node before behind) where
+module _ (t t' : Links) (list node before behind : ℕ)
+    (change : ChangesOne t t' list node before behind) where
   end-kept : (j : ℕ) (xs : List ℕ) → j ≢ list → IsRing t j xs
       → owner_at t' (t.nodes + j) ≡ Some j
   end-kept j xs ne r =
@@ -50,7 +51,8 @@ module _ (t t' : Links) (list node before behind : ℕ) (change : ChangesOne t t
         apart = r.apart;
       }
 
-  module _ (lists : List (List ℕ)) (linked : AreLinked t lists) (below : list < length lists) (ys : List ℕ) where
+  module _ (lists : List (List ℕ)) (linked : AreLinked t lists) (below : list < length lists)
+      (ys : List ℕ) where
     rings-by : (j : ℕ) → j < length lists → IsRing t' list ys → (j ≡ list) ⊎ (j ≢ list)
         → IsRing t' j (get_or (set lists list ys) j [])
     rings-by j h r (inl e) = rw (e, get_or-set_same lists list ys [] below) r
@@ -84,8 +86,7 @@ module _ (t t' : Links) (list node before behind : ℕ) (change : ChangesOne t t
               omega (arith, count, linked.owner_length, change.owner_length, change.nodes);
           rings = λ j h. rings-by j (omega (arith, h, count)) r (cases_eq j list);
           held = λ y j h o.
-              let found =
-              held-by y j (omega (arith, h, change.nodes)) o (own y (omega (arith, h, change.nodes)))
-              (cases_eq j list) in
+              let here : y < t.nodes = omega (arith, h, change.nodes) in
+              let found = held-by y j here o (own y here) (cases_eq j list) in
               (omega (arith, found.0, count), found.1);
         }

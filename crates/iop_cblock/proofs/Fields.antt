@@ -1,15 +1,16 @@
 -- What the fields of an arena say of its lists.
-use Rattle.std.proofs.Common.{IfSome, sym, ◌≡◌, ◌≢◌, ◌∙◌, ℕ, ◌+◌, ◌<◌, ◌≤◌, Bool, true, false, cond, eqb, inl, inr, Option, Some, None, List, [], ◌∷◌, length, get_or, refl, ap, arith}
+use Rattle.std.proofs.Common.{IfSome, sym, ◌≡◌, ◌≢◌, ◌∙◌, ℕ, ◌+◌, ◌<◌, ◌≤◌, Bool, true, false, cond, eqb, inl, inr, Option, Some, None, List, [], ◌∷◌, length, get_or, set, refl, ap, arith}
 use Rattle.std.proofs.lemmas.Bool.{eqb-true, lt-ltb, le-ltb}
 use Rattle.std.proofs.lemmas.List.{get_or_read}
 use Rattle.std.specs.Option.{is_some}
 use Rattle.iop_cblock.specs.declared.arena.Arena.TheInside.{Inside}
-use Rattle.iop_cblock.specs.Lists.{Lists, holds, head, behind, list_at, list_of, next_of, with_list, pushed_back, pushed_front, inserted_before, in_front}
+use Rattle.iop_cblock.specs.Lists.{Lists, holds, head, behind, list_at, list_of, next_of, with_list, pushed_back, pushed_front, inserted_before, in_front, unlinked}
 use Rattle.iop_cblock.specs.Links.{Links, links_of, next_at, previous_at, owner_at, Chain, AreOwned, IsRing, AreSound, linked_lists, node_at, put_at, IsInRing}
 use Rattle.iop_cblock.proofs.Rings.{IsIn, head-in, holds-tail}
 use Rattle.iop_cblock.proofs.Owners.{lacks_end, lacks_other}
 use Rattle.iop_cblock.proofs.Mapping.{map-one, in_front-lacks, in_front-put_at, put_at-lacks, put_at-first}
 use Rattle.iop_cblock.proofs.Standing.{StandFor, stand_for, owner-list_of}
+use Rattle.iop_cblock.proofs.Takes.{take-stands, before_below, behind_below}
 
 abbrev pub links : Inside → Links
 links a = links_of a.nodes a.next.items a.previous.items a.owner.items
@@ -85,7 +86,8 @@ module _ (t : Links) (s : Lists) (f : StandFor t s) where
       → is_some o ≡ false → owner_at t node ≡ None
   free-read node h o e none = free_by (owner_at t node) o (owner-read node h o e) none
 
-  module _ (node : ℕ) (node_below : node < s.nodes) (list : ℕ) (stands : list_of node s ≡ Some list) where
+  module _ (node : ℕ) (node_below : node < s.nodes) (list : ℕ)
+      (stands : list_of node s ≡ Some list) where
     owner-is : owner_at t node ≡ Some list
     owner-is = owner-list_of t s f node node_below ∙ stands
 
@@ -171,3 +173,35 @@ module _ (t : Links) (s : Lists) (f : StandFor t s) where
           put_at-first (next_at t) (previous_at t) node (t.nodes + list) (list_at list s)
               (t.nodes + list) ring.linked,
         ) refl
+
+-- what `unlink` reads of a node that is in a list, and what it leaves
+pub record IsTaken (a : Inside) (s : Lists) (node before behind : ℕ) : Type 0 where
+  pub before_below : before < length a.next.items
+  pub behind_below : behind < length a.previous.items
+  pub not_free : list_of node s ≡ None → ⊥
+  pub left : StandFor
+      (links_of a.nodes (set a.next.items before behind) (set a.previous.items behind before)
+      (set a.owner.items node None))
+      (unlinked node s)
+
+pub is_taken : (a : Inside) {s : Lists} {o : Option ℕ} {node before behind : ℕ}
+    → AreSound (links a) → linked_lists (links a) ≡ s → node < s.nodes
+    → o ≡ get_or a.owner.items node o → is_some o ≡ true
+    → before ≡ get_or a.previous.items node before → behind ≡ get_or a.next.items node behind
+    → IsTaken a s node before behind
+is_taken a {s} {o} {node} {before} {behind} sound view below owner some in_front in_back =
+    let t = links a in
+    let f = own a s sound view in
+    let listed = listed-read t s f node below o owner some in
+    record {
+      before_below =
+          before_below t.nodes t.next t.previous t.owner node s f below listed.0 listed.1 before
+          in_front;
+      behind_below =
+          behind_below t.nodes t.next t.previous t.owner node s f below listed.0 listed.1 behind
+          in_back;
+      not_free = listed_in t s f node below listed.0 listed.1;
+      left =
+          take-stands t.nodes t.next t.previous t.owner node s f below listed.0 listed.1 before
+          behind in_front in_back;
+    }

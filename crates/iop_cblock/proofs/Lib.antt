@@ -11,7 +11,7 @@ pub mod Disjoint
 pub mod Fresh
 pub mod Takes
 pub mod Fields
+pub mod Reading
 pub mod Undoing
 pub mod Placing
-pub mod Reading
 pub mod Keeping

@@ -1,9 +1,8 @@
 -- The list that each node of a ring names as its own.
-use Rattle.std.proofs.Common.{◌≡◌, ◌≢◌, ◌∙◌, ℕ, ◌+◌, ◌<◌, ◌≤◌, Bool, true, false, eqb, Option, Some, None, List, [], ◌∷◌, length, get_or, refl, sym, ap, arith}
+use Rattle.std.proofs.Common.{◌≡◌, ◌≢◌, ◌∙◌, ℕ, ◌+◌, ◌<◌, ◌≤◌, Bool, true, false, eqb, Option, Some, None, List, [], ◌∷◌, get_or, refl, sym, ap, arith}
 use Rattle.std.proofs.lemmas.Bool.{eqb-true, false_from_ne_true}
-use Rattle.std.proofs.lemmas.Bool.Decides.{nat_tests}
-use Rattle.std.proofs.lemmas.List.Sums.{position_or_len_is}
 use Rattle.std.specs.List.{position}
+use Rattle.iop_base.proofs.Searching.{position-at, position-none}
 use Rattle.iop_cblock.specs.Lists.{holds}
 use Rattle.iop_cblock.specs.Links.{Links, owner_at, AreOwned, IsRing, AreLinked}
 use Rattle.iop_cblock.proofs.Rings.{holds-tail, Misses}
@@ -47,20 +46,6 @@ misses_other t list p xs r ne =
       first = λ e. ne (ap (owner_at t) e ∙ r.end);
       others = lacks_other t list p xs r.owned ne;
     }
-
-module _ {X : Type 0} (p : X → Bool) (xs : List X) (d : X) where
-  pub position-at : (k : ℕ) → k < length xs → p (get_or xs k d) ≡ true
-      → ((j : ℕ) → j < k → p (get_or xs j d) ≡ false) → position p xs ≡ Some k
-  position-at k below here before =
-      let e = position_or_len_is p xs k d (omega arith) before (λ _. here) in
-      grind (arith, nat_tests, e)
-
-  pub position-none : ((j : ℕ) → j < length xs → p (get_or xs j d) ≡ false)
-      → position p xs ≡ None
-  position-none none =
-      let e = position_or_len_is p xs (length xs) d (omega arith) none
-      (λ h. absurd (omega arith)) in
-      grind (arith, nat_tests, e)
 
 owner_by : (t : Links) (lists : List (List ℕ)) → AreLinked t lists → (node : ℕ) → node < t.nodes
     → (o : Option ℕ) → owner_at t node ≡ o → o ≡ position (holds node) lists

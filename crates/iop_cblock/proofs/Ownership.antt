@@ -53,7 +53,8 @@ apart-without node (y ∷ ys) a =
 abbrev pub KeepsOwners : Links → Links → ℕ → Type 0
 KeepsOwners t t' node = (y : ℕ) → y ≢ node → owner_at t' y ≡ owner_at t y
 
-module _ (t t' : Links) (same : t'.nodes ≡ t.nodes) (node : ℕ) (kept : KeepsOwners t t' node) (list : ℕ) where
+module _ (t t' : Links) (same : t'.nodes ≡ t.nodes) (node : ℕ) (kept : KeepsOwners t t' node)
+    (list : ℕ) where
   pub owned-kept : (xs : List ℕ) → holds node xs ≡ false → AreOwned t list xs → AreOwned t' list xs
   owned-kept [] h o = tt
   owned-kept (y ∷ ys) h o = (
@@ -74,7 +75,8 @@ module _ (t t' : Links) (same : t'.nodes ≡ t.nodes) (node : ℕ) (kept : Keeps
   owned-without (y ∷ ys) o =
       owned_without_by (eqb node y) y ys refl o (owned-without ys o.2)
 
-module _ (t : Links) (list node place : ℕ) (below : node < t.nodes) (owner : owner_at t node ≡ Some list) where
+module _ (t : Links) (list node place : ℕ) (below : node < t.nodes)
+    (owner : owner_at t node ≡ Some list) where
   owned_put_by : (b : Bool) (y : ℕ) (ys : List ℕ) → AreOwned t list (y ∷ ys)
       → AreOwned t list (put_at node place ys)
       → AreOwned t list (cond b (node ∷ y ∷ ys) (y ∷ put_at node place ys))

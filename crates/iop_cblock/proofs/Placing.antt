@@ -1,14 +1,14 @@
 -- Where a node stands that was put into a list.
-use Rattle.std.proofs.Common.{◌≡◌, ◌≢◌, ◌∙◌, ℕ, ◌<◌, Bool, true, false, cond, eqb, Option, Some, None, List, [], ◌∷◌, ◌++◌, length, map, set, refl, sym, ap, arith, IsSome}
+use Rattle.std.proofs.Common.{◌≡◌, ◌∙◌, ℕ, ◌<◌, Bool, true, false, cond, eqb, Option, Some, None, List, [], ◌∷◌, ◌++◌, length, map, refl, sym, ap, arith, IsSome}
 use Rattle.std.proofs.lemmas.Bool.{ne_eqb, eq-eqb, eqb-true, or_right}
-use Rattle.std.proofs.lemmas.List.{length-set, length-map, get_or-map, get_or-set_same, get_or-set_other}
+use Rattle.std.proofs.lemmas.List.{length-map, get_or-map}
 use Rattle.std.proofs.lemmas.List.Quantifiers.{position-Some}
+use Rattle.iop_base.proofs.Searching.{position-at}
 use Rattle.iop_cblock.specs.Lists.{Lists, holds, head, behind, list_at, list_of, next_of, in_front, pushed_back, pushed_front, inserted_before}
 use Rattle.iop_cblock.specs.Laws.{IsPlaced}
 use Rattle.iop_cblock.proofs.Rings.{lacks-head, lacks-tail, holds-tail}
-use Rattle.iop_cblock.proofs.Owners.{position-at}
 use Rattle.iop_cblock.proofs.Mapping.{in_front-lacks}
-use Rattle.iop_cblock.proofs.Undoing.{lacks-free}
+use Rattle.iop_cblock.proofs.Reading.{lacks-free, list_at-same, list_of-with_list, next_of-at}
 
 holds-itself : (node : ℕ) (xs : List ℕ) → holds node (node ∷ xs) ≡ true
 holds-itself node xs = rw (eq-eqb node node refl) refl
@@ -52,33 +52,30 @@ is_in_front node other (y ∷ ys) l h =
     in_front_by (eqb other y) node other y ys refl l
     (is_in_front node other ys (lacks-tail node y ys l)) h
 
-next_of-at : (node k : ℕ) (s : Lists) → list_of node s ≡ Some k
-    → next_of node s ≡ behind node (list_at k s)
-next_of-at node k s e = rw e refl
-
 module _ (node : ℕ) (s : Lists) (free : list_of node s ≡ None) where
   back-list : (list : ℕ) → list < length s.lists
       → list_of node (pushed_back list node s) ≡ Some list
   back-list list h =
-      let ys = list_at list s ++ node ∷ [] in
-      position-at (holds node) (set s.lists list ys) [] list
-      (omega (arith, h, length-set s.lists list ys))
-      (rw (get_or-set_same s.lists list ys [] h) (holds-last node (list_at list s)))
-      (λ j b.
-      let ne : j ≢ list = omega arith in
-      rw (get_or-set_other s.lists list j ys [] ne) (lacks-free node s free j))
+      let xs = list_at list s in
+      list_of-with_list node s free list h (xs ++ node ∷ []) (holds-last node xs)
 
   back-next : (list : ℕ) → list < length s.lists
       → next_of node (pushed_back list node s) ≡ None
   back-next list h =
       let ys = list_at list s ++ node ∷ [] in
       next_of-at node list (pushed_back list node s) (back-list list h)
-      ∙ ap (behind node) (get_or-set_same s.lists list ys [] h)
+      ∙ ap (behind node) (list_at-same list ys s h)
       ∙ behind-last node (list_at list s) (lacks-free node s free list)
+
+  front-list : (list : ℕ) → list < length s.lists
+      → list_of node (pushed_front list node s) ≡ Some list
+  front-list list h =
+      let xs = list_at list s in
+      list_of-with_list node s free list h (node ∷ xs) (holds-itself node xs)
 
   front-first : (list : ℕ) → list < length s.lists
       → head (list_at list (pushed_front list node s)) ≡ Some node
-  front-first list h = ap head (get_or-set_same s.lists list (node ∷ list_at list s) [] h)
+  front-first list h = ap head (list_at-same list (node ∷ list_at list s) s h)
 
   module _ (other k : ℕ) (stands : list_of other s ≡ Some k) where
     found : (k < length s.lists) × (holds other (list_at k s) ≡ true)
@@ -117,6 +114,7 @@ module _ (node : ℕ) (s : Lists) (free : list_of node s ≡ None) where
       record {
         list = back-list;
         last = back-next;
+        front_list = front-list;
         first = front-first;
         before = λ other some. before-by other (list_of other s) refl some;
       }

@@ -56,17 +56,25 @@ module _ (nodes : ℕ) (next previous : List ℕ) (owner : List (Option ℕ)) (l
                     ∙ get_or-set_other previous place y node 0 p;
               };
           next_before =
-              get_or-set_other (set next before node) node before place 0 (apart before before_owner)
+              get_or-set_other (set next before node) node before place 0
+              (apart before before_owner)
               ∙ get_or-set_same next before node 0 (in_next old s own before list before_owner);
           next_node =
               get_or-set_same (set next before node) node place 0
               (omega (arith, node_below, length-set next before node, own.linked.next_length));
           previous_place =
-              get_or-set_other (set previous place node) node place before 0 (apart place place_owner)
-              ∙ get_or-set_same previous place node 0 (in_previous old s own place list place_owner);
+              get_or-set_other (set previous place node) node place before 0
+              (apart place place_owner)
+              ∙ get_or-set_same previous place node 0
+              (in_previous old s own place list place_owner);
           previous_node =
               get_or-set_same (set previous place node) node before 0
-              (omega (arith, node_below, length-set previous place node, own.linked.previous_length));
+              (omega (
+                arith,
+                node_below,
+                length-set previous place node,
+                own.linked.previous_length,
+              ));
         }
 
     new_owner : owner_at new node ≡ Some list
@@ -130,11 +138,15 @@ module _ (nodes : ℕ) (next previous : List ℕ) (owner : List (Option ℕ)) (l
         }
 
     pub place_below : place < length next × place < length previous
-    place_below = (in_next old s own place list place_owner, in_previous old s own place list place_owner)
+    place_below = (
+      in_next old s own place list place_owner,
+      in_previous old s own place list place_owner,
+    )
 
     pub before_below : (p : ℕ) → p ≡ get_or previous place p → p < length next
     before_below p e =
-        rw (get_or_read previous place p place_below.1 e 0) (in_next old s own before list before_owner)
+        rw (get_or_read previous place p place_below.1 e 0)
+        (in_next old s own before list before_owner)
 
     -- the same, with what was read of the place in front
     pub put-stands : (p : ℕ) → p ≡ get_or previous place p

@@ -1,13 +1,14 @@
 -- The lists as a caller reads them after a change.
-use Rattle.std.proofs.Common.{◌≡◌, ◌≢◌, ℕ, ◌<◌, ◌≤◌, true, false, cond, ltb, ◌⊎◌, inl, inr, ⊎_elim, zero, suc, Some, None, is_some, List, [], ◌∷◌, ◌++◌, length, map, refl, ap, sym, ◌∙◌, arith}
-use Rattle.std.specs.List.{position_or_len}
-use Rattle.std.proofs.lemmas.Bool.{cases_lt, eq-eqb, lt-ltb, le-ltb, false_from_ne_true}
+use Rattle.std.proofs.Common.{◌≡◌, ◌≢◌, ℕ, ◌<◌, Bool, true, false, ⊎_elim, zero, suc, Some, None, is_some, List, [], ◌∷◌, ◌++◌, length, map, refl, ap, sym, ◌∙◌, arith}
+use Rattle.std.specs.List.{position, position_or_len}
+use Rattle.std.proofs.lemmas.Bool.{cases_lt, eq-eqb, lt-ltb, false_from_ne_true}
 use Rattle.std.proofs.lemmas.Bool.Decides.{nat_tests}
-use Rattle.std.proofs.lemmas.List.{length-map, get_or_past, get_or-map, get_or-set_same, get_or-set_other}
-use Rattle.std.proofs.lemmas.List.Sums.{passes_at_first}
-use Rattle.iop_cblock.specs.Lists.{Lists, AreDisjoint, no_lists, holds, head, list_at, list_of, with_list, unlinked, without}
+use Rattle.std.proofs.lemmas.List.{length-map, length-set, get_or_past, get_or-map, get_or-set_same, get_or-set_other}
+use Rattle.std.proofs.lemmas.List.Quantifiers.{position-Some}
+use Rattle.std.proofs.lemmas.List.Sums.{fails_before_first}
+use Rattle.iop_base.proofs.Searching.{position-at, position-none}
+use Rattle.iop_cblock.specs.Lists.{Lists, AreDisjoint, no_lists, holds, head, behind, list_at, list_of, next_of, with_list, unlinked, without}
 use Rattle.iop_cblock.proofs.Changes.{without-lacks}
-use Rattle.iop_cblock.proofs.Owners.{position-none}
 
 -- the lists once one of them changes
 module _ (list : ℕ) (ys : List ℕ) (s : Lists) where
@@ -49,21 +50,41 @@ module _ (node list : ℕ) (s : Lists) (apart : AreDisjoint s) where
   unlinked-others here k other =
       list_at-unlinked node k s ∙ without-lacks node (list_at k s) (lacks-others here k other)
 
-holds_by : (node list n : ℕ) (s : Lists) → position_or_len (holds node) s.lists ≡ n
-    → cond (ltb n (length s.lists)) (Some n) None ≡ Some list → (n < length s.lists) ⊎ (length s.lists ≤ n)
-    → holds node (list_at list s) ≡ true
-holds_by node list n s e found (inl below) =
-    let is : Some n ≡ Some list = rw (lt-ltb n (length s.lists) below) at found in
-    let same : n ≡ list = cc in
-    rw (← same, ← e) (passes_at_first (holds node) s.lists [] (omega (arith, e, below)))
-holds_by node list n s e found (inr past) =
-    let is : None ≡ Some list = rw (le-ltb n (length s.lists) past) at found in cc
-
 pub holds-own : (node list : ℕ) (s : Lists) → list_of node s ≡ Some list
     → holds node (list_at list s) ≡ true
-holds-own node list s found =
-    let n = position_or_len (holds node) s.lists in
-    holds_by node list n s refl found (cases_lt n (length s.lists))
+holds-own node list s found = (position-Some (holds node) s.lists list [] found).1
+
+-- where no list has a node, each lacks it
+position-some : {X : Type 0} (p : X → Bool) (xs : List X) → position_or_len p xs < length xs
+    → position p xs ≡ Some (position_or_len p xs)
+position-some p xs h = rw (lt-ltb (position_or_len p xs) (length xs) h) refl
+
+pub lacks-free : (node : ℕ) (s : Lists) → list_of node s ≡ None → (list : ℕ)
+    → holds node (list_at list s) ≡ false
+lacks-free node s free list =
+    ⊎_elim
+    (λ h. ⊎_elim
+    (λ q. let some = position-some (holds node) s.lists q in cc)
+    (λ q. fails_before_first (holds node) s.lists list [] (omega (arith, q, h)))
+    (cases_lt (position_or_len (holds node) s.lists) (length s.lists)))
+    (λ h. rw (get_or_past s.lists list [] h) refl)
+    (cases_lt list (length s.lists))
+
+-- a node that no list has stands in the list that gets it
+pub list_of-with_list : (node : ℕ) (s : Lists) → list_of node s ≡ None → (list : ℕ)
+    → list < length s.lists → (ys : List ℕ) → holds node ys ≡ true
+    → list_of node (with_list list ys s) ≡ Some list
+list_of-with_list node s free list below ys held =
+    position-at (holds node) (with_list list ys s).lists [] list
+    (omega (arith, below, length-set s.lists list ys))
+    (ap (holds node) (list_at-same list ys s below) ∙ held)
+    (λ j before. ap (holds node) (list_at-other list ys s j (omega arith))
+    ∙ lacks-free node s free j)
+
+-- what is behind a node, where its list is known
+pub next_of-at : (node k : ℕ) (s : Lists) → list_of node s ≡ Some k
+    → next_of node s ≡ behind node (list_at k s)
+next_of-at node k s e = rw e refl
 
 pub head-push : (xs : List ℕ) (x : ℕ) → is_some (head (xs ++ x ∷ [])) ≡ true
 head-push [] x = refl

@@ -30,7 +30,8 @@ owner-below t place list e =
     (λ h. let none : owner_at t place ≡ None = get_or_past t.owner place None h in cc)
     (cases_lt place (length t.owner))
 
-module _ (t : Links) (s : Lists) (f : StandFor t s) (place list : ℕ) (is : owner_at t place ≡ Some list) where
+module _ (t : Links) (s : Lists) (f : StandFor t s) (place list : ℕ)
+    (is : owner_at t place ≡ Some list) where
   pub in_next : place < length t.next
   in_next =
       let inside = owner-below t place list is in

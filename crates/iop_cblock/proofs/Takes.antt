@@ -66,9 +66,11 @@ module _ (nodes : ℕ) (next previous : List ℕ) (owner : List (Option ℕ)) (n
                   next = λ y p w. get_or-set_other next before y behind 0 p;
                   previous = λ y p w. get_or-set_other previous behind y before 0 p;
                 };
-            next_before = get_or-set_same next before behind 0 (in_next old s own before list before_owner);
+            next_before =
+                get_or-set_same next before behind 0 (in_next old s own before list before_owner);
             previous_behind =
-                get_or-set_same previous behind before 0 (in_previous old s own behind list behind_owner);
+                get_or-set_same previous behind before 0
+                (in_previous old s own behind list behind_owner);
           }
 
       new_owner : owner_at new node ≡ None

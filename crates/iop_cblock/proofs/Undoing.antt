@@ -1,32 +1,15 @@
 -- A node that is put into a list and taken out again.
-use Rattle.std.proofs.Common.{◌≡◌, ◌∙◌, ℕ, ◌<◌, Bool, true, false, cond, not, eqb, ⊎_elim, Some, None, List, [], ◌∷◌, ◌++◌, length, map, get_or, refl, ap, arith}
-use Rattle.std.specs.List.{position, position_or_len}
-use Rattle.std.proofs.lemmas.Bool.{cases_lt, lt-ltb, ne_eqb, eq-eqb}
-use Rattle.std.proofs.lemmas.List.{append-nil, get_or_past, map-set, set-get_or}
+use Rattle.std.proofs.Common.{◌≡◌, ◌∙◌, ℕ, Bool, true, false, cond, not, eqb, None, List, [], ◌∷◌, ◌++◌, map, get_or, refl, ap}
+use Rattle.std.proofs.lemmas.Bool.{ne_eqb, eq-eqb}
+use Rattle.std.proofs.lemmas.List.{append-nil, map-set, set-get_or}
 use Rattle.std.proofs.lemmas.List.Elements.{filter-append}
-use Rattle.std.proofs.lemmas.List.Sums.{fails_before_first}
 use Rattle.std.proofs.lemmas.Simd.{map-map}
 use Rattle.iop_cblock.specs.Lists.{Lists, holds, list_at, list_of, without, in_front, inserted_before, unlinked, with_list}
 use Rattle.iop_cblock.specs.Laws.{IsUndone}
 use Rattle.iop_cblock.proofs.Rings.{lacks-head, lacks-tail}
 use Rattle.iop_cblock.proofs.Changes.{without-lacks}
 use Rattle.iop_cblock.proofs.Mapping.{map-none, in_front-lacks}
-
-position-some : {X : Type 0} (p : X → Bool) (xs : List X) → position_or_len p xs < length xs
-    → position p xs ≡ Some (position_or_len p xs)
-position-some p xs h = rw (lt-ltb (position_or_len p xs) (length xs) h) refl
-
--- where no list has a node, each lacks it
-pub lacks-free : (node : ℕ) (s : Lists) → list_of node s ≡ None → (list : ℕ)
-    → holds node (list_at list s) ≡ false
-lacks-free node s free list =
-    ⊎_elim
-    (λ h. ⊎_elim
-    (λ q. let some = position-some (holds node) s.lists q in cc)
-    (λ q. fails_before_first (holds node) s.lists list [] (omega (arith, q, h)))
-    (cases_lt (position_or_len (holds node) s.lists) (length s.lists)))
-    (λ h. rw (get_or_past s.lists list [] h) refl)
-    (cases_lt list (length s.lists))
+use Rattle.iop_cblock.proofs.Reading.{lacks-free}
 
 without-itself : (node : ℕ) (xs : List ℕ) → without node (node ∷ xs) ≡ without node xs
 without-itself node xs = rw (eq-eqb node node refl) refl

@@ -1,6 +1,6 @@
 -- What the laws of the lists say.
 use Rattle.std.specs.Prelude.{◌≡◌, ℕ, ◌<◌, length, Some, None, IsSome}
-use Rattle.iop_cblock.specs.Lists.{Lists, first_of, next_of, list_at, list_of, pushed_back, pushed_front, inserted_before, unlinked, without}
+use Rattle.iop_cblock.specs.Lists.{Lists, first_node, next_of, list_at, list_of, pushed_back, pushed_front, inserted_before, unlinked, without}
 
 -- a node that is put in and taken out leaves the lists as they were
 pub record IsUndone (node : ℕ) (s : Lists) : Type 0 where
@@ -15,8 +15,10 @@ UnlinkUndoes = (node : ℕ) (s : Lists) → list_of node s ≡ None → IsUndone
 pub record IsPlaced (node : ℕ) (s : Lists) : Type 0 where
   pub list : (list : ℕ) → list < length s.lists → list_of node (pushed_back list node s) ≡ Some list
   pub last : (list : ℕ) → list < length s.lists → next_of node (pushed_back list node s) ≡ None
+  pub front_list : (list : ℕ) → list < length s.lists
+      → list_of node (pushed_front list node s) ≡ Some list
   pub first : (list : ℕ) → list < length s.lists
-      → first_of list (pushed_front list node s) ≡ Some node
+      → first_node list (pushed_front list node s) ≡ Some node
   pub before : (other : ℕ) → IsSome (list_of other s)
       → next_of node (inserted_before node other s) ≡ Some other
 
@@ -32,4 +34,5 @@ pub record KeepsOthers (node : ℕ) (s : Lists) : Type 0 where
 
 pub record ChangesKeepOthers : Type 0 where
   pub put : (node : ℕ) (s : Lists) → list_of node s ≡ None → KeepsOthers node s
-  pub taken : (node : ℕ) (s : Lists) (k : ℕ) → list_at k (unlinked node s) ≡ without node (list_at k s)
+  pub taken : (node : ℕ) (s : Lists) (k : ℕ)
+      → list_at k (unlinked node s) ≡ without node (list_at k s)

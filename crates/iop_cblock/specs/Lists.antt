@@ -38,8 +38,8 @@ behind node [] = None
 behind node (x ∷ xs) = if node == x then head xs else behind node xs
 
 -- the first node of a list
-abbrev pub first_of : ℕ → Lists → Option ℕ
-first_of list s = head (list_at list s)
+abbrev pub first_node : ℕ → Lists → Option ℕ
+first_node list s = head (list_at list s)
 
 -- the list in which a node stands
 abbrev pub list_of : ℕ → Lists → Option ℕ

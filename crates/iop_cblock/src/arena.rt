@@ -1,5 +1,5 @@
 ghost use Rattle.std.specs.Prelude.{◌≡◌, ◌<◌, ◌+◌, length, IfOk, IfSome, None};
-ghost use Rattle.iop_cblock.specs.Lists.{AreDisjoint, list_of, next_of, first_of, no_lists, pushed_back, pushed_front, inserted_before, unlinked};
+ghost use Rattle.iop_cblock.specs.Lists.{AreDisjoint, list_of, next_of, first_node, no_lists, pushed_back, pushed_front, inserted_before, unlinked};
 ghost use Rattle.std.specs.List.{range_with_len};
 ghost use Rattle.iop_cblock.specs.Links.{node_at, put_in, first_owners, CanPut};
 
@@ -77,8 +77,8 @@ impl Arena {
         self.put(list, node, first);
     }
 
-    /// Puts a node, which is in no list, in front of `before`. Where that one is in no list, nothing
-    /// changes.
+    /// Puts a node, which is in no list, in front of `before`. Where that one is in no list,
+    /// nothing changes.
     pub fn insert_before(&mut self, node: u32, before: u32)
         requires node { node < self.old.nodes }
         requires free { list_of node self.old ≡ None }
@@ -127,7 +127,7 @@ impl Arena {
     /// Finds the first node of a list. None exactly where the list is empty.
     pub fn first(&self, list: u32) -> Option<u32>
         requires { list < length self.now.lists }
-        ensures node { result ≡ first_of list self.now }
+        ensures node { result ≡ first_node list self.now }
         ensures below { IfSome result (λ node. node < self.now.nodes) }
     {
         node_at(self.nodes, self.next[self.nodes as usize + list as usize])

@@ -9,8 +9,8 @@ pub fn unlink_undoes()
     ensures { UnlinkUndoes }
 {}
 
-/// A node that is pushed to the back is the last of its list, one that is pushed to the front is the
-/// first of it, and one that is put in front of another has that one behind it.
+/// A node that is pushed stands in its list: the last of it where it was pushed to the back, and
+/// the first of it where to the front. One that is put in front of another has that one behind it.
 pub fn pushes_place()
     ensures { PushesPlace }
 {}

@@ -1,6 +1,9 @@
 ghost use Rattle.std.specs.Prelude.{◌≡◌, ◌<◌, length};
+ghost use Rattle.iop_cblock_tests.specs.declared.tests.TheConstants.{NODES, LISTS};
 
 use iop_cblock::Arena;
+use std::alloc::{AllocError, Global};
+use std::marker::Model;
 use std::test::Fail;
 
 const NODES: u32 = 6;
@@ -16,58 +19,73 @@ enum Change {
     Unlink { node: u32 },
 }
 
-/// Puts a node at an end of a list, if the list and the node are there and the node is free.
-fn push(arena: &mut Arena, list: u32, node: u32, front: bool)
-    requires nodes { arena.old.nodes ≡ NODES }
-    requires lists { length arena.old.lists ≡ LISTS }
-    ensures nodes { arena.new.nodes ≡ NODES }
-    ensures lists { length arena.new.lists ≡ LISTS }
-{
-    if list < LISTS && node < NODES && arena.list_of(node).is_none() {
-        if front {
-            arena.push_front(list, node);
-        } else {
-            arena.push_back(list, node);
+/// Two lists, and six nodes that stand in them or in none.
+#[derive(Drop)]
+struct TwoLists {
+    arena: Arena,
+}
+
+impl Model for TwoLists {
+    ghost use Rattle.iop_cblock.specs.Lists.{Lists};
+
+    ghost Value = { Lists };
+
+    ghost view = { λ t. t.arena };
+
+    ghost use Rattle.std.specs.Prelude.{◌≡◌, length};
+    ghost use Rattle.iop_cblock_tests.specs.declared.tests.TheConstants.{NODES, LISTS};
+
+    ghost invariant = { λ t. (t.arena.nodes ≡ NODES) × (length t.arena.lists ≡ LISTS) };
+}
+
+impl TwoLists {
+    /// Makes the lists, which are empty.
+    fn new(alloc: Global) -> Result<Self, AllocError> {
+        let arena = Arena::new(alloc, NODES, LISTS)?;
+        Ok(TwoLists { arena })
+    }
+
+    /// Lends the arena in which they stand.
+    fn arena(&self) -> &Arena
+        ensures nodes { result.now.nodes ≡ NODES }
+        ensures lists { length result.now.lists ≡ LISTS }
+    {
+        &self.arena
+    }
+
+    /// Puts a node at an end of a list, if the list and the node are there and the node is free.
+    fn push(&mut self, list: u32, node: u32, front: bool) {
+        if list < LISTS && node < NODES && self.arena.list_of(node).is_none() {
+            if front {
+                self.arena.push_front(list, node);
+            } else {
+                self.arena.push_back(list, node);
+            }
         }
     }
-}
 
-/// Puts a node in front of another, if both are there and the one is free.
-fn insert(arena: &mut Arena, node: u32, before: u32)
-    requires nodes { arena.old.nodes ≡ NODES }
-    requires lists { length arena.old.lists ≡ LISTS }
-    ensures nodes { arena.new.nodes ≡ NODES }
-    ensures lists { length arena.new.lists ≡ LISTS }
-{
-    if node < NODES && before < NODES && arena.list_of(node).is_none() {
-        arena.insert_before(node, before);
+    /// Puts a node in front of another, if both are there and the one is free.
+    fn insert(&mut self, node: u32, before: u32) {
+        if node < NODES && before < NODES && self.arena.list_of(node).is_none() {
+            self.arena.insert_before(node, before);
+        }
     }
-}
 
-/// Takes a node out of its list, if the node is there.
-fn unlink(arena: &mut Arena, node: u32)
-    requires nodes { arena.old.nodes ≡ NODES }
-    requires lists { length arena.old.lists ≡ LISTS }
-    ensures nodes { arena.new.nodes ≡ NODES }
-    ensures lists { length arena.new.lists ≡ LISTS }
-{
-    if node < NODES {
-        arena.unlink(node);
+    /// Takes a node out of its list, if the node is there.
+    fn unlink(&mut self, node: u32) {
+        if node < NODES {
+            self.arena.unlink(node);
+        }
     }
-}
 
-/// Makes the change of a row.
-fn apply(arena: &mut Arena, change: Change)
-    requires nodes { arena.old.nodes ≡ NODES }
-    requires lists { length arena.old.lists ≡ LISTS }
-    ensures nodes { arena.new.nodes ≡ NODES }
-    ensures lists { length arena.new.lists ≡ LISTS }
-{
-    match change {
-        Change::PushBack { list, node } => push(arena, list, node, false),
-        Change::PushFront { list, node } => push(arena, list, node, true),
-        Change::InsertBefore { node, before } => insert(arena, node, before),
-        Change::Unlink { node } => unlink(arena, node),
+    /// Makes the change of a row.
+    fn apply(&mut self, change: Change) {
+        match change {
+            Change::PushBack { list, node } => self.push(list, node, false),
+            Change::PushFront { list, node } => self.push(list, node, true),
+            Change::InsertBefore { node, before } => self.insert(node, before),
+            Change::Unlink { node } => self.unlink(node),
+        }
     }
 }
 
@@ -94,8 +112,8 @@ fn next_digit(digits: u64, node: u32) -> u64 {
 
 #[test]
 fn lists_after_changes(rt: HostRuntime) -> Result<(), Fail> {
-    let mut arena = Arena::new(rt.alloc(), NODES, LISTS)?;
-    assert_eq!(rt; digits(&arena, 0), 0);
+    let mut lists = TwoLists::new(rt.alloc())?;
+    assert_eq!(rt; digits(lists.arena(), 0), 0);
     let rows = [
         (Change::PushBack { list: 0, node: 3 }, 3, 0),
         (Change::PushBack { list: 0, node: 4 }, 34, 0),
@@ -113,29 +131,29 @@ fn lists_after_changes(rt: HostRuntime) -> Result<(), Fail> {
         (Change::PushBack { list: 0, node: 4 }, 4, 512),
     ];
     for (row, first, second) in rows {
-        apply(&mut arena, row);
-        assert_eq!(rt; digits(&arena, 0), first);
-        assert_eq!(rt; digits(&arena, 1), second);
+        lists.apply(row);
+        assert_eq!(rt; digits(lists.arena(), 0), first);
+        assert_eq!(rt; digits(lists.arena(), 1), second);
     }
     Ok(())
 }
 
 #[test]
 fn lists_of_nodes(rt: HostRuntime) -> Result<(), Fail> {
-    let mut arena = Arena::new(rt.alloc(), NODES, LISTS)?;
-    apply(&mut arena, Change::PushBack { list: 1, node: 4 });
-    apply(&mut arena, Change::InsertBefore { node: 0, before: 4 });
-    apply(&mut arena, Change::PushFront { list: 0, node: 5 });
-    assert_eq!(rt; arena.list_of(4), Some(1));
-    assert_eq!(rt; arena.list_of(0), Some(1));
-    assert_eq!(rt; arena.list_of(5), Some(0));
-    assert_eq!(rt; arena.list_of(1), None);
-    assert_eq!(rt; arena.first(1), Some(0));
-    assert_eq!(rt; arena.next(0), Some(4));
-    assert_eq!(rt; arena.next(4), None);
-    assert_eq!(rt; arena.next(1), None);
-    apply(&mut arena, Change::Unlink { node: 4 });
-    assert_eq!(rt; arena.list_of(4), None);
-    assert_eq!(rt; arena.next(0), None);
+    let mut lists = TwoLists::new(rt.alloc())?;
+    lists.apply(Change::PushBack { list: 1, node: 4 });
+    lists.apply(Change::InsertBefore { node: 0, before: 4 });
+    lists.apply(Change::PushFront { list: 0, node: 5 });
+    assert_eq!(rt; lists.arena().list_of(4), Some(1));
+    assert_eq!(rt; lists.arena().list_of(0), Some(1));
+    assert_eq!(rt; lists.arena().list_of(5), Some(0));
+    assert_eq!(rt; lists.arena().list_of(1), None);
+    assert_eq!(rt; lists.arena().first(1), Some(0));
+    assert_eq!(rt; lists.arena().next(0), Some(4));
+    assert_eq!(rt; lists.arena().next(4), None);
+    assert_eq!(rt; lists.arena().next(1), None);
+    lists.apply(Change::Unlink { node: 4 });
+    assert_eq!(rt; lists.arena().list_of(4), None);
+    assert_eq!(rt; lists.arena().next(0), None);
     Ok(())
 }

@@ -5,13 +5,12 @@ use Rattle.std.proofs.Math.ListN.{set, length-set}
 use Rattle.std.proofs.lemmas.List.{get_or-set_same, get_or-set_other}
 use Rattle.std.proofs.lemmas.Option.{slice_get-get_or}
 use Rattle.std.proofs.lemmas.Bool.{lt-ltb, le-ltb, eq-eqb, ne_eqb, and_parts}
+use Rattle.iop_base.specs.Bits.{has, ChangesOnly}
 use Rattle.iop_base.specs.declared.code.Code.{Code}
 use Rattle.iop_base.specs.declared.code.TheConstants.Code.{OK, ILLEGAL_INTERRUPT, LINE_DISABLED, HANDLER_FOUND, HANDLER_NOT_FOUND}
 use Rattle.iop_intr.specs.InterruptLines.{IrqLine, line_of, on_line, is_ready, is_deliverable, register_line, release_line, enable_line, disable_line, registering, releasing, enabling, disabling, raising, delivering, finished, finishing}
-use Rattle.iop_intr.specs.LineSets.{has, ChangesOnly}
 use Rattle.iop_intr.specs.LineViews.{line_in, lines_in}
 use Rattle.iop_intr.specs.declared.handler.Handler.{Handler}
-use Rattle.iop_intr.specs.declared.line_set.LineSet.{LineSet}
 use Rattle.iop_intr.specs.declared.irqs.TheConstants.{IRQ_LINES}
 use Rattle.iop_intr.specs.declared.irqs.Irqs.TheInside.{Inside}
 use Rattle.iop_intr.proofs.Views.{same_line, line_is, set_is, unchanged}
@@ -59,7 +58,7 @@ module _ (a : Inside) {lines : List IrqLine} (view : lines_in a ≡ lines) (n : 
   is_enabled = ap (λ (l : IrqLine). l.enabled) (line_is a view n below)
 
   -- one that changes the set of those that are enabled, or raised
-  with_enabled : (enabled : LineSet) (is_in : Bool) → ChangesOnly a.enabled enabled n is_in →
+  with_enabled : (enabled : ℕ) (is_in : Bool) → ChangesOnly a.enabled enabled n is_in →
       lines_in (record a { enabled = enabled })
       ≡ set lines n (record (line_of lines n) { enabled = is_in })
   with_enabled enabled is_in change =
@@ -67,34 +66,34 @@ module _ (a : Inside) {lines : List IrqLine} (view : lines_in a ≡ lines) (n : 
       (record (line_of lines n) { enabled = is_in })
       (same_line _ _ _ _ _ _ (ap (λ (l : IrqLine). l.raised) here) change.changed
       (ap (λ (l : IrqLine). l.handler) here))
-      (λ i h other. same_line _ _ _ _ _ _ refl (change.others i h other) refl)
+      (λ i h other. same_line _ _ _ _ _ _ refl (change.others i other) refl)
     where
       here : line_in a n ≡ line_of lines n
       here = sym (line_is a view n below)
 
-  pub raises : (raised : LineSet) → ChangesOnly a.raised raised n true →
+  pub raises : (raised : ℕ) → ChangesOnly a.raised raised n true →
       lines_in (record a { raised = raised }) ≡ raising lines n
   raises raised change =
       set_is a view n below (record a { raised = raised }) _
       (same_line _ _ _ _ _ _ change.changed (ap (λ (l : IrqLine). l.enabled) here)
       (ap (λ (l : IrqLine). l.handler) here))
-      (λ i h other. same_line _ _ _ _ _ _ (change.others i h other) refl refl)
+      (λ i h other. same_line _ _ _ _ _ _ (change.others i other) refl refl)
     where
       here : line_in a n ≡ line_of lines n
       here = sym (line_is a view n below)
 
-  pub delivers : (raised enabled : LineSet) → ChangesOnly a.raised raised n false →
+  pub delivers : (raised enabled : ℕ) → ChangesOnly a.raised raised n false →
       ChangesOnly a.enabled enabled n false →
       lines_in (record a { raised = raised; enabled = enabled }) ≡ delivering lines n
   delivers raised enabled lowered disabled =
       set_is a view n below (record a { raised = raised; enabled = enabled }) _
       (same_line _ _ _ _ _ _ lowered.changed disabled.changed
       (ap (λ (l : IrqLine). l.handler) (sym (line_is a view n below))))
-      (λ i h other. same_line _ _ _ _ _ _ (lowered.others i h other) (disabled.others i h other)
+      (λ i h other. same_line _ _ _ _ _ _ (lowered.others i other) (disabled.others i other)
       refl)
 
   -- what a handler that gave 0, or another value, leaves
-  pub finishes_disabled : (enabled : LineSet) (value : ℕ) → value ≡ 0 →
+  pub finishes_disabled : (enabled : ℕ) (value : ℕ) → value ≡ 0 →
       ChangesOnly a.enabled enabled n false →
       lines_in (record a { enabled = enabled }) ≡ finishing lines n value
   finishes_disabled enabled value none change =
@@ -122,7 +121,7 @@ module _ (a : Inside) {lines : List IrqLine} (view : lines_in a ≡ lines) (n : 
         by_bit true found = rw (has_one size no_handler found, found) refl
         by_bit false none = rw (has_none none, none) refl
 
-    pub finishes_enabled : (enabled : LineSet) (value : ℕ) → value ≢ 0 → has a.handled n ≡ true →
+    pub finishes_enabled : (enabled : ℕ) (value : ℕ) → value ≢ 0 → has a.handled n ≡ true →
         ChangesOnly a.enabled enabled n true →
         lines_in (record a { enabled = enabled }) ≡ finishing lines n value
     finishes_enabled enabled value some found change =
@@ -146,7 +145,7 @@ module _ (a : Inside) {lines : List IrqLine} (view : lines_in a ≡ lines) (n : 
     its_handler_is deliverable d =
         has_one size d (and_parts _ _ (sym is_deliverable_is ∙ deliverable)).1
 
-  pub enables : (enabled : LineSet) → ChangesOnly a.enabled enabled n true →
+  pub enables : (enabled : ℕ) → ChangesOnly a.enabled enabled n true →
       (OK, lines_in (record a { enabled = enabled })) ≡ enabling lines n
   enables enabled change =
       ap (λ (xs : List IrqLine). (OK, xs)) (with_enabled enabled true change)
@@ -155,7 +154,7 @@ module _ (a : Inside) {lines : List IrqLine} (view : lines_in a ≡ lines) (n : 
   pub is_disabled : has a.enabled n ≡ false → (LINE_DISABLED, lines) ≡ disabling lines n
   is_disabled disabled = sym (keeps disable_line LINE_DISABLED (rw (is_enabled, disabled) refl))
 
-  pub disables : (enabled : LineSet) → has a.enabled n ≡ true →
+  pub disables : (enabled : ℕ) → has a.enabled n ≡ true →
       ChangesOnly a.enabled enabled n false →
       (OK, lines_in (record a { enabled = enabled })) ≡ disabling lines n
   disables enabled was change =
@@ -165,7 +164,7 @@ module _ (a : Inside) {lines : List IrqLine} (view : lines_in a ≡ lines) (n : 
   pub is_not_found : has a.handled n ≡ false → (HANDLER_NOT_FOUND, lines) ≡ releasing lines n
   is_not_found none = sym (keeps release_line HANDLER_NOT_FOUND (rw (has_none none) refl))
 
-  module _ (handled : LineSet) (h : Handler) (size : length a.handlers ≡ IRQ_LINES)
+  module _ (handled : ℕ) (h : Handler) (size : length a.handlers ≡ IRQ_LINES)
       (change : ChangesOnly a.handled handled n true) where
     abbrev registered : Inside
     registered = record a { handled = handled; handlers = set a.handlers n h }
@@ -183,7 +182,7 @@ module _ (a : Inside) {lines : List IrqLine} (view : lines_in a ≡ lines) (n : 
         slice_get-get_or (set a.handlers n h) i h (omega (arith, length-set a.handlers n h))
         ∙ ap Some (get_or-set_other a.handlers n i h h other)
         ∙ sym (slice_get-get_or a.handlers i h (omega arith)) in
-        rw (change.others i below other, same) refl
+        rw (change.others i other, same) refl
 
     pub registers : has a.handled n ≡ false → (OK, lines_in registered) ≡ registering lines n h
     registers none =
@@ -203,7 +202,7 @@ module _ (a : Inside) {lines : List IrqLine} (view : lines_in a ≡ lines) (n : 
     is_found h =
         sym (keeps (register_line h) HANDLER_FOUND (rw (has_one size no_handler found) refl))
 
-    pub releases : (handled enabled : LineSet) → ChangesOnly a.handled handled n false →
+    pub releases : (handled enabled : ℕ) → ChangesOnly a.handled handled n false →
         ChangesOnly a.enabled enabled n false →
         (OK, lines_in (record a { handled = handled; enabled = enabled })) ≡ releasing lines n
     releases handled enabled taken disabled =
@@ -212,7 +211,7 @@ module _ (a : Inside) {lines : List IrqLine} (view : lines_in a ≡ lines) (n : 
         (record (line_of lines n) { enabled = false; handler = None })
         (same_line _ _ _ _ _ _ (ap (λ (l : IrqLine). l.raised) (sym (line_is a view n below)))
         disabled.changed (rw taken.changed refl))
-        (λ i h other. same_line _ _ _ _ _ _ refl (disabled.others i h other)
-        (rw (taken.others i h other) refl)))
+        (λ i h other. same_line _ _ _ _ _ _ refl (disabled.others i other)
+        (rw (taken.others i other) refl)))
         ∙ sym (sets release_line OK (record (line_of lines n) { enabled = false; handler = None })
         (rw (has_one size no_handler found) refl))

@@ -1,34 +1,18 @@
 -- The lowest line that can be delivered.
-use Rattle.std.proofs.Common.{◌≡◌, ℕ, ◌<◌, Bool, true, false, ◌&&◌, Option, None, Some, IfSome, MatchOption, List, length, get_or, replicate, refl, sym, subst, ◌∙◌, arith}
-use Rattle.std.specs.List.{position}
+use Rattle.std.proofs.Common.{◌≡◌, ℕ, ◌<◌, false, ◌&&◌, Option, None, Some, IfSome, MatchOption, List, length, replicate, refl, sym, subst, ◌∙◌, arith}
 use Rattle.std.proofs.lemmas.List.{same_lists, get_or-replicate, length-replicate}
-use Rattle.std.proofs.lemmas.List.Sums.{position_or_len_is}
-use Rattle.std.proofs.lemmas.Bool.{lt-ltb, le-ltb}
+use Rattle.iop_base.specs.Bits.{has, IsLeast}
+use Rattle.iop_base.proofs.Searching.{position-at, position-none}
 use Rattle.iop_intr.specs.InterruptLines.{IrqLine, idle, line_of, is_deliverable, deliverable, IsDeliverable}
-use Rattle.iop_intr.specs.LineSets.{has, IsFirst}
 use Rattle.iop_intr.specs.LineViews.{lines_in}
-use Rattle.iop_intr.specs.declared.line_set.LineSet.{LineSet}
 use Rattle.iop_intr.specs.declared.irqs.TheConstants.{IRQ_LINES}
 use Rattle.iop_intr.specs.declared.irqs.Irqs.TheInside.{Inside}
 use Rattle.iop_intr.proofs.Views.{same_line, length-lines_in, get_or-lines_in}
 use Rattle.iop_intr.proofs.Calls.{is_deliverable_is}
 
-module _ {X : Type 0} (p : X → Bool) (xs : List X) (d : X) where
-  pub first_passes : (i : ℕ) → i < length xs → p (get_or xs i d) ≡ true →
-      ((k : ℕ) → k < i → p (get_or xs k d) ≡ false) → position p xs ≡ Some i
-  first_passes i within passes before =
-      let place = position_or_len_is p xs i d (omega arith) before (λ _. passes) in
-      rw (place, lt-ltb i (length xs) within) refl
-
-  pub none_passes : ((k : ℕ) → k < length xs → p (get_or xs k d) ≡ false) → position p xs ≡ None
-  none_passes none =
-      let place = position_or_len_is p xs (length xs) d (omega arith) none
-      (λ h. absurd (omega arith)) in
-      rw (place, le-ltb (length xs) (length xs) (omega arith)) refl
-
 -- all : the set of those that are raised, enabled and have a handler
 module _ (a : Inside) {lines : List IrqLine} (view : lines_in a ≡ lines)
-    (size : length a.handlers ≡ IRQ_LINES) (all : LineSet)
+    (size : length a.handlers ≡ IRQ_LINES) (all : ℕ)
     (all_are : (n : ℕ) → has all n ≡ (has a.raised n && has a.enabled n && has a.handled n)) where
   passes_is : (n : ℕ) → n < IRQ_LINES → is_deliverable (line_of lines n) ≡ has all n
   passes_is n below = is_deliverable_is a view n below size ∙ sym (all_are n)
@@ -37,24 +21,23 @@ module _ (a : Inside) {lines : List IrqLine} (view : lines_in a ≡ lines)
   count = subst (λ (xs : List IrqLine). length xs ≡ IRQ_LINES) view (length-lines_in a)
 
   pub deliverable_is : (found : Option ℕ) →
-      MatchOption found ((n : ℕ) → n < IRQ_LINES → has all n ≡ false) (IsFirst all) →
-      found ≡ deliverable lines
-  deliverable_is None none =
-      sym (none_passes is_deliverable lines idle
-      (λ k h. let below : k < IRQ_LINES = omega (arith, count) in passes_is k below ∙ none k below))
-  deliverable_is (Some n) first =
-      let below = first.below in
-      sym (first_passes is_deliverable lines idle n (omega (arith, count))
-      (passes_is n below ∙ first.in_set)
-      (λ k h. passes_is k (omega arith) ∙ first.lowest k h))
+      MatchOption found ((n : ℕ) → has all n ≡ false) (IsLeast all) →
+      IfSome found (λ n. n < IRQ_LINES) → found ≡ deliverable lines
+  deliverable_is None none below =
+      sym (position-none is_deliverable lines idle
+      (λ k h. passes_is k (omega (arith, count)) ∙ none k))
+  deliverable_is (Some n) least below =
+      sym (position-at is_deliverable lines idle n (omega (arith, below, count))
+      (passes_is n below ∙ least.in_set)
+      (λ k h. passes_is k (omega (arith, below)) ∙ least.lower k h))
 
   pub found_is : (found : Option ℕ) →
-      MatchOption found ((n : ℕ) → n < IRQ_LINES → has all n ≡ false) (IsFirst all) →
-      IfSome found (IsDeliverable lines)
-  found_is None none = tt
-  found_is (Some n) first = record {
-    below = first.below;
-    is = passes_is n first.below ∙ first.in_set;
+      MatchOption found ((n : ℕ) → has all n ≡ false) (IsLeast all) →
+      IfSome found (λ n. n < IRQ_LINES) → IfSome found (IsDeliverable lines)
+  found_is None none below = tt
+  found_is (Some n) least below = record {
+    below = below;
+    is = passes_is n below ∙ least.in_set;
   }
 
 pub all_idle : (a : Inside) → ((n : ℕ) → has a.raised n ≡ false) →

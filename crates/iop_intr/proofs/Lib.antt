@@ -1,4 +1,3 @@
-pub mod Sets
 pub mod Views
 pub mod Calls
 pub mod Changing

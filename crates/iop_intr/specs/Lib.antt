@@ -1,4 +1,3 @@
 pub mod InterruptLines
-pub mod LineSets
 pub mod LineViews
 pub mod Laws

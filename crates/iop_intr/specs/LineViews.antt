@@ -1,8 +1,8 @@
 -- How the program's sets of lines and its table of handlers stand for the lines.
 use Rattle.std.specs.Prelude.{ℕ, if◌then◌else◌, None, List, map}
 use Rattle.std.specs.List.{slice_get, range_with_len}
+use Rattle.iop_base.specs.Bits.{has}
 use Rattle.iop_intr.specs.InterruptLines.{IrqLine}
-use Rattle.iop_intr.specs.LineSets.{has}
 use Rattle.iop_intr.specs.declared.irqs.TheConstants.{IRQ_LINES}
 use Rattle.iop_intr.specs.declared.irqs.Irqs.TheInside.{Inside}
 

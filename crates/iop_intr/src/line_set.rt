@@ -1,12 +1,24 @@
-ghost use Rattle.std.specs.Prelude.{◌≡◌, ℕ, ◌<◌, ◌&&◌, true, false, MatchOption};
-ghost use Rattle.iop_intr.specs.LineSets.{has, ChangesOnly, IsFirst};
+ghost use Rattle.std.specs.Prelude.{◌≡◌, ℕ, ◌<◌, ◌&&◌, true, false, IfSome, MatchOption};
+ghost use Rattle.iop_base.specs.Bits.{has, ChangesOnly, IsLeast};
 ghost use Rattle.iop_intr.specs.declared.irqs.TheConstants.{IRQ_LINES};
+
+use std::marker::Model;
 
 /// A set of interrupt lines.
 #[derive(Clone, Copy, Debug)]
 pub(crate) struct LineSet {
     /// Bit n is 1 where line n is in the set.
     bits: u64,
+}
+
+impl Model for LineSet {
+    ghost use Rattle.std.specs.Prelude.{ℕ};
+
+    ghost Value = { ℕ };
+
+    ghost view = { λ s. s.bits };
+
+    ghost inverse = { λ bits. record { bits = bits } };
 }
 
 impl LineSet {
@@ -52,8 +64,8 @@ impl LineSet {
 
     /// Finds the lowest line of the set. None where it has none.
     pub(crate) fn first(self) -> Option<u8>
-        ensures { MatchOption result ((n : ℕ) → n < IRQ_LINES → has self n ≡ false)
-            (IsFirst self) }
+        ensures lowest { MatchOption result ((n : ℕ) → has self n ≡ false) (IsLeast self) }
+        ensures below { IfSome result (λ n. n < IRQ_LINES) }
     {
         if self.bits == 0 {
             return None;

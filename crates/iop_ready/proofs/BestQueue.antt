@@ -3,11 +3,11 @@ use Rattle.std.proofs.Common.{◌≡◌, ℕ, ◌+◌, ◌-◌, ◌<◌, Bool, t
 use Rattle.std.specs.Prelude.{◌==◌}
 use Rattle.std.specs.List.{find}
 use Rattle.std.proofs.lemmas.Bool.{cases_lt, false_from_ne_true}
+use Rattle.iop_base.specs.Bits.{has, IsLeast}
+use Rattle.iop_base.specs.Choosing.{better}
 use Rattle.iop_ready.specs.declared.entry.Entry.{Entry}
 use Rattle.iop_ready.specs.declared.priority.TheConstants.{LOWEST_PRIORITY}
-use Rattle.iop_ready.specs.Priorities.{IsPriority}
-use Rattle.iop_ready.specs.PrioritySets.{has, ArePriorities, IsBestOf}
-use Rattle.iop_base.specs.Choosing.{better}
+use Rattle.iop_ready.specs.Priorities.{IsPriority, ArePriorities}
 use Rattle.iop_ready.specs.Queues.{Queues, first_in, AreBits, AreSound, Hold}
 use Rattle.iop_ready.specs.ReadyList.{first_of, best_of, best_slot}
 use Rattle.iop_ready.proofs.Lists.{find-filter, IfSome-find}
@@ -64,10 +64,10 @@ module _ (q : Queues) (sound : AreSound q) (x : Entry) (xs : List Entry)
   best-bit : has q.bits best_one.priority ≡ true
   best-bit = bit_of q sound (x ∷ xs) hold best_one.priority best_can ∙ ap is_some is_best.here
 
-  best-is : (p : ℕ) → IsPriority p → IsBestOf q.bits p → first_in q.arena p ≡ best_slot (x ∷ xs)
+  best-is : (p : ℕ) → IsPriority p → IsLeast q.bits p → first_in q.arena p ≡ best_slot (x ∷ xs)
   best-is p can best =
       let not_less : best_one.priority < p → ⊥ =
-      λ less. let clear = best.least best_one.priority less in let set = best-bit in cc in
+      λ less. let clear = best.lower best_one.priority less in let set = best-bit in cc in
       let not_more : p < best_one.priority → ⊥ =
       λ more. let none = is_best.none p more in
       let clear : has q.bits p ≡ false =
@@ -87,7 +87,7 @@ best_of_none q sound (x ∷ xs) hold none =
     cc
 
 pub best_of_some : (q : Queues) → AreSound q → (xs : List Entry) → Hold q xs → (p : ℕ)
-    → IsPriority p → IsBestOf q.bits p → first_in q.arena p ≡ best_slot xs
+    → IsPriority p → IsLeast q.bits p → first_in q.arena p ≡ best_slot xs
 best_of_some q sound [] hold p can best =
     let clear = bit_of q sound [] hold p can in let set = best.in_set in cc
 best_of_some q sound (x ∷ xs) hold p can best = best-is q sound x xs hold p can best

@@ -2,10 +2,10 @@
 use Rattle.std.proofs.Common.{◌≡◌, ◌≢◌, ℕ, ◌+◌, ◌<◌, Bool, true, false, ◌⊎◌, inl, inr, is_some, List, [], ◌∷◌, ◌++◌, length, refl, ap, sym, ◌∙◌, arith}
 use Rattle.std.proofs.lemmas.Bool.{cases_eq}
 use Rattle.std.proofs.lemmas.List.{length-set, length-map, length-replicate}
-use Rattle.iop_cblock.specs.Lists.{Lists, AreDisjoint, no_lists, holds, head, list_at, pushed_back, pushed_front, unlinked, first_of as first_node, without as without_node}
+use Rattle.iop_base.specs.Bits.{has, ChangesOnly}
+use Rattle.iop_cblock.specs.Lists.{Lists, AreDisjoint, no_lists, holds, head, list_at, pushed_back, pushed_front, unlinked, first_node, without as without_node}
 use Rattle.iop_ready.specs.declared.priority.TheConstants.{LOWEST_PRIORITY}
 use Rattle.iop_ready.specs.declared.slot.TheConstants.{MOST_THREADS}
-use Rattle.iop_ready.specs.PrioritySets.{has, ChangesOnly}
 use Rattle.iop_ready.specs.Queues.{Queues, queues_of, AreFilled, AreSound}
 use Rattle.iop_cblock.proofs.Reading.{list_at-same, list_at-other, unlinked-others, head-push, head-held, empty_at}
 
@@ -17,7 +17,7 @@ module _ (bits : ℕ) (s s' : Lists) (filled : AreFilled bits s) (list : ℕ)
       → (k ≡ list) ⊎ (k ≢ list) → has bits' (k + 1) ≡ is_some (first_node k s')
   filled_at bits' b change here k below (inl same) = rw same (change.changed ∙ sym here)
   filled_at bits' b change here k below (inr other) =
-      change.others (k + 1) (omega arith, omega (arith, below)) (λ e. other (omega (arith, e)))
+      change.others (k + 1) (λ e. other (omega (arith, e)))
       ∙ filled k below ∙ ap (λ ys. is_some (head ys)) (sym (others k other))
 
   pub filled-changed : (bits' : ℕ) (b : Bool) → ChangesOnly bits bits' (list + 1) b
@@ -85,7 +85,8 @@ module _ (q : Queues) (sound : AreSound q) (slot list : ℕ) (below : list < LOW
     count : length (unlinked slot q.arena).lists ≡ LOWEST_PRIORITY
     count = length-map q.arena.lists (without_node slot) ∙ sound.lists
 
-    module _ (arena : Lists) (is : arena ≡ unlinked slot q.arena) (disjoint : AreDisjoint arena) where
+    module _ (arena : Lists) (is : arena ≡ unlinked slot q.arena)
+        (disjoint : AreDisjoint arena) where
       taken : (k : ℕ) → k ≢ list → list_at k arena ≡ list_at k q.arena
       taken k other = rw is (others k other)
 
@@ -96,7 +97,8 @@ module _ (q : Queues) (sound : AreSound q) (slot list : ℕ) (below : list < LOW
         nodes = rw is sound.nodes;
         lists = rw is count;
         disjoint = disjoint;
-        filled = filled-changed q.bits q.arena arena sound.filled list taken bits false change empty;
+        filled =
+            filled-changed q.bits q.arena arena sound.filled list taken bits false change empty;
       }
 
       pub sound-left : is_some (first_node list arena) ≡ true

@@ -5,11 +5,11 @@ use Rattle.std.specs.List.{All}
 use Rattle.std.proofs.lemmas.Bool.{cases_eq, eqb-true, ne_eqb}
 use Rattle.std.proofs.lemmas.List.{append-nil, length-map}
 use Rattle.std.proofs.lemmas.List.Elements.{All-nil, All-cons, All-head, All-tail, All-filter}
-use Rattle.iop_cblock.specs.Lists.{Lists, no_lists, holds, head, list_at, list_of, pushed_back, pushed_front, unlinked, first_of as first_node, without as without_node}
+use Rattle.iop_cblock.specs.Lists.{Lists, no_lists, holds, head, list_at, list_of, pushed_back, pushed_front, unlinked, first_node, without as without_node}
+use Rattle.iop_base.proofs.Searching.{position-none}
 use Rattle.iop_cblock.proofs.Changes.{without-lacks}
+use Rattle.iop_cblock.proofs.Reading.{lacks-free, list_at-same, list_at-other, list_at-unlinked, empty_at}
 use Rattle.iop_cblock.proofs.Rings.{lacks-head, lacks-tail, lacks-cons}
-use Rattle.iop_cblock.proofs.Owners.{position-none}
-use Rattle.iop_cblock.proofs.Undoing.{lacks-free}
 use Rattle.iop_ready.specs.declared.entry.Entry.{Entry}
 use Rattle.iop_ready.specs.declared.priority.TheConstants.{LOWEST_PRIORITY}
 use Rattle.iop_ready.specs.declared.slot.TheConstants.{MOST_THREADS}
@@ -18,7 +18,6 @@ use Rattle.iop_ready.specs.Queues.{Queues, queues_of, slots_of, AreQueues, AreSo
 use Rattle.iop_ready.specs.ReadyList.{CanEnter, HasNot, IsReadyList, entry_of, of_priority, first_of, without, moved_last, rotated, StandsFor}
 use Rattle.iop_ready.proofs.Lists.{IfSome-find}
 use Rattle.iop_ready.proofs.Agreeing.{All-each_priority, stands_itself, stands_rotated, sound_first, sound_last, sound_without}
-use Rattle.iop_cblock.proofs.Reading.{list_at-same, list_at-other, list_at-unlinked, empty_at}
 use Rattle.iop_ready.proofs.Slots.{slots_of-append, slots_of-same, slots_of-other, slots_of-without, head-slots, same_from_slots}
 
 -- the queues of the lists, once a thread is put in or taken out
@@ -73,7 +72,8 @@ lacks-slots : (slot : ℕ) (xs : List Entry) → holds slot (map (λ e. e.slot) 
     → All (λ e. e.slot ≢ slot) xs
 lacks-slots slot [] h = All-nil (λ e. e.slot ≢ slot)
 lacks-slots slot (x ∷ xs) h =
-    All-cons (λ e. e.slot ≢ slot) x xs (λ e. lacks-head slot x.slot (map (λ e. e.slot) xs) h (sym e))
+    All-cons (λ e. e.slot ≢ slot) x xs
+    (λ e. lacks-head slot x.slot (map (λ e. e.slot) xs) h (sym e))
     (lacks-slots slot xs (lacks-tail slot x.slot (map (λ e. e.slot) xs) h))
 
 has_not-slots : (slot : ℕ) (xs : List Entry) → All (λ e. e.slot ≢ slot) xs

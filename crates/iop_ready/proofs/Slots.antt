@@ -64,7 +64,8 @@ same_by_slots p (x ∷ xs) (y ∷ ys) all other same =
     let slots_are : map (λ e. e.slot) xs ≡ map (λ e. e.slot) ys = cc in
     let priority_is : x.priority ≡ y.priority =
     All-head is_of x xs all ∙ sym (All-head is_of y ys other) in
-    let rest = same_by_slots p xs ys (All-tail is_of x xs all) (All-tail is_of y ys other) slots_are in
+    let rest =
+    same_by_slots p xs ys (All-tail is_of x xs all) (All-tail is_of y ys other) slots_are in
     let here : x ≡ y = ap (λ n. entry_of n x.priority) slot_is ∙ ap (entry_of y.slot) priority_is in
     ap (λ z. z ∷ xs) here ∙ ap (λ zs. y ∷ zs) rest
 

@@ -1,6 +1,5 @@
 pub mod Priorities
 pub mod ReadyList
-pub mod PrioritySets
 pub mod Queues
 pub mod KernelReady
 pub mod Laws

@@ -1,10 +1,10 @@
 -- The queues of ready threads, one for each priority. They are this project's own design.
 use Rattle.std.specs.Prelude.{◌≡◌, ℕ, ◌+◌, ◌-◌, ◌<◌, is_some, Option, List, length, map}
-use Rattle.iop_cblock.specs.Lists.{Lists, AreDisjoint, list_at, first_of as first_node}
+use Rattle.iop_base.specs.Bits.{has}
+use Rattle.iop_cblock.specs.Lists.{Lists, AreDisjoint, list_at, first_node}
 use Rattle.iop_ready.specs.declared.entry.Entry.{Entry}
 use Rattle.iop_ready.specs.declared.priority.TheConstants.{LOWEST_PRIORITY}
 use Rattle.iop_ready.specs.declared.slot.TheConstants.{MOST_THREADS}
-use Rattle.iop_ready.specs.PrioritySets.{has}
 use Rattle.iop_ready.specs.ReadyList.{of_priority, first_of, IsReadyList}
 
 -- lists of slots, and a word of bits

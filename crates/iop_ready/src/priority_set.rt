@@ -1,5 +1,6 @@
 ghost use Rattle.std.specs.Prelude.{◌≡◌, ℕ, true, false, MatchOption};
-ghost use Rattle.iop_ready.specs.PrioritySets.{has, ArePriorities, ChangesOnly, IsBestOf};
+ghost use Rattle.iop_base.specs.Bits.{has, ChangesOnly, IsLeast};
+ghost use Rattle.iop_ready.specs.Priorities.{ArePriorities};
 
 use crate::priority::Priority;
 use std::marker::Model;
@@ -13,7 +14,7 @@ pub(crate) struct PrioritySet {
 
 impl Model for PrioritySet {
     ghost use Rattle.std.specs.Prelude.{ℕ};
-    ghost use Rattle.iop_ready.specs.PrioritySets.{ArePriorities};
+    ghost use Rattle.iop_ready.specs.Priorities.{ArePriorities};
 
     ghost Value = { ℕ };
 
@@ -48,7 +49,7 @@ impl PrioritySet {
 
     /// Finds the best priority of the set. None where it has none.
     pub(crate) fn best(self) -> Option<Priority>
-        ensures { MatchOption result ((n : ℕ) → has self n ≡ false) (IsBestOf self) }
+        ensures { MatchOption result ((n : ℕ) → has self n ≡ false) (IsLeast self) }
     {
         if self.bits == 0 {
             return None;

@@ -1,11 +1,10 @@
 -- The words that stubs cover, once one is bound, and once those that a range meets are taken out.
-use Rattle.std.proofs.Common.{◌≡◌, ◌≢◌, ℕ, suc, ◌+◌, ◌*◌, ◌/◌, ◌%◌, ◌<◌, ◌≤◌, ◌&&◌, ◌||◌, ◌⊎◌, inl, inr, ⊎_elim, Bool, true, false, cond, not, eqb, ltb, min, max, List, [], ◌∷◌, ◌++◌, length, get_or, take, refl, ap, sym, subst, ◌∙◌, arith, nat_lt}
+use Rattle.std.proofs.Common.{◌≡◌, ◌≢◌, ℕ, suc, ◌+◌, ◌*◌, ◌/◌, ◌%◌, ◌<◌, ◌≤◌, ◌&&◌, ◌||◌, ◌⊎◌, inl, inr, ⊎_elim, Bool, true, false, cond, not, eqb, ltb, min, max, List, [], ◌∷◌, length, get_or, take, refl, ap, sym, subst, ◌∙◌, arith, nat_lt}
 use Rattle.std.specs.List.{All, list_any}
 use Rattle.std.proofs.lemmas.Bool.{cases_eq, cases_lt, lt-ltb, le-ltb, ltb-true, eqb-true, eqb-false}
 use Rattle.std.proofs.lemmas.Bool.Decides.{nat_tests}
-use Rattle.std.proofs.lemmas.List.{take_more}
 use Rattle.std.proofs.lemmas.List.Elements.{All-head, All-tail, All-filter}
-use Rattle.std.proofs.lemmas.List.Folds.{list_any_none}
+use Rattle.std.proofs.lemmas.List.Folds.{list_any_none, list_any_more}
 use Rattle.iop_stubs.specs.Stubs.{meets, remaining_stubs}
 use Rattle.iop_stubs.specs.Binding.{IsInOrder, with_stub}
 use Rattle.iop_stubs.specs.WordSets.{has, HasRoom, ChangesOnly}
@@ -62,7 +61,8 @@ met_in_word place len some inside bits stubs table within =
 -- a stub covers two words
 covers-words : (stub : Stub) → stub.at % 4 ≡ 0 → (n : ℕ)
     → covers n stub ≡ (eqb n (stub.at / 4) || eqb n (stub.at / 4 + 1))
-covers-words stub aligned n = covers_by (cases_lt (max stub.at (n * 4)) (min (stub.at + 8) (n * 4 + 4)))
+covers-words stub aligned n =
+    covers_by (cases_lt (max stub.at (n * 4)) (min (stub.at + 8) (n * 4 + 4)))
   where
     covers_by : (max stub.at (n * 4) < min (stub.at + 8) (n * 4 + 4))
         ⊎ (min (stub.at + 8) (n * 4 + 4) ≤ max stub.at (n * 4))
@@ -143,15 +143,6 @@ uncovers_by true true was any = grind arith
 uncovers_by true false was any = grind arith
 uncovers_by false b was any = grind arith
 
-any-more : (p : Stub → Bool) (stubs : List Stub) (i : ℕ) (d : Stub) → i < length stubs
-    → list_any p (take (i + 1) stubs) ≡ (list_any p (take i stubs) || p (get_or stubs i d))
-any-more p stubs i d below = ap (list_any p) (take_more stubs i d below) ∙ any-push p (take i stubs) (get_or stubs i d)
-  where
-    any-push : (p : Stub → Bool) (xs : List Stub) (x : Stub)
-        → list_any p (xs ++ x ∷ []) ≡ (list_any p xs || p x)
-    any-push p [] x = grind arith
-    any-push p (y ∷ ys) x = grind (arith, any-push p ys x)
-
 pub uncovers-none : (place len : ℕ) (bits : List ℕ) → Uncovers place len [] bits bits
 uncovers-none place len bits = record {
   room = refl;
@@ -161,12 +152,20 @@ uncovers-none place len bits = record {
 module _ (place len : ℕ) (stubs : List Stub) (i : ℕ) (stub : Stub) (below : i < length stubs)
     (is : stub ≡ get_or stubs i stub) (old mid : List ℕ)
     (so : Uncovers place len (take i stubs) old mid) where
-  more_at : (n : ℕ) → list_any (is_met_over place len n) (take (i + 1) stubs)
-      ≡ (list_any (is_met_over place len n) (take i stubs) || is_met_over place len n stub)
-  more_at n =
-      any-more (is_met_over place len n) stubs i stub below
-      ∙ ap (λ s. list_any (is_met_over place len n) (take i stubs) || is_met_over place len n s)
-      (sym is)
+  abbrev met_before : ℕ → Bool
+  met_before n = list_any (is_met_over place len n) (take i stubs)
+
+  -- a word, by whether the stub is met
+  more_at : (n : ℕ) (b : Bool) → meets place len stub ≡ b
+      → cond b (cond (covers n stub) false (has old n && not (met_before n)))
+      (has old n && not (met_before n))
+      ≡ (has old n && not (list_any (is_met_over place len n) (take (i + 1) stubs)))
+  more_at n b met =
+      uncovers_by b (covers n stub) (has old n) (met_before n)
+      ∙ ap (λ a. has old n && not (met_before n || (a && covers n stub))) (sym met)
+      ∙ ap (λ s. has old n && not (met_before n || is_met_over place len n s)) is
+      ∙ ap (λ a. has old n && not a)
+      (sym (list_any_more (is_met_over place len n) stubs i stub below))
 
   pub uncovers-met : (inner new : List ℕ) → stub.at % 4 ≡ 0 → meets place len stub ≡ true
       → ChangesOnly mid inner (stub.at / 4) false → ChangesOnly inner new (stub.at / 4 + 1) false
@@ -175,25 +174,14 @@ module _ (place len : ℕ) (stubs : List Stub) (i : ℕ) (stub : Stub) (below : 
     room = both_room stub aligned mid inner new false first second ∙ so.room;
     words = λ n room.
         both_changed stub aligned mid inner new false first second n (omega (arith, room, so.room))
-        ∙ ap (cond (covers n stub) false) (so.words n room)
-        ∙ uncovers_by true (covers n stub) (has old n)
-        (list_any (is_met_over place len n) (take i stubs))
-        ∙ ap (λ b. has old n && not (list_any (is_met_over place len n) (take i stubs) || (b && covers n stub)))
-        (sym met)
-        ∙ ap (λ b. has old n && not b) (sym (more_at n));
+        ∙ ap (cond (covers n stub) false) (so.words n room) ∙ more_at n true met;
   }
 
   pub uncovers-missed : meets place len stub ≡ false
       → Uncovers place len (take (i + 1) stubs) old mid
   uncovers-missed missed = record {
     room = so.room;
-    words = λ n room.
-        so.words n room
-        ∙ uncovers_by false (covers n stub) (has old n)
-        (list_any (is_met_over place len n) (take i stubs))
-        ∙ ap (λ b. has old n && not (list_any (is_met_over place len n) (take i stubs) || (b && covers n stub)))
-        (sym missed)
-        ∙ ap (λ b. has old n && not b) (sym (more_at n));
+    words = λ n room. so.words n room ∙ more_at n false missed;
   }
 
 -- where no two stubs overlap, the words that are left are those of the stubs that are left
@@ -242,8 +230,8 @@ module _ (place len n : ℕ) where
       (All-tail (λ s. s.at % 4 ≡ 0) first rest all)) refl
 
 pub covered-left : (place len : ℕ) (stubs : List Stub) → IsInOrder stubs
-    → All (λ s. s.at % 4 ≡ 0) stubs → (old new : List ℕ) → AreCovered old stubs → Uncovers place len stubs old new
-    → AreCovered new (remaining_stubs place len stubs)
+    → All (λ s. s.at % 4 ≡ 0) stubs → (old new : List ℕ) → AreCovered old stubs
+    → Uncovers place len stubs old new → AreCovered new (remaining_stubs place len stubs)
 covered-left place len stubs order all old new covered uncovers n room =
     let inside : HasRoom old n = omega (arith, room, uncovers.room) in
     uncovers.words n inside

@@ -1,11 +1,11 @@
 -- Sets of the words of RAM, each in the bits of many numbers.
-use Rattle.std.specs.Prelude.{◌≡◌, ◌≢◌, ℕ, ◌/◌, ◌%◌, ◌<◌, ◌==◌, Bool, List, length, slice_index_or}
-use Rattle.std.specs.Int.{bit_at}
+use Rattle.std.specs.Prelude.{◌≡◌, ◌≢◌, ℕ, ◌/◌, ◌%◌, ◌<◌, Bool, List, length, slice_index_or}
+use Rattle.iop_base.specs.Bits.{has as has_bit}
 use Rattle.iop_stubs.specs.declared.word_set.TheConstants.{WORDS}
 
 -- whether a word is in the set
 unfoldable pub has : List ℕ → ℕ → Bool
-has bits n = bit_at (slice_index_or bits (n / WORDS) 0) (n % WORDS) == 1
+has bits n = has_bit (slice_index_or bits (n / WORDS) 0) (n % WORDS)
 
 -- whether the set has room for a word
 abbrev pub HasRoom : List ℕ → ℕ → Type 0

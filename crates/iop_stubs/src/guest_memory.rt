@@ -150,9 +150,9 @@ impl Guest {
             .ok_or(Bad)
     }
 
-    /// Lends the bytes of a range to `write`, which may write them; with what it leaves there this is
-    /// one store. It ends each live stub of which the range has a byte, as `store` does, before the
-    /// bytes are lent: no line depends on what is written. Answers what `write` answers.
+    /// Lends the bytes of a range to `write`, which may write them; with what it leaves there this
+    /// is one store. It ends each live stub of which the range has a byte, as `store` does, before
+    /// the bytes are lent: no line depends on what is written. Answers what `write` answers.
     ///
     /// None exactly where the range is not wholly in RAM, also with a `len` of 0; `write` is not
     /// called then, nothing changes, and there is no line.

@@ -71,8 +71,8 @@ impl LiveStubs {
         find_of(&self.stubs, name, major).is_some()
     }
 
-    /// Tells whether a range of RAM meets one. Within one word it looks at one bit, else it searches
-    /// by halving.
+    /// Tells whether a range of RAM meets one. Within one word it looks at one bit, else it
+    /// searches by halving.
     fn is_met(&self, place: u32, len: u32) -> bool
         requires { place + len ≤ self.now.ram }
         ensures { result ≡ list_any (meets place len) self.now.stubs }

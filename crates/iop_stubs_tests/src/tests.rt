@@ -1,4 +1,4 @@
-ghost use Rattle.std.specs.Prelude.{◌≡◌, ◌+◌, ◌-◌, ◌%◌, ◌^◌, ◌<◌, ◌≤◌, MatchOption, length, slice_index, slice_set};
+ghost use Rattle.std.specs.Prelude.{◌≡◌, ◌+◌, ◌-◌, ◌%◌, ◌^◌, ◌<◌, ◌≤◌, MatchOption, [], ◌∷◌, length, slice_index, slice_set};
 ghost use Rattle.iop_stubs.specs.Stubs.{range_place, after_store};
 ghost use Rattle.iop_stubs.specs.Lending.{range_bytes};
 
@@ -44,12 +44,37 @@ const STUB: Stub = Stub {
     target: 0x44E0,
 };
 
+/// The import of number 15, whose stub stands behind that one.
+const NEXT: Stub = Stub {
+    at: 0x1_001C,
+    name: *b"sysmem\0\0",
+    major: 1,
+    index: 15,
+    target: 0x4500,
+};
+
+/// Makes memory in which the words of both stubs stand.
+fn with_words(rt: &impl Abort, alloc: Global, told: &mut Told) -> Result<Guest, Fail> {
+    let mut guest = Guest::new(alloc, 0x20_0000)?;
+    let words = [
+        (0x1_0014, 0x03E0_0008),
+        (0x8001_0018, 0x2400_000E),
+        (0x1_001C, 0x03E0_0008),
+        (0x1_0020, 0x2400_000F),
+    ];
+    for (at, word) in words {
+        assert_eq!(rt; guest.store(at, Width::Word, word, 0, told), Ok(()));
+    }
+    Ok(guest)
+}
+
 /// Binds a stub where none is live and its two words stand.
 fn bind_first(rt: &impl Abort, guest: &mut Guest, stub: Stub)
     requires aligned { stub.at % 4 ≡ 0 }
     requires inside { stub.at + 8 ≤ 0x200000 }
     requires target_aligned { stub.target % 4 ≡ 0 }
     requires target_near { stub.target < 2 ^ 28 }
+    ensures { guest.new.live ≡ stub ∷ [] }
 {
     assert_eq!(rt; guest.ram().size(), 0x20_0000);
     assert_eq!(rt; guest.room(), 65_536);
@@ -61,12 +86,27 @@ fn bind_first(rt: &impl Abort, guest: &mut Guest, stub: Stub)
     guest.bind(stub);
 }
 
+/// Binds a stub behind the one that is live, where its two words stand.
+fn bind_behind(rt: &impl Abort, guest: &mut Guest, first: Stub, stub: Stub)
+    requires live { guest.old.live ≡ first ∷ [] }
+    requires behind { first.at + 8 ≤ stub.at }
+    requires aligned { stub.at % 4 ≡ 0 }
+    requires inside { stub.at + 8 ≤ 0x200000 }
+    requires target_aligned { stub.target % 4 ≡ 0 }
+    requires target_near { stub.target < 2 ^ 28 }
+{
+    assert_eq!(rt; guest.ram().size(), 0x20_0000);
+    assert_eq!(rt; guest.ram().load32(stub.at), Ok(0x03E0_0008));
+    assert_eq!(rt;
+        guest.ram().load32(stub.at + 4),
+        Ok(0x2400_0000 + u32::from(stub.index))
+    );
+    guest.bind(stub);
+}
+
 /// Makes memory in which the stub is bound.
 fn bound(rt: &impl Abort, alloc: Global, told: &mut Told) -> Result<Guest, Fail> {
-    let mut guest = Guest::new(alloc, 0x20_0000)?;
-    for (at, word) in [(0x1_0014, 0x03E0_0008), (0x8001_0018, 0x2400_000E)] {
-        assert_eq!(rt; guest.store(at, Width::Word, word, 0, told), Ok(()));
-    }
+    let mut guest = with_words(rt, alloc, told)?;
     bind_first(rt, &mut guest, STUB);
     assert_eq!(rt; guest.ram().load32(STUB.at), Ok(0x0800_1138));
     assert_eq!(rt; guest.room(), 65_535);
@@ -201,7 +241,7 @@ fn stores_of_bytes_end_a_stub(rt: HostRuntime) -> Result<(), Fail> {
         Step::Bytes(0x8001_001B, Ok(())),
         Step::Lives(false),
         Step::Word(0x1_0018, 0x6500_000E),
-        Step::Word(0x1_001C, 0x0064_646E),
+        Step::Word(0x1_001C, 0x0364_646E),
     ];
     take_all(&rt, rt.alloc(), &steps, &[(2, 0x1_0014)])
 }
@@ -220,4 +260,22 @@ fn a_window_ends_a_stub(rt: HostRuntime) -> Result<(), Fail> {
         Step::Word(0x1_0010, 0x9900_0000),
     ];
     take_all(&rt, rt.alloc(), &steps, &[(5, 0x1_0014)])
+}
+
+#[test]
+fn a_store_ends_two_stubs(rt: HostRuntime) -> Result<(), Fail> {
+    let mut told = Told {
+        stubs: Vec::new(rt.alloc()),
+    };
+    let mut guest = with_words(&rt, rt.alloc(), &mut told)?;
+    bind_first(&rt, &mut guest, STUB);
+    bind_behind(&rt, &mut guest, STUB, NEXT);
+    assert_eq!(rt; guest.room(), 65_534);
+    assert_eq!(rt; guest.store_bytes(0x1_001B, b"end", 2, &mut told), Ok(()));
+    assert_eq!(rt; guest.room(), 65_536);
+    assert_eq!(rt;
+        told.stubs.as_slice(),
+        [(2, 0x1_0014), (2, 0x1_001C)].as_slice()
+    );
+    Ok(())
 }

@@ -4,4 +4,5 @@ use Rattle.iop_stubs.proofs.guest_memory.write_into.Goals as goal
 
 pub returns-clause-bytes : goal.returns-clause-bytes
 returns-clause-bytes g c =
-    λ k d below. rw (get_or_default c.write.new.arg2 k d 0 below) (omega (arith, c.type_inv.window k))
+    λ k d below.
+    rw (get_or_default c.write.new.arg2 k d 0 below) (omega (arith, c.type_inv.window k))

@@ -1,66 +1,41 @@
 use Rattle.std.proofs.Common.{◌≡◌, true, false, refl, arith, rules}
 use Rattle.std.specs.Option.{is_some}
 use Rattle.iop_cblock.proofs.Standing.{sound_from, view_from}
-use Rattle.iop_cblock.proofs.Takes.{take-stands, before_below, behind_below, unlinked-free}
-use Rattle.iop_cblock.proofs.Fields.{links, own, listed-read, listed_in, free-read}
+use Rattle.iop_cblock.proofs.Takes.{unlinked-free}
+use Rattle.iop_cblock.proofs.Fields.{links, own, free-read, is_taken}
 use Rattle.iop_cblock.proofs.Disjoint.{disjoint-from, view_disjoint}
 use Rattle.iop_cblock.proofs.arena.Arena.unlink.Goals as goal
 
 pub index_mut-requires : goal.index_mut-requires
 index_mut-requires c =
-    let a = c.self.inside in
-    let s = c.args.self.now in
-    let f = own c.self.inside s c.self.invariant c.self.view_is in
     let some : is_some c.index.result.now ≡ true = search rules in
-    let listed =
-    listed-read (links a) s f c.args.node c.requires c.index.result.now c.index.ensures some in
-    let below =
-    before_below a.nodes a.next.items a.previous.items a.owner.items c.args.node s f c.requires
-    listed.0 listed.1 c.index-before.result.now c.index-before.ensures in
-    omega (arith, below)
+    let taken = is_taken c.self.inside c.self.invariant c.self.view_is c.requires c.index.ensures
+    some c.index-before.ensures c.index-behind.ensures in
+    omega (arith, taken.before_below)
 
 pub index_mut-requires-then-is_some : goal.index_mut-requires-then-is_some
 index_mut-requires-then-is_some c =
-    let a = c.self.inside in
-    let s = c.args.self.now in
-    let f = own c.self.inside s c.self.invariant c.self.view_is in
     let some : is_some c.index.result.now ≡ true = search rules in
-    let listed =
-    listed-read (links a) s f c.args.node c.requires c.index.result.now c.index.ensures some in
-    let below =
-    behind_below a.nodes a.next.items a.previous.items a.owner.items c.args.node s f c.requires
-    listed.0 listed.1 c.index-behind.result.now c.index-behind.ensures in
-    omega (arith, below)
+    let taken = is_taken c.self.inside c.self.invariant c.self.view_is c.requires c.index.ensures
+    some c.index-before.ensures c.index-behind.ensures in
+    omega (arith, taken.behind_below)
 
 pub invariant_of-self : goal.invariant_of-self
 invariant_of-self c =
-    let a = c.self.inside in
-    let s = c.args.self.now in
-    let f = own c.self.inside s c.self.invariant c.self.view_is in
     let some : is_some c.index.result.now ≡ true = search rules in
-    let listed =
-    listed-read (links a) s f c.args.node c.requires c.index.result.now c.index.ensures some in
-    sound_from _ _
-    (take-stands a.nodes a.next.items a.previous.items a.owner.items c.args.node s f c.requires
-    listed.0 listed.1 c.index-before.result.now c.index-behind.result.now
-    c.index-before.ensures c.index-behind.ensures)
+    let taken = is_taken c.self.inside c.self.invariant c.self.view_is c.requires c.index.ensures
+    some c.index-before.ensures c.index-behind.ensures in
+    sound_from _ _ taken.left
 
 pub returns-then-is_some : goal.returns-then-is_some
 returns-then-is_some c =
-    let a = c.self.inside in
-    let s = c.args.self.now in
-    let f = own c.self.inside s c.self.invariant c.self.view_is in
     let some : is_some c.index.result.now ≡ true = search rules in
-    let listed =
-    listed-read (links a) s f c.args.node c.requires c.index.result.now c.index.ensures some in
-    let after =
-    take-stands a.nodes a.next.items a.previous.items a.owner.items c.args.node s f c.requires
-    listed.0 listed.1 c.index-before.result.now c.index-behind.result.now
-    c.index-before.ensures c.index-behind.ensures in
+    let taken = is_taken c.self.inside c.self.invariant c.self.view_is c.requires c.index.ensures
+    some c.index-before.ensures c.index-behind.ensures in
     record {
-      lists = view_from _ _ after;
-      free = λ none. absurd (listed_in (links a) s f c.args.node c.requires listed.0 listed.1 none);
-      disjoint = view_disjoint _ _ after;
+      lists = view_from _ _ taken.left;
+      free = λ none. absurd (taken.not_free none);
+      disjoint = view_disjoint _ _ taken.left;
     }
 
 pub returns-else-is_some : goal.returns-else-is_some

@@ -1,5 +1,5 @@
 use Rattle.std.proofs.Common.{◌≡◌, ◌∙◌, ◌&&◌, ℕ, Bool, ap}
-use Rattle.iop_intr.specs.LineSets.{has}
+use Rattle.iop_base.specs.Bits.{has}
 use Rattle.iop_intr.proofs.Finding.{deliverable_is, found_is}
 use Rattle.iop_intr.proofs.irqs.Irqs.deliverable.Goals as goal
 
@@ -13,9 +13,9 @@ all_are c n =
 pub returns-clause-lowest : goal.returns-clause-lowest
 returns-clause-lowest c =
     deliverable_is c.self.inside c.self.view_is c.self.invariant _ (all_are c) _
-    c.first.ensures
+    c.first.ensures.lowest c.first.ensures.below
 
 pub returns-clause-found : goal.returns-clause-found
 returns-clause-found c =
     found_is c.self.inside c.self.view_is c.self.invariant _ (all_are c) _
-    c.first.ensures
+    c.first.ensures.lowest c.first.ensures.below

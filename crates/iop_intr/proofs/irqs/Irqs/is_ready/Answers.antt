@@ -1,5 +1,5 @@
 use Rattle.std.proofs.Common.{◌≡◌, true, false, refl, sym, ◌∙◌, arith}
-use Rattle.iop_intr.specs.LineSets.{has}
+use Rattle.iop_base.specs.Bits.{has}
 use Rattle.iop_intr.proofs.Calls.{is_ready_is}
 use Rattle.iop_intr.proofs.irqs.Irqs.is_ready.Goals as goal
 

@@ -1,11 +1,17 @@
-use Rattle.std.proofs.Common.{◌≡◌, ℕ, false, sym, subst, arith}
-use Rattle.iop_intr.specs.LineSets.{has}
-use Rattle.iop_intr.proofs.Sets.{set_of, has-none, first_is}
+use Rattle.std.proofs.Common.{◌<◌, ◌^◌, w64, rules, arith}
+use Rattle.std.proofs.lemmas.Nat.Bits.{bit_at-trailing_zeros}
+use Rattle.iop_base.proofs.Bits.{has-none, least_is}
 use Rattle.iop_intr.proofs.line_set.LineSet.first.Goals as goal
 
-pub returns-then-self-eq0 : goal.returns-then-self-eq0
-returns-then-self-eq0 c =
-    λ n h. subst (λ (bits : ℕ). has (set_of bits) n ≡ false) (sym c.if-self-eq0.true) (has-none n)
+pub returns-then-self-eq0-clause-lowest : goal.returns-then-self-eq0-clause-lowest
+returns-then-self-eq0-clause-lowest c n =
+    rw (← c.self.view_is, c.if-self-eq0.true) (has-none n)
 
 pub returns : goal.returns
-returns c = first_is c.args.self.bits (omega arith) (omega arith)
+returns c =
+    let fits : c.self.inside.bits < 2 ^ 64 = search rules in
+    let some : 0 < c.self.inside.bits = omega (arith, c.if-self-eq0.false) in
+    record {
+      lowest = rw (← c.self.view_is) (least_is w64 c.self.inside.bits fits some);
+      below = (bit_at-trailing_zeros w64 c.self.inside.bits some fits).0;
+    }

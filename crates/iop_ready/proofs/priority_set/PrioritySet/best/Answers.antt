@@ -1,5 +1,6 @@
 use Rattle.std.proofs.Common.{◌<◌, ◌^◌, rules, arith}
-use Rattle.iop_ready.proofs.PrioritySets.{has-none, best_is}
+use mir.Syntax.{w128}
+use Rattle.iop_base.proofs.Bits.{has-none, least_is}
 use Rattle.iop_ready.proofs.priority_set.PrioritySet.best.Goals as goal
 
 pub returns-then-self-eq0 : goal.returns-then-self-eq0
@@ -9,10 +10,10 @@ pub new-requires : goal.new-requires
 new-requires c =
     let some : 0 < c.self.inside.bits = omega (arith, c.if-self-eq0.false) in
     let fits : c.self.inside.bits < 2 ^ 128 = search rules in
-    c.self.invariant _ (best_is c.self.inside.bits some fits).in_set
+    c.self.invariant _ (least_is w128 c.self.inside.bits fits some).in_set
 
 pub returns : goal.returns
 returns c =
     let some : 0 < c.self.inside.bits = omega (arith, c.if-self-eq0.false) in
     let fits : c.self.inside.bits < 2 ^ 128 = search rules in
-    rw (c.new.ensures, ← c.self.view_is) (best_is c.self.inside.bits some fits)
+    rw (c.new.ensures, ← c.self.view_is) (least_is w128 c.self.inside.bits fits some)

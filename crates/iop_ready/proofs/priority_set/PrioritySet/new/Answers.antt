@@ -1,4 +1,5 @@
-use Rattle.iop_ready.proofs.PrioritySets.{has-none, none_are}
+use Rattle.iop_base.proofs.Bits.{has-none}
+use Rattle.iop_ready.proofs.PrioritySets.{none_are}
 use Rattle.iop_ready.proofs.priority_set.PrioritySet.new.Goals as goal
 
 pub invariant_of-result : goal.invariant_of-result

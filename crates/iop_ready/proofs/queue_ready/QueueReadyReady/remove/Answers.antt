@@ -1,6 +1,6 @@
 use Rattle.std.proofs.Common.{◌≡◌, ◌+◌, ◌<◌, true, false, None, Some, is_some, rules}
-use Rattle.iop_cblock.specs.Lists.{list_of, first_of as first_node}
-use Rattle.iop_ready.specs.PrioritySets.{ChangesOnly}
+use Rattle.iop_base.specs.Bits.{ChangesOnly}
+use Rattle.iop_cblock.specs.Lists.{list_of, first_node}
 use Rattle.iop_ready.specs.declared.priority.TheConstants.{LOWEST_PRIORITY}
 use Rattle.iop_ready.specs.Queues.{Queues, queues_of, Hold}
 use Rattle.iop_cblock.proofs.Reading.{holds-own}

@@ -1,5 +1,5 @@
 use Rattle.std.proofs.Common.{◌≡◌, ◌∙◌, Some, ap, arith, rules}
-use Rattle.iop_cblock.specs.Lists.{first_of as first_node, pushed_back, unlinked}
+use Rattle.iop_cblock.specs.Lists.{first_node, pushed_back, unlinked}
 use Rattle.iop_ready.specs.Queues.{Queues, queues_of, Hold}
 use Rattle.iop_cblock.proofs.Reading.{free-unlinked, held-head}
 use Rattle.iop_ready.proofs.Holding.{hold-rotated, hold-unrotated}

@@ -15,9 +15,12 @@ module _ (c : goal.After-store_word) where
   may = subst (λ (memory : Memory). MayBind memory c.args.stub) (sym c.self.view_is) c.requires
 
   new : IsGuestMemory (record { ram = c.store_word.new.ram; live = c.insert.new.self.stubs })
-  new = guest-bind old _ _ c.args.stub c.store_word.ensures c.insert.ensures.live may c.self.invariant.0
+  new =
+      guest-bind old _ _ c.args.stub c.store_word.ensures c.insert.ensures.live may
+      c.self.invariant.0
 
-  is : record { ram = c.store_word.new.ram; live = c.insert.new.self.stubs } ≡ after_bind old c.args.stub
+  is : record { ram = c.store_word.new.ram; live = c.insert.new.self.stubs }
+      ≡ after_bind old c.args.stub
   is = bind_is old _ _ c.args.stub c.store_word.ensures c.insert.ensures.live
 
 pub invariant_of-self : goal.invariant_of-self

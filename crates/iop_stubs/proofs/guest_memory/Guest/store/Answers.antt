@@ -9,7 +9,8 @@ use Rattle.iop_stubs.proofs.guest_memory.Guest.store.Goals as goal
 
 pub returns-in_err-place-clause-lines : goal.returns-in_err-place-clause-lines
 returns-in_err-place-clause-lines g c = rw (← c.self.view_is)
-    (store_lines-refused _ _ (record { ram = c.self.inside.ram; live = c.self.inside.live.stubs }) _ _ _ _
+    (store_lines-refused _ _
+    (record { ram = c.self.inside.ram; live = c.self.inside.live.stubs }) _ _ _ _
     c.in_err-place.ensures.place)
 
 new : (g : Over) (c : goal.After-end_in g) →

@@ -8,7 +8,8 @@ use Rattle.iop_stubs.proofs.guest_memory.Guest.store_bytes.Goals as goal
 
 pub returns-in_err-place-clause-lines : goal.returns-in_err-place-clause-lines
 returns-in_err-place-clause-lines g c = rw (← c.self.view_is)
-    (store_lines-refused _ _ (record { ram = c.self.inside.ram; live = c.self.inside.live.stubs }) _ _ _ _
+    (store_lines-refused _ _
+    (record { ram = c.self.inside.ram; live = c.self.inside.live.stubs }) _ _ _ _
     c.in_err-place.ensures.place)
 
 new : (g : Over) (c : goal.After-end_in g) →
@@ -27,9 +28,8 @@ new g c =
 long : (g : Over) (c : goal.After-end_in g) → c.end_in.new.self.ram ≡ length c.put_bytes.new.ram
 long g c =
     c.end_in.ensures.ram ∙ c.self.invariant.1
-    ∙ sym (stored_length c.self.inside.ram c.put_bytes.new.ram c.in_ok-place.place (length c.args.bytes.now)
-    c.args.bytes.now c.in_ok-place.ensures.memory
-    refl
+    ∙ sym (stored_length c.self.inside.ram c.put_bytes.new.ram c.in_ok-place.place
+    (length c.args.bytes.now) c.args.bytes.now c.in_ok-place.ensures.memory refl
     c.in_ok-place.ensures.inside)
 
 pub invariant_of-self-2 : goal.invariant_of-self-2

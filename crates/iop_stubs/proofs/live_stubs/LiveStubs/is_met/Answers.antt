@@ -11,6 +11,6 @@ returns-then-len-place c =
     let within : c.args.place + c.args.len ≤ bytes_of_room bits =
     subst (λ (t : LiveTable). c.args.place + c.args.len ≤ t.ram) (sym c.self.view_is) c.requires in
     c.has.ensures
-    ∙ met_in_word c.args.place c.args.len c.if-len-gt0.true (omega (arith, c.if-len-place.true)) bits
-    c.self.inside.stubs.items c.self.invariant.0 within
+    ∙ met_in_word c.args.place c.args.len c.if-len-gt0.true (omega (arith, c.if-len-place.true))
+    bits c.self.inside.stubs.items c.self.invariant.0 within
     ∙ ap (λ (t : LiveTable). list_any (meets c.args.place c.args.len) t.stubs) c.self.view_is

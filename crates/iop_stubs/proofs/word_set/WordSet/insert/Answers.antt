@@ -1,12 +1,10 @@
-use Rattle.std.proofs.Common.{◌≡◌, ◌/◌, get_or}
-use Rattle.std.proofs.lemmas.List.{get_or_read}
-use Rattle.iop_stubs.proofs.WordSets.{inserted}
+use Rattle.std.proofs.Common.{◌%◌, true, w64, arith}
+use Rattle.iop_base.proofs.Bits.{inserted}
+use Rattle.iop_stubs.proofs.WordSets.{changes}
 use Rattle.iop_stubs.proofs.word_set.WordSet.insert.Goals as goal
 
 pub returns : goal.returns
 returns c =
-    let bits = c.args.self.now.bits.items in
-    let number : c.index_mut.result.now ≡ get_or bits (c.args.word / 64) 0 =
-    get_or_read bits (c.args.word / 64) c.index_mut.result.now c.requires
-    c.index_mut.ensures.value 0 in
-    rw number (inserted bits c.args.word c.requires)
+    let was = c.index_mut.result.now in
+    changes c.args.self.now.bits.items c.args.word was c.requires c.index_mut.ensures.value _ true
+    (inserted w64 was (c.args.word % 64) (omega arith))
