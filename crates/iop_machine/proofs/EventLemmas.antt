@@ -10,7 +10,7 @@ use Rattle.std.proofs.lemmas.List.Elements.{All-nil, All-cons, All-contains, All
 use Rattle.std.proofs.lemmas.List.Filters.{length-filter_both}
 use Rattle.std.proofs.lemmas.List.Kept.{AllPairs-filter}
 use Rattle.iop_base.proofs.Lists.{filter-none_passes, filter-none_fails}
-use Rattle.iop_objects.proofs.Totals.{AllPairs-head, AllPairs-tail}
+use Rattle.iop_base.proofs.Searching.{AllPairs-head, AllPairs-tail}
 use Rattle.iop_script.specs.declared.raise.Raise.{Raise}
 use Rattle.iop_machine.specs.Events.{CanCome, is_due, due_lines, left_events, earlier_with, next_tick, events_of, TakesDue}
 use Rattle.iop_machine.specs.declared.events.Events.TheInside.{Inside}

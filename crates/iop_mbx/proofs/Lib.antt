@@ -1,5 +1,4 @@
 pub mod Reading
-mod Counted
 mod MailboxTables
 mod LiveMailboxes
 mod Creating

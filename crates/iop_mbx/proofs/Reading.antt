@@ -3,9 +3,10 @@ use Rattle.std.proofs.Common.{◌≡◌, ℕ, Bool, not, is_some, option_map, Li
 use Rattle.std.specs.Prelude.{◌==◌}
 use Rattle.std.proofs.lemmas.Bool.Decides.{nat_tests}
 use Rattle.std.proofs.lemmas.List.{length-map, map_push}
+use Rattle.iop_base.proofs.Searching.{find-map}
 use Rattle.iop_objects.specs.Objects.{Object, Objects, object_of, state_of, waiters_of, creates, deletes, with_state, with_waiters, takes_next}
 use Rattle.iop_objects.specs.declared.waiter.Waiter.{Waiter}
-use Rattle.iop_objects.proofs.MappedLists.{find-map, filter-map}
+use Rattle.iop_objects.proofs.MappedLists.{filter-map}
 use Rattle.iop_objects.proofs.Tables.{table_of}
 use Rattle.iop_queues.specs.declared.queued.Queued.{Queued}
 use Rattle.iop_mbx.specs.Mailboxes as mailboxes

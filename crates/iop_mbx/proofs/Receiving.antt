@@ -84,7 +84,8 @@ module _ (s : Mailboxes) (id : ℕ) (x : Mailbox) (live : state_of s id ≡ Some
 
     abbrev puts-by : Bool → Type 0
     puts-by room =
-        puts s id message priority ≡ (if room then (OK, with_state s id with_one) else (NO_MEMORY, s))
+        puts s id message priority
+        ≡ (if room then (OK, with_state s id with_one) else (NO_MEMORY, s))
 
     refused : puts-by false → (puts s id message priority).0 ≡ OK → ⊥
     refused e put =

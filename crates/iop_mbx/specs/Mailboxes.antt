@@ -1,5 +1,5 @@
--- Mailboxes (ps2sdk: thmsgbx.h; the codes are those of its kerr.h). Which attributes are accepted, and how
--- many messages can stand, is this project's own profile.
+-- Mailboxes (ps2sdk: thmsgbx.h; the codes are those of its kerr.h). Which attributes are accepted,
+-- and how many messages can stand, is this project's own profile.
 use Rattle.std.specs.Prelude.{ℕ, ◌==◌, nat_lt, Bool, false, not, if◌then◌else◌, Option, Some, None, Result, Ok, Err, option_map, unwrap_or, List, [], ◌∷◌, ◌++◌, length, map, sum, bit_and, bit_or}
 use Rattle.iop_base.specs.declared.code.Code.{Code}
 use Rattle.iop_base.specs.declared.code.TheConstants.Code.{OK, NO_MEMORY, ILLEGAL_ATTRIBUTE, UNKNOWN_MAILBOX, NO_MESSAGE}

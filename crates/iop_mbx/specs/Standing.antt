@@ -1,12 +1,10 @@
--- How the tables of the program stand for the mailboxes: the messages of each stand in a queue of its
--- own, which has a number.
-use Rattle.std.specs.Prelude.{◌≡◌, ℕ, List, [], length, map}
+-- How the tables of the program stand for the mailboxes: the messages of each stand in a queue of
+-- its own, which has a number.
+use Rattle.std.specs.Prelude.{ℕ, List, map}
 use Rattle.iop_mbx.specs.Mailboxes as mailboxes
 use Rattle.iop_mbx.specs.Mailboxes.{Mailboxes}
 use Rattle.iop_mbx.specs.declared.mailboxes.Numbered.{Numbered}
 use Rattle.iop_objects.specs.Objects.{Object, Objects}
-use Rattle.iop_objects.specs.declared.objects.TheConstants.{MOST_OBJECTS}
-use Rattle.iop_queues.specs.Numbers.{AreNumbers, uses}
 use Rattle.iop_queues.specs.Queues.{queue_at}
 use Rattle.iop_queues.specs.declared.queued.Queued.{Queued}
 
@@ -29,11 +27,3 @@ mailboxes_in objects messages =
 -- the queues of the mailboxes
 abbrev pub queues_of : Objects Numbered ℕ → List ℕ
 queues_of objects = map (λ o. o.state.queue) objects.live
-
--- what holds of every table, of whose queues these are used and those are free
-pub record IsTable (used free : List ℕ) (messages : List (List (Queued ℕ))) : Type 0 where
-  -- no two mailboxes have one queue
-  pub numbers : AreNumbers MOST_OBJECTS used free
-  pub queues : length messages ≡ MOST_OBJECTS
-  -- no message stands in a queue of no mailbox
-  pub empty : (n : ℕ) → uses n used ≡ 0 → queue_at n messages ≡ []

@@ -9,7 +9,7 @@ ghost use Rattle.iop_mbx.specs.Mailboxes.{without_messages, messages_of, next_me
 use crate::mailbox::{Mailbox, is_attribute};
 use iop_base::Code;
 use iop_objects::{MOST_OBJECTS, Objects, Waiter};
-use iop_queues::{Queued, Queues};
+use iop_queues::{Numbers, Queued, Queues};
 use std::alloc::{AllocError, Global};
 use std::marker::Model;
 
@@ -30,24 +30,25 @@ struct Numbered {
 pub struct Mailboxes {
     objects: Objects<Numbered, u32>,
     /// The queues of no live mailbox.
-    free: Vec<u32>,
+    free: Numbers<MOST_OBJECTS>,
     messages: Queues<u32, MOST_MESSAGES>,
 }
 
 impl Model for Mailboxes {
-    ghost use Rattle.std.specs.Prelude.{ℕ, ◌≤◌, vec_capacity};
+    ghost use Rattle.std.specs.Prelude.{ℕ};
     ghost use Rattle.iop_objects.specs.Objects.{Objects};
     ghost use Rattle.iop_objects.specs.declared.objects.TheConstants.{MOST_OBJECTS};
     ghost use Rattle.iop_mbx.specs.Mailboxes.{Mailbox as Known};
 
     ghost Value = { Objects Known ℕ };
 
-    ghost use Rattle.iop_mbx.specs.Standing.{mailboxes_in, queues_of, IsTable};
+    ghost use Rattle.iop_mbx.specs.Standing.{mailboxes_in, queues_of};
+    ghost use Rattle.iop_queues.specs.Numbers.{AreAssigned};
 
     ghost view = { λ s. mailboxes_in s.objects s.messages };
 
-    ghost invariant = { λ s. IsTable (queues_of s.objects) s.free.items s.messages
-        × (MOST_OBJECTS ≤ vec_capacity s.free) };
+    ghost invariant = { λ s.
+        AreAssigned MOST_OBJECTS (queues_of s.objects) s.free s.messages };
 }
 
 impl Mailboxes {
@@ -58,7 +59,7 @@ impl Mailboxes {
     {
         Ok(Mailboxes {
             objects: Objects::new(alloc)?,
-            free: (0..MOST_OBJECTS as u32).collect(alloc)?,
+            free: Numbers::new(alloc)?,
             messages: Queues::new(alloc, MOST_OBJECTS as u32)?,
         })
     }
@@ -108,9 +109,9 @@ impl Mailboxes {
         self.messages.len() < MOST_MESSAGES as usize
     }
 
-    /// Makes a mailbox, and answers its id. `ILLEGAL_ATTRIBUTE` exactly where the attribute has other
-    /// bits than the two that are known, else `NO_MEMORY` exactly where there is no room for one more;
-    /// nothing changes then.
+    /// Makes a mailbox, and answers its id. `ILLEGAL_ATTRIBUTE` exactly where the attribute has
+    /// other bits than the two that are known, else `NO_MEMORY` exactly where there is no room for
+    /// one more; nothing changes then.
     pub fn create(&mut self, attr: u32, option: u32) -> Result<u32, Code>
         ensures answer { result ≡ (creates self.old attr option).0 }
         ensures left { self.new ≡ (creates self.old attr option).1 }
@@ -118,17 +119,21 @@ impl Mailboxes {
         if !is_attribute(attr) {
             return Err(Code::ILLEGAL_ATTRIBUTE);
         }
-        let Some(queue) = self.free.last().copied() else {
+        let Some(queue) = self.free.take() else {
             return Err(Code::NO_MEMORY);
         };
         let mailbox = Mailbox { attr, option };
-        let id = self.objects.create(Numbered { mailbox, queue })?;
-        self.free.pop();
-        Ok(id)
+        match self.objects.create(Numbered { mailbox, queue }) {
+            Ok(id) => Ok(id),
+            Err(code) => {
+                self.free.give_back(queue);
+                Err(code)
+            }
+        }
     }
 
-    /// Deletes a mailbox, for which no thread waits, with its messages. `UNKNOWN_MAILBOX` exactly where
-    /// none of this id is live.
+    /// Deletes a mailbox, for which no thread waits, with its messages. `UNKNOWN_MAILBOX` exactly
+    /// where none of this id is live.
     pub fn delete(&mut self, id: u32) -> Code
         requires none { waiters_of self.old id ≡ [] }
         ensures answer { result ≡ (deletes self.old id).0 }
@@ -138,13 +143,13 @@ impl Mailboxes {
             return Code::UNKNOWN_MAILBOX;
         };
         self.messages.clear(numbered.queue);
-        self.free.push_reserved(numbered.queue);
+        self.free.give_back(numbered.queue);
         self.objects.delete(id);
         Code::OK
     }
 
-    /// Takes the thread out that is next among those that wait for a mailbox; none where none waits.
-    /// `UNKNOWN_MAILBOX` exactly where no mailbox of this id is live.
+    /// Takes the thread out that is next among those that wait for a mailbox; none where none
+    /// waits. `UNKNOWN_MAILBOX` exactly where no mailbox of this id is live.
     pub fn waiter(&mut self, id: u32) -> Result<Option<Waiter<u32>>, Code>
         ensures answer { result ≡ (takes_waiter_of self.old id).0 }
         ensures left { self.new ≡ (takes_waiter_of self.old id).1 }
@@ -155,8 +160,8 @@ impl Mailboxes {
         }
     }
 
-    /// Queues a message behind the others of a mailbox. `UNKNOWN_MAILBOX` exactly where none of this id
-    /// is live, else `NO_MEMORY` exactly where there is no room; nothing changes then.
+    /// Queues a message behind the others of a mailbox. `UNKNOWN_MAILBOX` exactly where none of
+    /// this id is live, else `NO_MEMORY` exactly where there is no room; nothing changes then.
     pub fn put(&mut self, id: u32, message: u32, priority: u8) -> Code
         ensures answer { result ≡ (puts self.old id message priority).0 }
         ensures left { self.new ≡ (puts self.old id message priority).1 }
@@ -207,8 +212,8 @@ impl Mailboxes {
         );
     }
 
-    /// Takes the thread out that is next among those that wait for a mailbox. None exactly where none
-    /// waits, or no mailbox of this id is live.
+    /// Takes the thread out that is next among those that wait for a mailbox. None exactly where
+    /// none waits, or no mailbox of this id is live.
     pub fn pop_waiter(&mut self, id: u32) -> Option<u32>
         ensures answer { let taken = takes_waiter self.old id in
             result ≡ option_map (λ waiter. waiter.thread) taken.0 }
@@ -226,8 +231,8 @@ impl Mailboxes {
         self.objects.drop_waiter(id, thread);
     }
 
-    /// Changes the priority of a thread that waits for a mailbox, if it does. Where waiters are chosen
-    /// by priority it waits behind all others then, else it keeps its place.
+    /// Changes the priority of a thread that waits for a mailbox, if it does. Where waiters are
+    /// chosen by priority it waits behind all others then, else it keeps its place.
     pub fn requeue(&mut self, id: u32, thread: u32, priority: u8)
         ensures { self.new ≡ requeues self.old id (is_by_priority self.old id) thread priority }
     {

@@ -7,7 +7,8 @@ use Rattle.iop_objects.specs.declared.waiter.Waiter.{Waiter}
 
 module _ {A W : Type 0} (id : ℕ) (change : Object A W → Object A W)
     (keeps : (o : Object A W) → (change o).id ≡ o.id) where
-  either : (o : Object A W) (live later : List (Object A W)) → object_of later id ≡ option_map change (object_of live id)
+  either : (o : Object A W) (live later : List (Object A W))
+      → object_of later id ≡ option_map change (object_of live id)
       → (b : Bool) → (o.id == id) ≡ b
       → object_of ((if b then change o else o) ∷ later) id
       ≡ option_map change (cond b (Some o) (object_of live id))

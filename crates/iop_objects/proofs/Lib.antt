@@ -7,5 +7,4 @@ pub mod Rooms
 pub mod TableChanges
 pub mod TableQueues
 pub mod Tables
-pub mod Totals
 pub mod Ordered

@@ -1,5 +1,5 @@
--- Lists that are mapped, filtered or searched.
-use Rattle.std.proofs.Common.{◌≡◌, ◌≢◌, ℕ, zero, suc, ◌<◌, ◌⊎◌, inl, inr, Bool, true, false, cond, not, Some, option_map, List, [], ◌∷◌, ◌++◌, length, map, filter, find, get_or, set, take, drop, refl, ap, sym, ◌∙◌, arith}
+-- Lists that are mapped or filtered.
+use Rattle.std.proofs.Common.{◌≡◌, ◌≢◌, ℕ, zero, suc, ◌<◌, ◌⊎◌, inl, inr, Bool, true, false, cond, not, List, [], ◌∷◌, ◌++◌, length, map, filter, get_or, set, take, drop, refl, ap, sym, ◌∙◌, arith}
 use Rattle.std.specs.List.{remove}
 use Rattle.std.proofs.lemmas.Bool.{cases_eq}
 use Rattle.std.proofs.lemmas.List.{length-map, length-set, get_or-map, get_or-set_same, get_or-set_other, map-append, take-map, drop-map, same_lists}
@@ -8,17 +8,6 @@ use Rattle.std.proofs.lemmas.List.Folds.{list_any_none}
 use Rattle.iop_base.proofs.Lists.{filter-none_fails}
 
 module _ {X Y : Type 0} (p : Y → Bool) (f : X → Y) where
-  -- what is found in a list that is mapped
-  pub find-map : (xs : List X) → find p (map f xs) ≡ option_map f (find (λ x. p (f x)) xs)
-  find-map [] = refl
-  find-map (x ∷ xs) = either (p (f x)) (find-map xs)
-    where
-      either : (b : Bool) → find p (map f xs) ≡ option_map f (find (λ x. p (f x)) xs)
-          → cond b (Some (f x)) (find p (map f xs))
-          ≡ option_map f (cond b (Some x) (find (λ x. p (f x)) xs))
-      either true same = refl
-      either false same = same
-
   -- a list is filtered before it is mapped or after
   pub filter-map : (xs : List X) → filter p (map f xs) ≡ map f (filter (λ x. p (f x)) xs)
   filter-map [] = refl

@@ -5,12 +5,13 @@ use Rattle.std.specs.Bool.{then_some}
 use Rattle.std.specs.List.{All, position_or_len, slice_get}
 use Rattle.std.specs.List.Sorted.{IsNonDecreasingBy, IsPartitionedBy, IsPartitionPoint}
 use Rattle.std.specs.Option.{option_and_then}
-use Rattle.std.proofs.lemmas.Bool.{cases_lt, cases_order, ne_eqb, eqb-true, eqb-false, lt-ltb, le-ltb, ltb-true, ltb-false}
+use Rattle.std.proofs.lemmas.Bool.{cases_lt, cases_order, ne_eqb, eqb-true, eqb-false, ltb-true, ltb-false}
 use Rattle.std.proofs.lemmas.List.Folds.{find_at}
 use Rattle.std.proofs.lemmas.List.Quantifiers.{position-Some}
 use Rattle.std.proofs.lemmas.List.Sorted.{IsPartitionedBy-ltb}
-use Rattle.std.proofs.lemmas.List.Sums.{position_or_len_is, fails_before_first, passes_at_first}
+use Rattle.std.proofs.lemmas.List.Sums.{fails_before_first, passes_at_first}
 use Rattle.std.proofs.lemmas.Option.{get_or_from_slice_get, slice_get_within, slice_get_past, slice_get-get_or}
+use Rattle.iop_base.proofs.Searching.{position-at, position-none}
 use Rattle.iop_objects.specs.Standing.{IsInOrder}
 use Rattle.iop_objects.specs.declared.objects.Live.{Live}
 
@@ -47,26 +48,11 @@ module _ {X : Type 0} (p : X → Bool) (xs : List X) where
           let is : slice_get xs first_place ≡ None = sym (find_at p xs) ∙ none in cc
       past d (inr behind) = behind
 
-  position_past : first_place ≡ length xs → position p xs ≡ None
-  position_past e =
-      ap (λ n. cond (nat_lt n (length xs)) (Some n) None) e
-      ∙ ap (λ b. cond b (Some (length xs)) None) (le-ltb (length xs) (length xs) (omega arith))
-
-  pub position-at : (k : ℕ) (d : X) → k < length xs
-      → ((i : ℕ) → i < k → p (get_or xs i d) ≡ false) → p (get_or xs k d) ≡ true
-      → position p xs ≡ Some k
-  position-at k d inside before passes =
-      ap (λ n. cond (nat_lt n (length xs)) (Some n) None)
-      (position_or_len_is p xs k d (omega (arith, inside)) before (λ below. passes))
-      ∙ ap (λ b. cond b (Some k) None) (lt-ltb k (length xs) inside)
-
-pub position-none : {X : Type 0} (p : X → Bool) (xs : List X) → All (λ x. p x ≡ false) xs
+-- where none passes none has a place
+no_place : {X : Type 0} (p : X → Bool) (xs : List X) → All (λ x. p x ≡ false) xs
     → position p xs ≡ None
-position-none p [] none = refl
-position-none p (x ∷ xs) none =
-    position_past p (x ∷ xs)
-    (position_or_len_is p (x ∷ xs) (length (x ∷ xs)) x (omega arith) (λ k below. none k x below)
-    (λ below. absurd (omega (arith, below))))
+no_place p [] none = refl
+no_place p (x ∷ xs) none = position-none p (x ∷ xs) x (λ k below. none k x below)
 
 module _ {A : Type 0} where
   abbrev pub has_id : ℕ → Live A → Bool
@@ -124,10 +110,11 @@ module _ {A : Type 0} (live : List (Live A)) (order : IsInOrder live) where
         → position (has_id id) live ≡ then_some b place
     found_by o is true has =
         let inside = slice_get_within live place o is in
-        position-at (has_id id) live place o inside (λ k less. none_before k o less)
+        position-at (has_id id) live o place inside
         (ap (has_id id) (get_or_from_slice_get live place o o is) ∙ has)
+        (λ k less. none_before k o less)
     found_by o is false has =
-        position-none (has_id id) live (none_has (λ k d ge below.
+        no_place (has_id id) live (none_has (λ k d ge below.
         let inside = slice_get_within live place o is in
         let at = ap (λ x. x.id) (get_or_from_slice_get live place o d is) in
         let least = behind place d (omega arith) inside in
@@ -138,7 +125,7 @@ module _ {A : Type 0} (live : List (Live A)) (order : IsInOrder live) where
     pub found_by_halving : (o : Option (Live A)) → slice_get live place ≡ o
         → position (has_id id) live ≡ option_and_then (λ x. then_some (has_id id x) place) o
     found_by_halving None is =
-        position-none (has_id id) live (none_has (λ k d ge below.
+        no_place (has_id id) live (none_has (λ k d ge below.
         let inside : place < length live = omega (arith, ge, below) in
         let some = slice_get-get_or live place d inside in cc))
     found_by_halving (Some o) is = found_by o is (has_id id o) refl

@@ -1,20 +1,20 @@
 -- What an object more or less leaves of a table, or one of which something else is known.
-use Rattle.std.proofs.Common.{◌≡◌, ◌≢◌, ℕ, ◌+◌, ◌<◌, ◌≤◌, true, false, if◌then◌else◌, not, Some, Result, Ok, Err, option_map, List, [], ◌∷◌, ◌++◌, length, map, find, take, drop, All, refl, ap, sym, ◌∙◌, subst, suc, arith, get_or, set}
+use Rattle.std.proofs.Common.{◌≡◌, ◌≢◌, ℕ, ◌+◌, ◌<◌, ◌≤◌, true, false, if◌then◌else◌, not, Some, Result, Ok, Err, option_map, List, [], ◌∷◌, ◌++◌, length, map, find, take, drop, refl, ap, sym, ◌∙◌, subst, suc, arith, get_or, set}
 use Rattle.std.specs.Prelude.{◌==◌}
 use Rattle.std.specs.List.{remove}
 use Rattle.std.proofs.lemmas.Bool.{cond-true, eq-eqb, ne_eqb}
 use Rattle.std.proofs.lemmas.Bool.Decides.{nat_tests}
 use Rattle.std.proofs.lemmas.List.{length-map, length-set, length_push, get_or-map, map_push, map-set, set-get_or}
-use Rattle.std.proofs.lemmas.List.Elements.{All-append, All-take, All-drop, All-push, All-pop, All-weaker, All-set}
+use Rattle.std.proofs.lemmas.List.Elements.{All-append, All-take, All-drop, All-push, All-weaker, All-set}
 use Rattle.std.proofs.lemmas.List.Quantifiers.{all_pairs_push, all_pairs_remove}
 use Rattle.std.proofs.lemmas.Simd.{map-map}
 use Rattle.iop_base.specs.declared.code.Code.{Code}
 use Rattle.iop_base.specs.declared.code.TheConstants.Code.{NO_MEMORY}
 use Rattle.iop_base.specs.declared.limits.TheConstants.{LAST_ID}
-use Rattle.iop_queues.specs.Numbers.{AreNumbers}
-use Rattle.iop_queues.specs.Queues.{queue_at}
+use Rattle.iop_queues.specs.Numbers.{AreAssigned}
+use Rattle.iop_queues.specs.Queues.{queue_at, with_queue}
 use Rattle.iop_queues.specs.declared.queued.Queued.{Queued}
-use Rattle.iop_queues.proofs.Numbers.{given, given_back}
+use Rattle.iop_queues.proofs.Assigned.{AreAssigned-given_back, AreAssigned-taken, free_is_empty}
 use Rattle.iop_objects.specs.Objects.{Object, Objects, waiters_of, has_room, creates, deletes, changes, with_state}
 use Rattle.iop_objects.specs.Standing.{object_in, objects_in, IsTable}
 use Rattle.iop_objects.specs.declared.objects.Live.{Live}
@@ -22,7 +22,6 @@ use Rattle.iop_objects.specs.declared.objects.TheConstants.{MOST_OBJECTS}
 use Rattle.iop_objects.specs.declared.waiter.Waiter.{Waiter}
 use Rattle.iop_objects.proofs.MappedLists.{filter-map, map-remove, map-at_one, filter-one_passes}
 use Rattle.iop_objects.proofs.Places.{IsObject, ids_apart, has_id}
-use Rattle.iop_objects.proofs.Totals.{all_held, all_held-set, all_held-remove, all_held-push}
 use Rattle.iop_objects.proofs.Tables.{table_of, changed, all_queues, waiters_of-queue}
 
 module _ {A W : Type 0} (live : List (Live A)) (free : List ℕ)
@@ -35,14 +34,6 @@ module _ {A W : Type 0} (live : List (Live A)) (free : List ℕ)
   module _ (id place : ℕ) (o : Live A) (h : IsObject live id place o) where
     abbrev object : Object A W
     object = object_in waiters o
-
-    pub object_here : get_or own.live place object ≡ object
-    object_here =
-        get_or-map (object_in waiters) live place o object h.inside
-        ∙ ap (object_in waiters) h.object
-
-    pub place_inside : place < length own.live
-    place_inside = omega (arith, length-map live (object_in waiters), h.inside)
 
     other_ids : (i : ℕ) → i < length live → i ≢ place → has_id id (get_or live i o) ≡ false
     other_ids i inside apart =
@@ -105,19 +96,9 @@ module _ {A W : Type 0} (live : List (Live A)) (free : List ℕ)
             (subst (λ x. x.id < next) h.object (table.given place o h.inside)) table.given;
         next_first = table.next_first;
         next_last = table.next_last;
-        numbers =
-            subst (λ used. AreNumbers MOST_OBJECTS used free) (sym (kept (λ x. x.queue) refl))
-            table.numbers;
-        queues = table.queues;
-        empty = table.empty;
-        count =
-            omega (
-              arith,
-              table.count,
-              ap all_held (map-set (object_in waiters) live place other),
-              all_held-set own.live place (object_in waiters other) object place_inside,
-              ap (λ p. length p.waiters) object_here,
-            );
+        queues =
+            subst (λ used. AreAssigned MOST_OBJECTS used free waiters)
+            (sym (kept (λ x. x.queue) refl)) table.queues;
       }
 
     -- it is there no more, and none waits for it
@@ -144,28 +125,20 @@ module _ {A W : Type 0} (live : List (Live A)) (free : List ℕ)
             (All-drop (λ x. x.id < next) (suc place) live table.given);
         next_first = table.next_first;
         next_last = table.next_last;
-        numbers =
+        queues =
             let used = map (λ x. x.queue) live in
             let inside : place < length used =
             omega (arith, length-map live (λ x. x.queue), h.inside) in
-            let queue : get_or used place o.queue ≡ o.queue =
-            get_or-map (λ x. x.queue) live place o o.queue h.inside
+            let queue : (d : ℕ) → get_or used place d ≡ o.queue =
+            λ d. get_or-map (λ x. x.queue) live place o d h.inside
             ∙ ap (λ x. x.queue) h.object in
-            subst (λ left. AreNumbers MOST_OBJECTS left (free ++ o.queue ∷ []))
+            let emptied : with_queue o.queue [] waiters ≡ waiters =
+            ap (λ q. with_queue o.queue q waiters) (sym none_waits)
+            ∙ set-get_or waiters o.queue [] in
+            subst (λ left. AreAssigned MOST_OBJECTS left (free ++ o.queue ∷ []) waiters)
             (sym (map-remove (λ x. x.queue) live place))
-            (subst (λ n. AreNumbers MOST_OBJECTS (remove used place) (free ++ n ∷ [])) queue
-            (given_back table.numbers place o.queue inside));
-        queues = table.queues;
-        empty = All-push (λ n. queue_at n waiters ≡ []) free o.queue table.empty none_waits;
-        count =
-            omega (
-              arith,
-              table.count,
-              ap all_held (map-remove (object_in waiters) live place),
-              all_held-remove own.live place object place_inside,
-              ap (λ p. length p.waiters) object_here,
-              ap length none_waits,
-            );
+            (subst (AreAssigned MOST_OBJECTS (remove used place) (free ++ o.queue ∷ [])) emptied
+            (AreAssigned-given_back table.queues o.queue place inside queue));
       }
 
 -- an object more, with the last of the free queues
@@ -185,11 +158,6 @@ module _ {A W : Type 0} (live : List (Live A)) (free : List ℕ) (queue : ℕ)
   abbrev with_one : List (Object A W) → Result ℕ Code × Objects A W
   with_one objects = (Ok next, table_of objects (next + 1))
 
-  empty : All (λ n. queue_at n waiters ≡ []) free × (queue_at queue waiters ≡ [])
-  empty =
-      All-pop (λ n. queue_at n waiters ≡ []) (free ++ queue ∷ []) free (Some queue) refl
-      table.empty
-
   room : has_room was ≡ true
   room =
       let few : length was.live < MOST_OBJECTS =
@@ -202,7 +170,9 @@ module _ {A W : Type 0} (live : List (Live A)) (free : List ℕ) (queue : ℕ)
       grind (arith, nat_tests, few, left)
 
   more : map (object_in waiters) (live ++ made ∷ []) ≡ was.live ++ new [] ∷ []
-  more = map_push (object_in waiters) live made ∙ ap (λ q. was.live ++ new q ∷ []) empty.1
+  more =
+      map_push (object_in waiters) live made
+      ∙ ap (λ q. was.live ++ new q ∷ []) (free_is_empty free queue table.queues)
 
   pub creates-one : creates was state ≡ with_one (map (object_in waiters) (live ++ made ∷ []))
   creates-one =
@@ -219,10 +189,7 @@ module _ {A W : Type 0} (live : List (Live A)) (free : List ℕ) (queue : ℕ)
         (omega arith);
     next_first = omega (arith, table.next_first);
     next_last = omega (arith, left);
-    numbers =
-        subst (λ used. AreNumbers MOST_OBJECTS used free)
-        (sym (map_push (λ o. o.queue) live made)) (given queue table.numbers);
-    queues = table.queues;
-    empty = empty.0;
-    count = omega (arith, table.count, ap all_held more, all_held-push was.live (new []));
+    queues =
+        subst (λ used. AreAssigned MOST_OBJECTS used free waiters)
+        (sym (map_push (λ o. o.queue) live made)) (AreAssigned-taken free queue table.queues);
   }

@@ -1,20 +1,19 @@
 -- The queue of one object of a table changes.
-use Rattle.std.proofs.Common.{◌≡◌, ◌≢◌, ℕ, ◌<◌, Bool, true, false, is_some, Option, Some, None, option_map, List, [], length, map, find, All, refl, ap, sym, ◌∙◌, subst, arith, get_or, set}
-use Rattle.std.proofs.lemmas.List.{length-map, length-set, get_or-map, get_or-set_same, get_or-set_other, set-get_or}
-use Rattle.std.proofs.lemmas.List.Sums.{sum_by-set}
+use Rattle.std.proofs.Common.{◌≡◌, ◌≢◌, ℕ, ◌<◌, Bool, true, false, is_some, Option, Some, None, option_map, List, [], length, map, find, refl, ap, sym, ◌∙◌, subst, arith, get_or, set}
+use Rattle.std.proofs.lemmas.List.{length-map, get_or-map, get_or-set_same, get_or-set_other, set-get_or}
 use Rattle.iop_queues.specs.Queue.{Choice, chooses, left_by}
 use Rattle.iop_queues.specs.Queues.{queue_at, with_queue}
 use Rattle.iop_queues.specs.declared.queued.Queued.{Queued}
-use Rattle.iop_queues.proofs.Numbers.{free_apart, used_apart}
+use Rattle.iop_queues.proofs.Assigned.{AreAssigned-changed, assigned_below}
+use Rattle.iop_queues.proofs.Uses.{used_apart}
 use Rattle.iop_objects.specs.Objects.{Object, Objects, object_of, waiters_of, with_waiters, takes}
 use Rattle.iop_objects.specs.Standing.{object_in, objects_in, IsTable}
 use Rattle.iop_objects.specs.declared.objects.Live.{Live}
 use Rattle.iop_objects.specs.declared.waiter.Waiter.{Waiter}
 use Rattle.iop_objects.proofs.MappedLists.{map-at_one}
 use Rattle.iop_objects.proofs.Places.{has_id, IsObject, found_object}
-use Rattle.iop_objects.proofs.TableChanges.{object_here, place_inside, changes-at_place}
+use Rattle.iop_objects.proofs.TableChanges.{changes-at_place}
 use Rattle.iop_objects.proofs.Tables.{table_of, object_of-live, waiters_of-queue, changes-none}
-use Rattle.iop_objects.proofs.Totals.{all_held, all_held-set}
 
 module _ {A W : Type 0} (live : List (Live A)) (free : List ℕ)
     (waiters : List (List (Queued (Waiter W)))) (next : ℕ)
@@ -28,8 +27,9 @@ module _ {A W : Type 0} (live : List (Live A)) (free : List ℕ)
         → get_or (map (λ x. x.queue) live) i o.queue ≡ (get_or live i o).queue
     queues i inside = get_or-map (λ x. x.queue) live i o o.queue inside
 
-    own_queue : get_or (map (λ x. x.queue) live) place o.queue ≡ o.queue
-    own_queue = queues place h.inside ∙ ap (λ x. x.queue) h.object
+    own_queue : (d : ℕ) → get_or (map (λ x. x.queue) live) place d ≡ o.queue
+    own_queue d =
+        get_or-map (λ x. x.queue) live place o d h.inside ∙ ap (λ x. x.queue) h.object
 
     inside_used : (i : ℕ) → i < length live → i < length (map (λ x. x.queue) live)
     inside_used i inside = omega (arith, length-map live (λ x. x.queue), inside)
@@ -37,19 +37,13 @@ module _ {A W : Type 0} (live : List (Live A)) (free : List ℕ)
     -- it is one of the queues
     queue_inside : o.queue < length waiters
     queue_inside =
-        let below = table.numbers.used_below place o.queue (inside_used place h.inside) in
-        omega (arith, table.queues, own_queue, below)
+        assigned_below table.queues o.queue place (inside_used place h.inside) own_queue
 
-    -- it is not that of another object, and not free
+    -- it is not that of another object
     other_queues : (i : ℕ) → i < length live → i ≢ place → (get_or live i o).queue ≢ o.queue
     other_queues i inside apart e =
-        used_apart table.numbers place i o.queue (inside_used place h.inside)
-        (inside_used i inside) apart (queues i inside ∙ e ∙ sym own_queue)
-
-    free_queues : All (λ n. n ≢ o.queue) free
-    free_queues =
-        subst (λ queue. All (λ n. n ≢ queue) free) own_queue
-        (free_apart table.numbers place o.queue (inside_used place h.inside))
+        used_apart table.queues.numbers place i o.queue (inside_used place h.inside)
+        (inside_used i inside) apart (queues i inside ∙ e ∙ sym (own_queue o.queue))
 
     module _ (queue : List (Queued (Waiter W))) where
       abbrev left : List (List (Queued (Waiter W)))
@@ -81,21 +75,9 @@ module _ {A W : Type 0} (live : List (Live A)) (free : List ℕ)
         given = table.given;
         next_first = table.next_first;
         next_last = table.next_last;
-        numbers = table.numbers;
-        queues = length-set waiters o.queue queue ∙ table.queues;
-        empty = λ k d below.
-            get_or-set_other waiters o.queue (get_or free k d) queue [] (free_queues k d below)
-            ∙ table.empty k d below;
-        count =
-            omega (
-              arith,
-              table.count,
-              sum_by-set length waiters o.queue queue [] queue_inside,
-              ap all_held objects_left,
-              all_held-set own.live place (changed queue) (object_in waiters o)
-                  (place_inside live free waiters next table id place o h),
-              ap (λ p. length p.waiters) (object_here live free waiters next table id place o h),
-            );
+        queues =
+            AreAssigned-changed table.queues o.queue place (inside_used place h.inside) own_queue
+            queue;
       }
 
   -- the object of an id has a queue

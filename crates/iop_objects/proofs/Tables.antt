@@ -1,32 +1,23 @@
 -- What a table stands for.
-use Rattle.std.proofs.Common.{◌≡◌, ◌≢◌, ℕ, ◌+◌, ◌<◌, false, if◌then◌else◌, not, Option, Some, None, option_map, List, [], length, map, find, replicate, All, AllPairs, refl, ap, sym, ◌∙◌, arith, get_or}
+use Rattle.std.proofs.Common.{◌≡◌, ◌≢◌, ℕ, ◌+◌, ◌<◌, false, if◌then◌else◌, not, Option, Some, None, option_map, List, [], length, map, find, replicate, sum, All, AllPairs, refl, ap, sym, ◌∙◌, arith, get_or}
 use Rattle.std.specs.Prelude.{◌==◌}
 use Rattle.std.specs.List.{range_with_len}
-use Rattle.std.proofs.lemmas.List.{length-map, get_or-map, length-replicate, get_or-replicate}
+use Rattle.std.proofs.lemmas.List.{length-map, get_or-map}
 use Rattle.std.proofs.lemmas.List.Elements.{All-map}
-use Rattle.std.proofs.lemmas.List.Folds.{map_fixed, list_any_none, sum_by-replicate}
+use Rattle.std.proofs.lemmas.List.Folds.{map_fixed, list_any_none}
+use Rattle.std.proofs.lemmas.Simd.{map-map}
 use Rattle.iop_base.proofs.Lists.{filter-none_fails}
+use Rattle.iop_base.proofs.Searching.{find-map}
 use Rattle.iop_queues.specs.Queues.{queue_at, total}
 use Rattle.iop_queues.specs.declared.queued.Queued.{Queued}
-use Rattle.iop_queues.proofs.Numbers.{AreNumbers-first}
-use Rattle.iop_objects.specs.Objects.{Object, Objects, AreObjects, object_of, state_of, waiters_in, waiters_of, deletes, changes}
+use Rattle.iop_queues.proofs.Assigned.{AreAssigned-first, total-assigned}
+use Rattle.iop_objects.specs.Objects.{Object, Objects, AreObjects, object_of, state_of, waiters_in, waiters_of, waiting, deletes, changes}
 use Rattle.iop_objects.specs.Standing.{object_in, objects_in, IsTable}
 use Rattle.iop_objects.specs.declared.objects.Live.{Live}
 use Rattle.iop_objects.specs.declared.objects.TheConstants.{FIRST_ID, MOST_OBJECTS}
 use Rattle.iop_objects.specs.declared.waiter.Waiter.{Waiter}
-use Rattle.iop_objects.proofs.MappedLists.{find-map, filter-map}
+use Rattle.iop_objects.proofs.MappedLists.{filter-map}
 use Rattle.iop_objects.proofs.Places.{none_found, has_id}
-
--- the first queues
-empty-first : {T : Type 0} (bound : ℕ)
-    → All (λ n. queue_at {T = T} n (replicate bound []) ≡ []) (range_with_len 0 bound)
-empty-first bound = λ k d below.
-    get_or-replicate bound (get_or (range_with_len 0 bound) k d) [] []
-    ((AreNumbers-first bound).free_below k d below)
-
-total-first : (T : Type 0) (bound : ℕ) → total {T = T} (replicate bound []) ≡ 0
-total-first T bound =
-    let none : List (Queued T) = [] in omega (arith, sum_by-replicate length bound none)
 
 -- the queue of a number, if there is one
 abbrev pub queue_in : {T : Type 0} → List (List (Queued T)) → Option ℕ → List (Queued T)
@@ -49,10 +40,7 @@ module _ {A W : Type 0} where
     given = λ k d below. absurd (omega (arith, below));
     next_first = omega arith;
     next_last = omega arith;
-    numbers = AreNumbers-first MOST_OBJECTS;
-    queues = length-replicate {A = List (Queued (Waiter W))} MOST_OBJECTS [];
-    empty = empty-first MOST_OBJECTS;
-    count = total-first (Waiter W) MOST_OBJECTS;
+    queues = AreAssigned-first MOST_OBJECTS;
   }
 
 module _ {A W : Type 0} (live : List (Live A)) (free : List ℕ)
@@ -63,7 +51,13 @@ module _ {A W : Type 0} (live : List (Live A)) (free : List ℕ)
 
   -- each queue is that of an object, or free
   pub all_queues : length live + length free ≡ MOST_OBJECTS
-  all_queues = omega (arith, length-map live (λ o. o.queue), table.numbers.all)
+  all_queues = omega (arith, length-map live (λ o. o.queue), table.queues.numbers.all)
+
+  -- those that wait stand in the queues of the objects
+  pub all_waiting : total waiters ≡ waiting own
+  all_waiting =
+      total-assigned (λ o. o.queue) live table.queues
+      ∙ ap sum (sym (map-map (λ (o : Object A W). length o.waiters) (object_in waiters) live))
 
   two_ids_in : AllPairs (λ a b. a.id ≢ b.id) own.live
   two_ids_in i j d less below e =

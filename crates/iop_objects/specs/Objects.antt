@@ -1,6 +1,6 @@
--- The objects of one kind that are live, and the threads that wait for them (ps2sdk: thsemap, thevent,
--- thmsgbx; the codes are those of its kerr.h). That ids are never used again, and how many objects can
--- stand, is this project's own profile.
+-- The objects of one kind that are live, and the threads that wait for them (ps2sdk: thsemap,
+-- thevent, thmsgbx; the codes are those of its kerr.h). That ids are never used again, and how many
+-- objects can stand, is this project's own profile.
 use Rattle.std.specs.Prelude.{◌≢◌, ℕ, ◌+◌, ◌<◌, ◌≤◌, ◌==◌, nat_lt, nat_le, Bool, ◌&&◌, not, if◌then◌else◌, Option, Some, None, option_map, Result, Ok, Err, List, [], ◌∷◌, ◌++◌, length, find, filter, map, sum, All, AllPairs}
 use Rattle.iop_base.specs.declared.code.Code.{Code}
 use Rattle.iop_base.specs.declared.code.TheConstants.Code.{NO_MEMORY}

@@ -1,11 +1,11 @@
 -- How the program's table stands for the objects: each has a queue of its own, in which those stand
 -- that wait for it, and all other queues are free.
-use Rattle.std.specs.Prelude.{◌≡◌, ℕ, ◌+◌, ◌<◌, ◌≤◌, List, [], length, map, All, AllPairs}
+use Rattle.std.specs.Prelude.{ℕ, ◌+◌, ◌<◌, ◌≤◌, List, map, All, AllPairs}
 use Rattle.iop_base.specs.declared.limits.TheConstants.{LAST_ID}
-use Rattle.iop_queues.specs.Numbers.{AreNumbers}
-use Rattle.iop_queues.specs.Queues.{queue_at, total}
+use Rattle.iop_queues.specs.Numbers.{AreAssigned}
+use Rattle.iop_queues.specs.Queues.{queue_at}
 use Rattle.iop_queues.specs.declared.queued.Queued.{Queued}
-use Rattle.iop_objects.specs.Objects.{Object, Objects, waiting}
+use Rattle.iop_objects.specs.Objects.{Object, Objects}
 use Rattle.iop_objects.specs.declared.objects.Live.{Live}
 use Rattle.iop_objects.specs.declared.objects.TheConstants.{FIRST_ID, MOST_OBJECTS}
 use Rattle.iop_objects.specs.declared.waiter.Waiter.{Waiter}
@@ -34,8 +34,4 @@ module _ {A W : Type 0} where
     pub next_first : FIRST_ID ≤ next
     pub next_last : next ≤ LAST_ID + 1
     -- each queue is that of one live object, or free
-    pub numbers : AreNumbers MOST_OBJECTS (map (λ o. o.queue) live) free
-    pub queues : length waiters ≡ MOST_OBJECTS
-    -- none waits for an object that is not live
-    pub empty : All (λ n. queue_at n waiters ≡ []) free
-    pub count : total waiters ≡ waiting (objects_in live waiters next)
+    pub queues : AreAssigned MOST_OBJECTS (map (λ o. o.queue) live) free waiters

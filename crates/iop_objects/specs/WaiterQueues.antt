@@ -1,5 +1,5 @@
--- The threads that wait for an object (ps2sdk: thsemap, thevent, thmsgbx). What a change of priority does
--- to them is this project's own profile.
+-- The threads that wait for an object (ps2sdk: thsemap, thevent, thmsgbx). What a change of
+-- priority does to them is this project's own profile.
 use Rattle.std.specs.Prelude.{ℕ, ◌==◌, Bool, true, false, List}
 use Rattle.iop_queues.specs.Queues as queues
 use Rattle.iop_queues.specs.declared.queued.Queued.{Queued}
@@ -30,7 +30,8 @@ module _ {W : Type 0} where
       → List (Queued (Waiter W))
   in_place thread priority waiters = queues.in_place (is_waiter thread) priority waiters
 
-  -- the priority of a thread changes: where waiters are chosen by priority it waits behind all others then
+  -- the priority of a thread changes: where waiters are chosen by priority it waits behind all
+  -- others then
   abbrev pub requeued : (by_priority : Bool) → (thread priority : ℕ) → List (Queued (Waiter W))
       → List (Queued (Waiter W))
   requeued true thread priority waiters = moved_last thread priority waiters

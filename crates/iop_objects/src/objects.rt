@@ -5,7 +5,7 @@ ghost use Rattle.iop_objects.specs.declared.objects.TheConstants.{MOST_WAITERS};
 
 use crate::waiter::Waiter;
 use iop_base::{Code, LAST_ID};
-use iop_queues::{Condition, Queued, Queues};
+use iop_queues::{Condition, Numbers, Queued, Queues};
 use std::alloc::{AllocError, Global};
 use std::marker::Model;
 
@@ -36,7 +36,7 @@ pub struct Objects<A, W> {
     /// In the order of their ids.
     live: Vec<Live<A>>,
     /// The queues of no live object.
-    free: Vec<u32>,
+    free: Numbers<MOST_OBJECTS>,
     waiters: Queues<Waiter<W>, MOST_WAITERS>,
     next: u32,
 }
@@ -52,8 +52,8 @@ impl<A, W> Model for Objects<A, W> {
 
     ghost view = { λ s. objects_in s.live.items s.waiters s.next };
 
-    ghost invariant = { λ s. IsTable s.live.items s.free.items s.waiters s.next
-        × (MOST_OBJECTS ≤ vec_capacity s.live) × (MOST_OBJECTS ≤ vec_capacity s.free) };
+    ghost invariant = { λ s. IsTable s.live.items s.free s.waiters s.next
+        × (MOST_OBJECTS ≤ vec_capacity s.live) };
 }
 
 impl<A: Copy, W: Copy> Objects<A, W> {
@@ -63,7 +63,7 @@ impl<A: Copy, W: Copy> Objects<A, W> {
         ensures { IfOk result (λ objects. objects ≡ no_objects) }
     {
         let live = Vec::with_capacity(alloc, MOST_OBJECTS)?;
-        let free = (0..MOST_OBJECTS as u32).collect(alloc)?;
+        let free = Numbers::new(alloc)?;
         let waiters = Queues::new(alloc, MOST_OBJECTS as u32)?;
         let next = FIRST_ID;
         Ok(Objects {
@@ -83,7 +83,7 @@ impl<A: Copy, W: Copy> Objects<A, W> {
         if self.next > LAST_ID {
             return Err(Code::NO_MEMORY);
         }
-        let Some(queue) = self.free.pop() else {
+        let Some(queue) = self.free.take() else {
             return Err(Code::NO_MEMORY);
         };
         let id = self.next;
@@ -99,7 +99,7 @@ impl<A: Copy, W: Copy> Objects<A, W> {
     {
         if let Some(place) = position(&self.live, id) {
             let object = self.live.remove(place);
-            self.free.push_reserved(object.queue);
+            self.free.give_back(object.queue);
         }
     }
 

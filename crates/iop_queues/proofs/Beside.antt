@@ -1,7 +1,8 @@
 -- Queues of which one changes.
-use Rattle.std.proofs.Common.{◌≡◌, ℕ, ◌+◌, ◌<◌, ◌≤◌, List, [], ◌∷◌, ◌++◌, length, ap, sym, ◌∙◌, arith}
+use Rattle.std.proofs.Common.{◌≡◌, ℕ, ◌+◌, ◌<◌, ◌≤◌, Option, List, [], ◌∷◌, ◌++◌, length, ap, sym, ◌∙◌, arith}
 use Rattle.std.proofs.lemmas.List.{length-set, get_or-set_same, set-set, set-get_or}
 use Rattle.std.proofs.lemmas.List.Sums.{sum_by-set}
+use Rattle.iop_queues.specs.Queue.{Choice, left_by}
 use Rattle.iop_queues.specs.Queues.{queue_at, with_queue, total}
 use Rattle.iop_queues.specs.declared.queued.Queued.{Queued}
 
@@ -32,7 +33,8 @@ module _ {T : Type 0} where
     pub stay-with : StayBeside queue (with_queue queue items queues) queues
     stay-with = set-set queues queue items []
 
-    pub queue_at-with : queue < length queues → queue_at queue (with_queue queue items queues) ≡ items
+    pub queue_at-with : queue < length queues
+        → queue_at queue (with_queue queue items queues) ≡ items
     queue_at-with below = get_or-set_same queues queue items [] below
 
     pub total-with : queue < length queues
@@ -45,6 +47,18 @@ module _ {T : Type 0} where
       → length (queue_at queue queues) ≤ total queues
   total-own queue queues below = omega (arith, total-with queue [] queues below)
 
+  -- the queue once one of it was taken
+  pub left_own : (queue : ℕ) (first now : List (List (Queued T))) → queue < length first
+      → StayBeside queue now first → (choose : List (Queued T) → Option (Choice T))
+      → (left : List (List (Queued T)))
+      → left ≡ with_queue queue (left_by (queue_at queue now) (choose (queue_at queue now))) now
+      → queue_at queue left ≡ left_by (queue_at queue now) (choose (queue_at queue now))
+  left_own queue first now below beside choose left left_is =
+      let own = queue_at queue now in
+      let same = length-beside queue now first beside in
+      ap (queue_at queue) left_is
+      ∙ queue_at-with queue (left_by own (choose own)) now (omega (arith, below, same))
+
   -- an item is put behind what is left of a queue
   pub put_back : (queue : ℕ) (first now left new : List (List (Queued T)))
       (others : List (Queued T)) (x : Queued T)
@@ -52,12 +66,14 @@ module _ {T : Type 0} where
       → new ≡ with_queue queue (queue_at queue left ++ x ∷ []) left
       → StayBeside queue new first × (queue_at queue new ≡ others ++ x ∷ [])
   put_back queue first now left new others x below beside left_is new_is =
-      let in_now : queue < length now = omega (arith, below, length-beside queue now first beside) in
+      let same = length-beside queue now first beside in
+      let in_now : queue < length now = omega (arith, below, same) in
       let in_left : queue < length left =
       omega (arith, in_now, ap length left_is, length-set now queue others) in
       let items = queue_at queue left ++ x ∷ [] in (
         ap (with_queue queue []) new_is ∙ stay-with queue items left
             ∙ ap (with_queue queue []) left_is ∙ stay-with queue others now ∙ beside,
         ap (queue_at queue) new_is ∙ queue_at-with queue items left in_left
-            ∙ ap (λ q. q ++ x ∷ []) (ap (queue_at queue) left_is ∙ queue_at-with queue others now in_now),
+            ∙ ap (λ q. q ++ x ∷ [])
+            (ap (queue_at queue) left_is ∙ queue_at-with queue others now in_now),
       )

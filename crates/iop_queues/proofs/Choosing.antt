@@ -120,38 +120,40 @@ module _ {T : Type 0} where
     first = All-nil (λ y. p y.item ≡ true → ⊥);
   }
 
-  abbrev None_of : (T → Bool) → List (Queued T) → Type 0
-  None_of p xs = All (λ x. p x.item ≡ true → ⊥) xs
+  -- the condition holds of none
+  abbrev pub NeverHolds : (T → Bool) → List (Queued T) → Type 0
+  NeverHolds p xs = All (λ x. p x.item ≡ true → ⊥) xs
 
   behind_more : (p : T → Bool) (x : Queued T) (xs : List (Queued T)) (o : Option (Choice T))
-      → p x.item ≡ false → MatchOption o (None_of p xs) (IsFirstWhere p xs)
-      → MatchOption (chooses_behind x o) (None_of p (x ∷ xs)) (IsFirstWhere p (x ∷ xs))
+      → p x.item ≡ false → MatchOption o (NeverHolds p xs) (IsFirstWhere p xs)
+      → MatchOption (chooses_behind x o) (NeverHolds p (x ∷ xs)) (IsFirstWhere p (x ∷ xs))
   behind_more p x xs None fails h =
       All-cons (λ y. p y.item ≡ true → ⊥) x xs (λ passes. false≢true (sym fails ∙ passes)) h
   behind_more p x xs (Some c) fails h = first_behind p x xs c fails h
 
   where_by : (p : T → Bool) (x : Queued T) (xs : List (Queued T)) (o : Option (Choice T))
-      → MatchOption o (None_of p xs) (IsFirstWhere p xs) → (b : Bool) → p x.item ≡ b
+      → MatchOption o (NeverHolds p xs) (IsFirstWhere p xs) → (b : Bool) → p x.item ≡ b
       → MatchOption (cond b (Some (record { one = x; others = xs })) (chooses_behind x o))
-      (None_of p (x ∷ xs)) (IsFirstWhere p (x ∷ xs))
+      (NeverHolds p (x ∷ xs)) (IsFirstWhere p (x ∷ xs))
   where_by p x xs o h true e = first_here p x xs e
   where_by p x xs o h false e = behind_more p x xs o e h
 
   where_chosen : (p : T → Bool) (xs : List (Queued T))
-      → MatchOption (chooses_where p xs) (None_of p xs) (IsFirstWhere p xs)
+      → MatchOption (chooses_where p xs) (NeverHolds p xs) (IsFirstWhere p xs)
   where_chosen p [] = All-nil (λ x. p x.item ≡ true → ⊥)
   where_chosen p (x ∷ xs) =
       where_by p x xs (chooses_where p xs) (where_chosen p xs) (p x.item) refl
 
-  first_where : (p : T → Bool) (xs : List (Queued T)) (c : Choice T)
+  pub first_where : (p : T → Bool) (xs : List (Queued T)) (c : Choice T)
       → chooses_where p xs ≡ Some c → IsFirstWhere p xs c
   first_where p xs c e =
-      subst (λ (o : Option (Choice T)). MatchOption o (None_of p xs) (IsFirstWhere p xs)) e
+      subst (λ (o : Option (Choice T)). MatchOption o (NeverHolds p xs) (IsFirstWhere p xs)) e
       (where_chosen p xs)
 
-  none_where : (p : T → Bool) (xs : List (Queued T)) → chooses_where p xs ≡ None → None_of p xs
+  pub none_where : (p : T → Bool) (xs : List (Queued T)) → chooses_where p xs ≡ None
+      → NeverHolds p xs
   none_where p xs e =
-      subst (λ (o : Option (Choice T)). MatchOption o (None_of p xs) (IsFirstWhere p xs)) e
+      subst (λ (o : Option (Choice T)). MatchOption o (NeverHolds p xs) (IsFirstWhere p xs)) e
       (where_chosen p xs)
 
   -- the order
@@ -169,8 +171,8 @@ module _ {T : Type 0} where
       → MatchOption o (xs ≡ []) (Comes (sorted xs))
       → Comes (put_by_priority x (sorted xs)) (chooses_between x xs o)
   put_more x xs None e =
-      subst (λ (ys : List (Queued T)). Comes (put_by_priority x (sorted ys)) (chooses_between x ys None))
-      (sym e) refl
+      subst (λ (ys : List (Queued T)).
+      Comes (put_by_priority x (sorted ys)) (chooses_between x ys None)) (sym e) refl
   put_more x xs (Some c) h =
       ap (put_by_priority x) h ∙ put_by x xs xs c h (nat_lt c.one.priority x.priority) refl
 

@@ -3,18 +3,13 @@ use Rattle.std.proofs.Common.{◌≡◌, ◌≢◌, ℕ, suc, ◌+◌, Bool, tru
 use Rattle.std.specs.List.{All, AllPairs}
 use Rattle.std.proofs.lemmas.Bool.{eq-eqb, ne_eqb, eqb-true}
 use Rattle.std.proofs.lemmas.List.Elements.{All-head, All-tail}
+use Rattle.iop_base.proofs.Searching.{AllPairs-head, AllPairs-tail}
 use Rattle.iop_cblock.specs.Lists.{holds, without}
 use Rattle.iop_cblock.proofs.Changes.{without-lacks}
 use Rattle.iop_cblock.proofs.Rings.{lacks-cons, holds-tail}
 
 abbrev pub Differ : ℕ → ℕ → Type 0
 Differ x y = x ≢ y
-
-head_differs : (x : ℕ) (xs : List ℕ) → AllPairs Differ (x ∷ xs) → All (Differ x) xs
-head_differs x xs pairs = λ k d below. pairs 0 (suc k) d (omega arith) (omega arith)
-
-tail_differs : (x : ℕ) (xs : List ℕ) → AllPairs Differ (x ∷ xs) → AllPairs Differ xs
-tail_differs x xs pairs = λ i j d less below. pairs (suc i) (suc j) d (omega arith) (omega arith)
 
 pub lacks-all : (x : ℕ) (xs : List ℕ) → All (Differ x) xs → holds x xs ≡ false
 lacks-all x [] all = refl
@@ -28,7 +23,7 @@ at_seam P (x ∷ xs) y ys all = at_seam P xs y ys (All-tail P x (xs ++ y ∷ ys)
 
 without-first : (x : ℕ) (xs : List ℕ) → AllPairs Differ (x ∷ xs) → without x (x ∷ xs) ≡ xs
 without-first x xs pairs =
-    rw (eq-eqb x x refl) (without-lacks x xs (lacks-all x xs (head_differs x xs pairs)))
+    rw (eq-eqb x x refl) (without-lacks x xs (lacks-all x xs (AllPairs-head Differ x xs pairs)))
 
 -- a node that stands between others is taken out
 pub without-between : (before : List ℕ) (node : ℕ) (behind : List ℕ)
@@ -37,9 +32,9 @@ pub without-between : (before : List ℕ) (node : ℕ) (behind : List ℕ)
 without-between [] node behind pairs = without-first node behind pairs
 without-between (x ∷ xs) node behind pairs =
     let rest = xs ++ node ∷ behind in
-    let other = at_seam (Differ x) xs node behind (head_differs x rest pairs) in
+    let other = at_seam (Differ x) xs node behind (AllPairs-head Differ x rest pairs) in
     rw (ne_eqb node x (λ e. other (sym e)))
-    (ap (λ ys. x ∷ ys) (without-between xs node behind (tail_differs x rest pairs)))
+    (ap (λ ys. x ∷ ys) (without-between xs node behind (AllPairs-tail Differ x rest pairs)))
 
 length_by : (b : Bool) (node x : ℕ) (xs : List ℕ) → eqb node x ≡ b
     → AllPairs Differ (x ∷ xs) → (holds node xs ≡ true → length (without node xs) + 1 ≡ length xs)
@@ -47,7 +42,7 @@ length_by : (b : Bool) (node x : ℕ) (xs : List ℕ) → eqb node x ≡ b
     → length (cond (not b) (x ∷ without node xs) (without node xs)) + 1 ≡ suc (length xs)
 length_by true node x xs e pairs later here =
     let same : node ≡ x = eqb-true node x e in
-    let left = without-lacks node xs (rw same (lacks-all x xs (head_differs x xs pairs))) in
+    let left = without-lacks node xs (rw same (lacks-all x xs (AllPairs-head Differ x xs pairs))) in
     omega (arith, ap length left)
 length_by false node x xs e pairs later here = omega (arith, later (holds-tail node x xs e here))
 
@@ -57,4 +52,4 @@ pub length-without : (node : ℕ) (xs : List ℕ) → AllPairs Differ xs → hol
 length-without node [] pairs here = cc
 length-without node (x ∷ xs) pairs here =
     length_by (eqb node x) node x xs refl pairs
-    (length-without node xs (tail_differs x xs pairs)) here
+    (length-without node xs (AllPairs-tail Differ x xs pairs)) here

@@ -1,15 +1,16 @@
 -- What is found among more and more of the nodes of a list.
-use Rattle.std.proofs.Common.{◌≡◌, ◌∙◌, ℕ, ◌+◌, ◌<◌, ◌≤◌, Bool, true, false, cond, nat_lt, Option, Some, None, IfSome, is_some, List, [], ◌∷◌, ◌++◌, append-nil, append_assoc, length, refl, sym, ap, arith}
+use Rattle.std.proofs.Common.{◌≡◌, ◌∙◌, ℕ, ◌+◌, Bool, true, false, cond, nat_lt, Option, Some, None, IfSome, is_some, option_map, List, [], ◌∷◌, ◌++◌, append-nil, append_assoc, refl, sym, ap, subst, arith}
 use Rattle.std.specs.List.{All, count_by}
 use Rattle.std.proofs.lemmas.Bool.{cond_both}
 use Rattle.std.proofs.lemmas.Bool.Decides.{nat_tests}
 use Rattle.std.proofs.lemmas.List.Elements.{All-head, All-tail, All-push, filter_map-append}
 use Rattle.std.proofs.lemmas.List.Sums.{sum_by_push}
-use Rattle.iop_cblock.specs.Lists.{Lists, holds, head, list_at, next_of}
+use Rattle.iop_cblock.specs.Lists.{holds, head}
 use Rattle.iop_queues.specs.Queue.{Choice, chooses_first, chooses_best, chooses_between, chooses_where}
-use Rattle.iop_queues.specs.Walks.{item_at, items_of, AreFilled, IsFilled, priority_at, with_later, holds_at, IsNode, Finds}
+use Rattle.iop_queues.specs.Walks.{item_at, items_of, AreFilled, with_later, IsRanked, holds_at, IsNode, Finds}
 use Rattle.iop_queues.specs.declared.queued.Queued.{Queued}
-use Rattle.iop_queues.proofs.Walking.{passed, ahead, passed-ahead, IsInside, inside-head, IsStep, All-held, below-held, length-list, steps}
+use Rattle.iop_queues.specs.declared.walks.Ranked.{Ranked}
+use Rattle.iop_queues.proofs.Walking.{inside-head, All-held}
 
 module _ {T : Type 0} where
   -- the choice where one more item stands at the end
@@ -37,11 +38,20 @@ module _ {T : Type 0} where
   some_of (Some x) h = (x, refl)
 
   -- the item of a node that is searched
-  item_of : (items : List (Option (Queued T))) (nodes : List ℕ) → AreFilled items nodes → (node : ℕ)
+  pub item_of : (items : List (Option (Queued T))) (nodes : List ℕ) → AreFilled items nodes → (node : ℕ)
       → holds node nodes ≡ true → (x : Queued T) × (item_at items node ≡ Some x)
   item_of items nodes filled node held =
       some_of (item_at items node)
       (All-held (λ n. is_some (item_at items n) ≡ true) node nodes filled held)
+
+abbrev pub node_of : Option Ranked → Option ℕ
+node_of best = option_map (λ r. r.node) best
+
+pub with_later-either : (P : Ranked → Type 0) (best : Option Ranked) (later : Ranked) → IfSome best P
+    → P later → P (with_later best later)
+with_later-either P None later earlier here = here
+with_later-either P (Some first) later earlier here =
+    cond_both (nat_lt later.priority first.priority) later first P (λ e. here) (λ e. earlier)
 
 module _ {T : Type 0} (items : List (Option (Queued T))) where
   items_of-between : (front : List ℕ) (node : ℕ) (back : List ℕ) (x : Queued T)
@@ -90,37 +100,41 @@ module _ {T : Type 0} (items : List (Option (Queued T))) where
           ∙ ap (λ ys. ys ++ x ∷ []) h.others_are;
     }
 
-    node_by : (b : Bool) (c : Choice T) (first : ℕ) → IsNode items xs c first
+    abbrev own : Ranked
+    own = record { node = node; priority = x.priority }
+
+    node_by : (b : Bool) (c : Choice T) (first : Ranked) → IsNode items xs c first.node
         → IsNode items (xs ++ node ∷ []) (cond b (record { one = x; others = items_of items xs })
-        (record { one = c.one; others = c.others ++ x ∷ [] })) (cond b node first)
+        (record { one = c.one; others = c.others ++ x ∷ [] })) (cond b own first).node
     node_by true c first h = node_last
-    node_by false c first h = node_before c first h
+    node_by false c first h = node_before c first.node h
 
-    node_with_later : (best : Option ℕ) (o : Option (Choice T)) → Finds items xs best o
+    node_with_later : (best : Option Ranked) (o : Option (Choice T))
+        → Finds items xs (node_of best) o → IfSome best (IsRanked items)
         → IsNode items (xs ++ node ∷ []) (with_last o (items_of items xs) x)
-        (with_later items best node)
-    node_with_later None o h = rw h node_last
-    node_with_later (Some first) o h =
+        (with_later best own).node
+    node_with_later None o h ranked = rw h node_last
+    node_with_later (Some first) o h ranked =
         let found = h.2 in
-        rw (h.1, is, found.item_is) (node_by (nat_lt x.priority h.0.one.priority) h.0 first found)
+        let first_is : first.priority ≡ h.0.one.priority = rw found.item_is at ranked in
+        rw h.1
+        (subst (λ n.
+        IsNode items (xs ++ node ∷ []) (with_last (Some h.0) (items_of items xs) x)
+        (cond (nat_lt x.priority n) own first).node) (sym first_is)
+        (node_by (nat_lt x.priority h.0.one.priority) h.0 first found))
 
-    Finds-more : (best : Option ℕ) → Finds items xs best (chooses_best (items_of items xs))
-        → Finds items (xs ++ node ∷ []) (Some (with_later items best node))
+    pub Finds-more : (best : Option Ranked)
+        → Finds items xs (node_of best) (chooses_best (items_of items xs))
+        → IfSome best (IsRanked items)
+        → Finds items (xs ++ node ∷ []) (Some (with_later best own).node)
         (chooses_best (items_of items (xs ++ node ∷ [])))
-    Finds-more best h =
+    Finds-more best h ranked =
         let o = chooses_best (items_of items xs) in (
           with_last o (items_of items xs) x,
           ap chooses_best (items_of-between xs node [] x is)
               ∙ chooses_best-push (items_of items xs) x,
-          node_with_later best o h,
+          node_with_later best o h ranked,
         )
-
-  with_later-either : (P : ℕ → Type 0) (best : Option ℕ) (node : ℕ) → IfSome best P → P node
-      → P (with_later items best node)
-  with_later-either P None node earlier here = here
-  with_later-either P (Some first) node earlier here =
-      cond_both (nat_lt (priority_at items node) (priority_at items first)) node first P (λ e. here)
-      (λ e. earlier)
 
 -- by a condition
 module _ {T : Type 0} (p : T → Bool) where
@@ -136,7 +150,7 @@ module _ {T : Type 0} (p : T → Bool) where
         chooses_where-none xs (All-tail (λ y. p y.item ≡ false) x xs none),
       ) refl
 
-  chooses_where-first : (xs : List (Queued T)) (y : Queued T) (ys : List (Queued T))
+  pub chooses_where-first : (xs : List (Queued T)) (y : Queued T) (ys : List (Queued T))
       → NoneMeets xs → p y.item ≡ true
       → chooses_where p (xs ++ y ∷ ys) ≡ Some (record { one = y; others = xs ++ ys })
   chooses_where-first [] y ys none meets = rw meets refl
@@ -148,7 +162,7 @@ module _ {T : Type 0} (p : T → Bool) where
 
   module _ (items : List (Option (Queued T))) (front : List ℕ) (node : ℕ) (x : Queued T)
       (is : item_at items node ≡ Some x) where
-    Finds-where : (back : List ℕ) → NoneMeets (items_of items front) → p x.item ≡ true
+    pub Finds-where : (back : List ℕ) → NoneMeets (items_of items front) → p x.item ≡ true
         → (nodes : List ℕ) → nodes ≡ front ++ node ∷ back
         → Finds items nodes (Some node) (chooses_where p (items_of items nodes))
     Finds-where back none meets nodes are =
@@ -165,119 +179,14 @@ module _ {T : Type 0} (p : T → Bool) where
           },
         )
 
-    NoneMeets-more : NoneMeets (items_of items front) → p x.item ≡ false
+    pub NoneMeets-more : NoneMeets (items_of items front) → p x.item ≡ false
         → NoneMeets (items_of items (front ++ node ∷ []))
     NoneMeets-more none fails =
         rw (items_of-between items front node [] x is)
         (All-push (λ y. p y.item ≡ false) (items_of items front) x none fails)
 
-    count-more : count_by (λ y. p y.item) (items_of items (front ++ node ∷ []))
+    pub count-more : count_by (λ y. p y.item) (items_of items (front ++ node ∷ []))
         ≡ count_by (λ y. p y.item) (items_of items front) + cond (holds_at p items node) 1 0
     count-more =
         ap (count_by (λ y. p y.item)) (items_of-between items front node [] x is)
         ∙ sum_by_push (λ y. cond (p y.item) 1 0) (items_of items front) x ∙ rw is refl
-
--- what is found when a cursor has come so far
-module _ {T : Type 0} (items : List (Option (Queued T))) (s : Lists) (list : ℕ) where
-  pub record BestSoFar (cursor best : Option ℕ) : Type 0 where
-    pub inside : IsInside cursor (list_at list s)
-    pub found : Finds items (passed cursor (list_at list s)) best
-        (chooses_best (items_of items (passed cursor (list_at list s))))
-    pub below : IfSome best (λ node. node < s.nodes)
-
-  pub record NoneSoFar (p : T → Bool) (cursor : Option ℕ) : Type 0 where
-    pub inside : IsInside cursor (list_at list s)
-    pub none : NoneMeets p (items_of items (passed cursor (list_at list s)))
-
-  pub record CountSoFar (p : T → Bool) (cursor : Option ℕ) (count : ℕ) : Type 0 where
-    pub inside : IsInside cursor (list_at list s)
-    pub count_is : count
-        ≡ count_by (λ x. p x.item) (items_of items (passed cursor (list_at list s)))
-    pub few : count + length (ahead cursor (list_at list s)) ≤ length (list_at list s)
-
--- what a step from a node of the list adds
-module _ {T : Type 0} {items : List (Option (Queued T))} {s : Lists} {list : ℕ}
-    (filled : IsFilled items s list) {cursor : Option ℕ} {node : ℕ} (is : cursor ≡ Some node)
-    (inside : IsInside cursor (list_at list s)) where
-  held : holds node (list_at list s) ≡ true
-  held = rw is at inside
-
-  item : (x : Queued T) × (item_at items node ≡ Some x)
-  item = item_of items (list_at list s) filled.filled node held
-
-  pub node_below : node < s.nodes
-  node_below = below-held list s filled.disjoint node held
-
-  pub item_below : node < length items
-  item_below = omega (arith, node_below, filled.nodes_below)
-
-  go_on : (next : Option ℕ) → next ≡ next_of node s → IsStep cursor next node (list_at list s)
-  go_on next next_is = steps list s filled.disjoint filled.list_below cursor next node is held next_is
-
-  pub nearer : {next : Option ℕ} → next ≡ next_of node s
-      → length (ahead next (list_at list s)) < length (ahead cursor (list_at list s))
-  nearer {next} next_is = omega (arith, ap length (go_on next next_is).ahead_is)
-
-  pub best_more : {next best : Option ℕ} {better : ℕ} → BestSoFar items s list cursor best
-      → next ≡ next_of node s → better ≡ with_later items best node
-      → BestSoFar items s list next (Some better)
-  best_more {next} {best} h next_is better_is =
-      let step = go_on next next_is in
-      record {
-        inside = step.inside;
-        found = rw (step.passed_is, better_is)
-            (Finds-more items (passed cursor (list_at list s)) node item.0 item.1 best h.found);
-        below = rw better_is
-            (with_later-either items (λ n. n < s.nodes) best node h.below node_below);
-      }
-
-  pub none_more : {p : T → Bool} {next : Option ℕ} → NoneSoFar items s list p cursor
-      → next ≡ next_of node s → holds_at p items node ≡ false → NoneSoFar items s list p next
-  none_more {p} {next} h next_is fails =
-      let step = go_on next next_is in
-      record {
-        inside = step.inside;
-        none = rw step.passed_is
-            (NoneMeets-more p items (passed cursor (list_at list s)) node item.0 item.1 h.none
-            (rw item.1 at fails));
-      }
-
-  pub none_until : {p : T → Bool} → NoneSoFar items s list p cursor → holds_at p items node ≡ true
-      → Finds items (list_at list s) (Some node) (chooses_where p (items_of items (list_at list s)))
-  none_until {p} h meets =
-      let own = list_at list s in
-      let front = passed cursor own in
-      let step = go_on (next_of node s) refl in
-      Finds-where p items front node item.0 item.1 (ahead (next_of node s) own) h.none
-      (rw item.1 at meets) own
-      (sym (ap (λ ys. front ++ ys) (sym step.ahead_is) ∙ passed-ahead cursor own))
-
-  pub count_more : {p : T → Bool} {next : Option ℕ} {count later : ℕ}
-      → CountSoFar items s list p cursor count → next ≡ next_of node s
-      → later ≡ count + cond (holds_at p items node) 1 0 → CountSoFar items s list p next later
-  count_more {p} {next} h next_is later_is =
-      let step = go_on next next_is in
-      let front = passed cursor (list_at list s) in
-      let one = cond_both (holds_at p items node) 1 0 (λ n. n ≤ 1) (λ e. omega arith)
-      (λ e. omega arith) in
-      record {
-        inside = step.inside;
-        count_is = later_is
-            ∙ ap (λ n. n + cond (holds_at p items node) 1 0) h.count_is
-            ∙ sym (ap (λ ys. count_by (λ x. p x.item) (items_of items ys)) step.passed_is
-            ∙ count-more p items front node item.0 item.1);
-        few = omega (arith, later_is, one, h.few, ap length step.ahead_is);
-      }
-
-  -- one more is no more than there are items
-  pub count_fits : {p : T → Bool} {count : ℕ} → CountSoFar items s list p cursor count
-      → count < length items
-  count_fits h =
-      let step = go_on (next_of node s) refl in
-      omega (
-        arith,
-        h.few,
-        ap length step.ahead_is,
-        length-list list s filled.disjoint,
-        filled.nodes_below,
-      )

@@ -6,8 +6,8 @@ use Rattle.std.proofs.lemmas.List.{map-id, length-replicate, get_or-replicate, g
 use Rattle.std.proofs.lemmas.List.Elements.{All-nil}
 use Rattle.std.proofs.lemmas.List.Folds.{sum_by-replicate}
 use Rattle.std.proofs.lemmas.List.FromFn.{length-range_with_len, get_or-range_with_len, map-range_with_len_more}
+use Rattle.iop_base.proofs.Searching.{position-none}
 use Rattle.iop_cblock.specs.Lists.{Lists, AreDisjoint, no_lists, holds, list_at, list_of, pushed_back}
-use Rattle.iop_cblock.proofs.Owners.{position-none}
 use Rattle.iop_queues.specs.Nodes.{queues_in, AreQueues}
 use Rattle.iop_queues.specs.Queues.{total}
 use Rattle.iop_queues.specs.Walks.{item_at, items_of, AreFilled}
@@ -36,13 +36,14 @@ filling_more room queues i =
     ap (λ ns. let s : Lists = record { nodes = room; lists = ns ∷ replicate queues [] } in s)
     (range-more i)
 
-empty_at : (queues k : ℕ) → get_or (replicate {A = List ℕ} queues []) k [] ≡ []
-empty_at queues k =
+-- empty lists stand everywhere
+pub empty_at : {X : Type 0} (count k : ℕ) → get_or (replicate {A = List X} count []) k [] ≡ []
+empty_at {X} count k =
     ⊎_elim
-    (λ below. get_or-replicate {A = List ℕ} queues k [] [] below)
-    (λ past. get_or_past (replicate {A = List ℕ} queues []) k []
-    (omega (arith, past, length-replicate {A = List ℕ} queues [])))
-    (cases_lt k queues)
+    (λ below. get_or-replicate {A = List X} count k [] [] below)
+    (λ past. get_or_past (replicate {A = List X} count []) k []
+    (omega (arith, past, length-replicate {A = List X} count [])))
+    (cases_lt k count)
 
 pub filling_free : (room queues i : ℕ) → list_of i (filling room queues i) ≡ None
 filling_free room queues i =
@@ -66,7 +67,7 @@ module _ {T : Type 0} (room queues : ℕ) (items : List (Option (Queued T))) whe
   filled_at : (list : ℕ) → 0 < list → AreFilled items (list_at list (filling room queues room))
   filled_at zero some = absurd (omega (arith, some))
   filled_at (suc k) some =
-      rw (empty_at queues k) (All-nil (λ n. is_some (item_at items n) ≡ true))
+      rw (empty_at {X = ℕ} queues k) (All-nil (λ n. is_some (item_at items n) ≡ true))
 
   module _ (s : Lists) (full : s ≡ filling room queues room) where
     -- the new queues are empty
@@ -81,7 +82,8 @@ module _ {T : Type 0} (room queues : ℕ) (items : List (Option (Queued T))) whe
       disjoint = disjoint;
       has_free = rw full (omega arith);
       lists_below =
-          let count = length-replicate {A = List ℕ} queues [] in rw full (omega (arith, fits, count));
+          let count = length-replicate {A = List ℕ} queues [] in
+          rw full (omega (arith, fits, count));
       filled = rw full filled_at;
       queued =
           ap total queues-new

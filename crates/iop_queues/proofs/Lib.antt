@@ -3,9 +3,14 @@ pub mod Distinct
 pub mod Beside
 pub mod Moves
 pub mod Puts
-pub mod Rounds
+pub mod Conditions
+pub mod MovedLast
+pub mod InPlace
 pub mod Fresh
 pub mod Walking
 pub mod Finding
+pub mod Steps
 pub mod Takes
-pub mod Numbers
+pub mod Uses
+pub mod Counted
+pub mod Assigned

@@ -84,7 +84,8 @@ pub record Moves (s s' : Lists) (queue : ℕ) (free own : List ℕ) : Type 0 whe
   pub own_is : list_at (queue + 1) s' ≡ own
   pub others : (list : ℕ) → list ≢ 0 → list ≢ queue + 1 → list_at list s' ≡ list_at list s
 
-module _ (s : Lists) (node queue : ℕ) (disjoint : AreDisjoint s) (inside : queue + 1 < length s.lists) where
+module _ (s : Lists) (node queue : ℕ) (disjoint : AreDisjoint s)
+    (inside : queue + 1 < length s.lists) where
   abbrev left : Lists
   left = unlinked node s
 
@@ -125,8 +126,8 @@ module _ (s : Lists) (node queue : ℕ) (disjoint : AreDisjoint s) (inside : que
         others = λ list some other. list_at-other 0 free left list some ∙ stays list other;
       }
 
-module _ {T : Type 0} (items items' : List (Option (Queued T))) (s s' : Lists) (queue : ℕ) (free own : List ℕ)
-    (moves : Moves s s' queue free own) (inside : queue + 1 < length s.lists)
+module _ {T : Type 0} (items items' : List (Option (Queued T))) (s s' : Lists) (queue : ℕ)
+    (free own : List ℕ) (moves : Moves s s' queue free own) (inside : queue + 1 < length s.lists)
     (same : (list : ℕ) → list ≢ 0 → list ≢ queue + 1
     → items_of items' (list_at list s) ≡ items_of items (list_at list s)) where
   abbrev was : List (List (Queued T))

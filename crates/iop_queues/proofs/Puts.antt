@@ -10,7 +10,7 @@ use Rattle.iop_cblock.proofs.Reading.{held-head}
 use Rattle.iop_queues.specs.Nodes.{queues_in, AreQueues}
 use Rattle.iop_queues.specs.Queue.{Choice}
 use Rattle.iop_queues.specs.Queues.{queue_at, with_queue, total}
-use Rattle.iop_queues.specs.Walks.{item_at, items_of, AreFilled, IsFilled, IsNode}
+use Rattle.iop_queues.specs.Walks.{item_at, items_of, AreFilled, CanBeWalked, IsNode}
 use Rattle.iop_queues.specs.declared.queued.Queued.{Queued}
 use Rattle.iop_queues.proofs.Beside.{total-own}
 use Rattle.iop_queues.proofs.Distinct.{Differ, length-without, without-between}
@@ -45,8 +45,8 @@ module _ {T : Type 0} (items : List (Option (Queued T))) (s : Lists) (len room :
     own_filled = h.filled (queue + 1) (omega arith)
 
     -- the list of a queue can be walked
-    pub is_filled : IsFilled items s (queue + 1)
-    is_filled = record {
+    pub can_be_walked : CanBeWalked items s (queue + 1)
+    can_be_walked = record {
       list_below = inside;
       nodes_below = omega (arith, h.nodes_are, h.items_are);
       disjoint = h.disjoint;
@@ -89,8 +89,8 @@ module _ {T : Type 0} (items : List (Option (Queued T))) (s : Lists) (len room :
 
       pub queues-taken : queues_in items taken.lists ≡ with_queue queue c.others queues
       queues-taken =
-          queues-moved items items s taken queue (node ∷ list_at 0 s) (without node own) moves inside
-          (λ list some other. refl)
+          queues-moved items items s taken queue (node ∷ list_at 0 s) (without node own) moves
+          inside (λ list some other. refl)
           ∙ ap (λ q. with_queue queue q queues) left
 
       pub sound-taken : AreDisjoint taken → AreQueues items taken (len - 1) room

@@ -6,11 +6,11 @@ use Rattle.std.proofs.lemmas.Bool.Decides.{Decides-eqb, nat_tests}
 use Rattle.std.proofs.lemmas.List.Folds.{Any-from_list_any, list_any_none}
 use Rattle.std.proofs.lemmas.Map.Made.{IsDistinct-from_AllPairs}
 use Rattle.std.proofs.lemmas.Map.Steps.{length-le_from_distinct_below}
+use Rattle.iop_base.proofs.Searching.{position-at}
 use Rattle.iop_cblock.specs.Lists.{Lists, AreDisjoint, holds, head, behind, list_at, list_of, next_of}
 use Rattle.iop_cblock.specs.Links.{AreApart}
 use Rattle.iop_cblock.proofs.Rings.{holds-tail}
 use Rattle.iop_cblock.proofs.Changes.{not_lacked}
-use Rattle.iop_cblock.proofs.Owners.{position-at}
 
 -- the nodes in front of one, and those from it on
 abbrev pub before : ℕ → List ℕ → List ℕ

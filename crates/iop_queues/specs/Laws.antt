@@ -11,7 +11,8 @@ pub record IsTaken {T : Type 0} (queue : List (Queued T)) (c : Choice T) : Type 
   pub queue_is : queue ≡ before ++ c.one ∷ behind
   pub others_are : c.others ≡ before ++ behind
 
--- the choice by priority: those before it have a greater number, those behind it none that is smaller
+-- the choice by priority: those before it have a greater number, those behind it none that is
+-- smaller
 pub record IsBest {T : Type 0} (queue : List (Queued T)) (c : Choice T) : Type 0 where
   pub taken : IsTaken queue c
   pub first : All (λ x. c.one.priority < x.priority) taken.before

@@ -1,10 +1,11 @@
--- How nodes stand for queues. List 0 has the free nodes, and list q + 1 those of the items of queue
--- q. No contract of a public call cites this.
+-- How nodes stand for queues. List `FREE`, the first one, has the free nodes, and list q + 1 those
+-- of the items of queue q. No contract of a public call cites this.
 use Rattle.std.specs.Prelude.{◌≡◌, ℕ, ◌+◌, ◌^◌, ◌<◌, Option, List, [], ◌∷◌, length, map}
 use Rattle.iop_cblock.specs.Lists.{Lists, AreDisjoint, list_at}
 use Rattle.iop_queues.specs.Queues.{total}
 use Rattle.iop_queues.specs.Walks.{items_of, AreFilled}
 use Rattle.iop_queues.specs.declared.queued.Queued.{Queued}
+use Rattle.iop_queues.specs.declared.queues.TheConstants.{FREE}
 
 module _ {T : Type 0} where
   -- the queues of all lists but the first
@@ -18,8 +19,8 @@ module _ {T : Type 0} where
     pub nodes_are : s.nodes ≡ room
     pub items_are : length items ≡ room
     pub disjoint : AreDisjoint s
-    pub has_free : 0 < length s.lists
+    pub has_free : FREE < length s.lists
     pub lists_below : length s.lists < 2 ^ 32
-    pub filled : (list : ℕ) → 0 < list → AreFilled items (list_at list s)
+    pub filled : (list : ℕ) → FREE < list → AreFilled items (list_at list s)
     pub queued : total (queues_in items s.lists) ≡ len
-    pub free : length (list_at 0 s) + len ≡ room
+    pub free : length (list_at FREE s) + len ≡ room

@@ -1,7 +1,7 @@
 -- Queues whose items have priorities: the threads that wait for an object, and the messages of a
--- mailbox (ps2sdk: thsemap.h, thmsgbx.h). A queue is the list of its items in order of their arrival.
--- That the first among those of the least number is the one that is chosen by priority is this
--- project's own profile.
+-- mailbox (ps2sdk: thsemap.h, thmsgbx.h). A queue is the list of its items in order of their
+-- arrival. That the first among those of the least number is the one that is chosen by priority is
+-- this project's own profile.
 use Rattle.std.specs.Prelude.{nat_lt, Bool, true, false, if◌then◌else◌, Option, Some, None, List, [], ◌∷◌}
 use Rattle.iop_queues.specs.declared.queued.Queued.{Queued}
 
@@ -16,7 +16,8 @@ chooses_first [] = None
 chooses_first (x ∷ xs) = Some (record { one = x; others = xs })
 
 -- the first one, unless the choice among the later ones has a smaller number
-abbrev pub chooses_between : {T : Type 0} → Queued T → List (Queued T) → Option (Choice T) → Choice T
+abbrev pub chooses_between : {T : Type 0} → Queued T → List (Queued T) → Option (Choice T)
+    → Choice T
 chooses_between x xs None = record { one = x; others = xs }
 chooses_between x xs (Some later) =
     if nat_lt later.one.priority x.priority

@@ -6,6 +6,12 @@ use Rattle.iop_base.specs.Choosing.{better}
 use Rattle.iop_cblock.specs.Lists.{Lists, AreDisjoint, list_at}
 use Rattle.iop_queues.specs.Queue.{Choice}
 use Rattle.iop_queues.specs.declared.queued.Queued.{Queued}
+use Rattle.iop_queues.specs.declared.walks.Ranked.{Ranked}
+
+-- the better of the best node so far, if there is one, and one that comes later
+abbrev pub with_later : Option Ranked → Ranked → Ranked
+with_later None later = later
+with_later (Some first) later = better (λ r. r.priority) first (Some later)
 
 module _ {T : Type 0} where
   -- the item of a node
@@ -20,8 +26,8 @@ module _ {T : Type 0} where
   abbrev pub AreFilled : List (Option (Queued T)) → List ℕ → Type 0
   AreFilled items nodes = All (λ node. is_some (item_at items node) ≡ true) nodes
 
-  -- each node of a list has an item
-  pub record IsFilled (items : List (Option (Queued T))) (s : Lists) (list : ℕ) : Type 0 where
+  -- a list whose items can be read one after the other: each of its nodes has one
+  pub record CanBeWalked (items : List (Option (Queued T))) (s : Lists) (list : ℕ) : Type 0 where
     pub list_below : list < length s.lists
     pub nodes_below : s.nodes ≤ length items
     pub disjoint : AreDisjoint s
@@ -31,10 +37,9 @@ module _ {T : Type 0} where
   abbrev pub priority_at : List (Option (Queued T)) → ℕ → ℕ
   priority_at items node = unwrap_or (option_map (λ x. x.priority) (item_at items node)) 255
 
-  -- the better of the best node so far, if there is one, and one that comes later
-  abbrev pub with_later : List (Option (Queued T)) → Option ℕ → ℕ → ℕ
-  with_later items None later = later
-  with_later items (Some first) later = better (priority_at items) first (Some later)
+  -- the number that stands beside a node is that of its priority
+  abbrev pub IsRanked : List (Option (Queued T)) → Ranked → Type 0
+  IsRanked items r = r.priority ≡ priority_at items r.node
 
   -- whether a condition holds of a node's item
   abbrev pub holds_at : (T → Bool) → List (Option (Queued T)) → ℕ → Bool

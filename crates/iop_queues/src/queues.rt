@@ -15,12 +15,13 @@ use std::marker::Model;
 const FREE: u32 = 0;
 
 /// Queues, in which at most `ROOM` items stand together. A queue is a number below that of the
-/// queues. No call but `new` takes memory. By arrival an item is put and taken in constant time. All
-/// else walks its own queue: `remove_where` and `move_last` once for each item that they take, and
-/// `set_priority` takes each item and puts it back.
+/// queues. No call but `new` takes memory. By arrival an item is put and taken in constant time.
+/// All else walks its own queue: `remove_where` and `move_last` once for each item that they take,
+/// and `set_priority` takes each item and puts it back.
 #[derive(Drop)]
 pub struct Queues<T, const ROOM: u32> {
-    /// List `FREE` has the nodes of no item, and list q + 1 those of the items of queue q, in order.
+    /// List `FREE` has the nodes of no item, and list q + 1 those of the items of queue q, in
+    /// order.
     nodes: Arena,
     /// The item of each node that stands in a queue.
     items: Vec<Option<Queued<T>>>,

@@ -4,7 +4,7 @@ ghost use Rattle.std.specs.Prelude.{◌≡◌, ◌<◌, IfSome, length};
 ghost use Rattle.std.specs.List.{count_by};
 ghost use Rattle.iop_cblock.specs.Lists.{list_at};
 ghost use Rattle.iop_queues.specs.Queue.{chooses, chooses_best, chooses_where};
-ghost use Rattle.iop_queues.specs.Walks.{items_of, priority_at, with_later, holds_at, Finds, IsFilled};
+ghost use Rattle.iop_queues.specs.Walks.{items_of, priority_at, with_later, holds_at, Finds, CanBeWalked};
 
 use crate::condition::Condition;
 use crate::queued::Queued;
@@ -17,7 +17,7 @@ pub(crate) fn next_node<T: Copy>(
     list: u32,
     by_priority: bool,
 ) -> Option<u32>
-    requires { IsFilled items.now nodes.now list }
+    requires { CanBeWalked items.now nodes.now list }
     ensures node { let own = list_at list nodes.now in
         Finds items.now own result (chooses by_priority (items_of items.now own)) }
     ensures below { IfSome result (λ node. node < nodes.now.nodes) }
@@ -31,7 +31,7 @@ pub(crate) fn next_node<T: Copy>(
 
 /// Finds the first node of a list among those whose items have the least number.
 fn best_node<T: Copy>(nodes: &Arena, items: &[Option<Queued<T>>], list: u32) -> Option<u32>
-    requires { IsFilled items.now nodes.now list }
+    requires { CanBeWalked items.now nodes.now list }
     ensures node { let own = list_at list nodes.now in
         Finds items.now own result (chooses_best (items_of items.now own)) }
     ensures below { IfSome result (λ node. node < nodes.now.nodes) }
@@ -39,20 +39,26 @@ fn best_node<T: Copy>(nodes: &Arena, items: &[Option<Queued<T>>], list: u32) -> 
     let mut best = None;
     let mut cursor = nodes.first(list);
     while let Some(node) = cursor {
-        best = Some(better(items, best, node));
+        let priority = priority(items, node);
+        best = Some(better(best, Ranked { node, priority }));
         cursor = nodes.next(node);
     }
-    best
+    Some(best?.node)
+}
+
+/// A node, and the priority of its item.
+#[derive(Clone, Copy, Drop)]
+struct Ranked {
+    node: u32,
+    priority: u8,
 }
 
 /// Chooses between the best node so far and a later one.
-fn better<T: Copy>(items: &[Option<Queued<T>>], best: Option<u32>, later: u32) -> u32
-    requires best_inside { IfSome best (λ first. first < length items.now) }
-    requires later_inside { later < length items.now }
-    ensures { result ≡ with_later items.now best later }
+fn better(best: Option<Ranked>, later: Ranked) -> Ranked
+    ensures { result ≡ with_later best later }
 {
     match best {
-        Some(first) if priority(items, first) <= priority(items, later) => first,
+        Some(first) if first.priority <= later.priority => first,
         _ => later,
     }
 }
@@ -75,7 +81,7 @@ pub(crate) fn node_where<T: Copy, C: Condition<T>>(
     list: u32,
     condition: &C,
 ) -> Option<u32>
-    requires { IsFilled items.now nodes.now list }
+    requires { CanBeWalked items.now nodes.now list }
     ensures node { let own = list_at list nodes.now in
         Finds items.now own result
         (chooses_where (C.holds_for condition.now) (items_of items.now own)) }
@@ -98,7 +104,7 @@ pub(crate) fn count_where<T: Copy, C: Condition<T>>(
     list: u32,
     condition: &C,
 ) -> usize
-    requires { IsFilled items.now nodes.now list }
+    requires { CanBeWalked items.now nodes.now list }
     ensures { result ≡ count_by (λ x. C.holds_for condition.now x.item)
         (items_of items.now (list_at list nodes.now)) }
 {

@@ -1,4 +1,5 @@
-//! Tests of iop_queues: in which order items leave their queues, and that room is shared.
+//! Tests of iop_queues: in which order items leave their queues, that room is shared, and which
+//! numbers are free.
 #![tactic(auto)]
 
 #[cfg(test)]

@@ -1,6 +1,6 @@
 ghost use Rattle.std.specs.Prelude.{◌≡◌, ◌<◌, length};
 
-use iop_queues::{Condition, Queued, Queues};
+use iop_queues::{Condition, Numbers, Queued, Queues};
 use std::test::Fail;
 
 const QUEUES: u32 = 3;
@@ -30,6 +30,10 @@ enum Call {
     Push(u32, u8),
     /// Takes the best one.
     Best,
+    /// Tells which is the best one.
+    NextBest,
+    /// Tells which came first.
+    NextFirst,
     /// Takes the one that came first.
     First,
     /// Takes an item.
@@ -56,6 +60,8 @@ fn answer(queues: &mut Queues<u32, ROOM>, queue: u32, call: Call) -> Option<usiz
     match call {
         Call::Push(item, priority) => return put(queues, queue, Queued { priority, item }),
         Call::Best => return Some(queues.take(queue, true)?.item as usize),
+        Call::NextBest => return Some(queues.peek(queue, true)?.item as usize),
+        Call::NextFirst => return Some(queues.peek(queue, false)?.item as usize),
         Call::First => return Some(queues.take(queue, false)?.item as usize),
         Call::Item(item) => return Some(queues.take_where(queue, &Is { item })?.item as usize),
         Call::Remove(item) => queues.remove_where(queue, &Is { item }),
@@ -109,9 +115,38 @@ fn items_leave_in_order(rt: HostRuntime) -> Result<(), Fail> {
         (1, Call::Clear, Some(2)),
         (2, Call::First, Some(3)),
         (2, Call::Clear, Some(0)),
+        (0, Call::NextBest, None),
+        (0, Call::NextFirst, None),
+        (0, Call::Push(8, 40), Some(1)),
+        (0, Call::Push(9, 10), Some(2)),
+        (0, Call::Push(8, 20), Some(3)),
+        (0, Call::NextBest, Some(9)),
+        (0, Call::NextFirst, Some(8)),
+        (0, Call::Priority(8, 5), Some(3)),
+        (0, Call::NextBest, Some(8)),
+        (0, Call::Last(8, 10), Some(3)),
+        (0, Call::NextBest, Some(9)),
+        (0, Call::NextFirst, Some(9)),
+        (0, Call::Item(8), Some(8)),
+        (0, Call::Push(8, 30), Some(3)),
+        (0, Call::Remove(8), Some(1)),
+        (0, Call::First, Some(9)),
     ];
     for (queue, call, wanted) in rows {
         assert_eq!(rt; answer(&mut queues, queue, call), wanted);
+    }
+    Ok(())
+}
+
+#[test]
+fn numbers_are_given_back(rt: HostRuntime) -> Result<(), Fail> {
+    let mut numbers: Numbers<2> = Numbers::new(rt.alloc())?;
+    if let Some(number) = numbers.take() {
+        assert_eq!(rt; number, 1);
+        numbers.give_back(number);
+    }
+    for wanted in [Some(1), Some(0), None] {
+        assert_eq!(rt; numbers.take(), wanted);
     }
     Ok(())
 }

@@ -10,7 +10,7 @@ use Rattle.std.proofs.lemmas.List.Elements.{All-contains}
 use Rattle.std.proofs.lemmas.Map.Keys.{IsDistinct-cons, IsDistinct-from_apart}
 use Rattle.std.proofs.lemmas.Map.Made.{length-le_from_is_member}
 use Rattle.iop_base.specs.Numbers.{one_if}
-use Rattle.iop_objects.proofs.Totals.{AllPairs-head, AllPairs-tail}
+use Rattle.iop_base.proofs.Searching.{AllPairs-head, AllPairs-tail}
 use Rattle.iop_thread.specs.Placing.{IsPlaced, times}
 use Rattle.iop_thread.specs.ThreadTable.{ThreadTable, thread_of}
 use Rattle.iop_thread.specs.Waits.{is_live}

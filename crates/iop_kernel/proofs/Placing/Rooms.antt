@@ -12,7 +12,7 @@ use Rattle.iop_base.proofs.Lists.{find-none}
 use Rattle.iop_objects.specs.Laws.{threads_of, threads_waiting}
 use Rattle.iop_objects.specs.Objects.{Object, waiting, object_of, waiters_in}
 use Rattle.iop_objects.specs.declared.objects.TheConstants.{MOST_WAITERS}
-use Rattle.iop_objects.proofs.Totals.{AllPairs-head, AllPairs-tail}
+use Rattle.iop_base.proofs.Searching.{AllPairs-head, AllPairs-tail}
 use Rattle.iop_ready.specs.declared.entry.Entry.{Entry}
 use Rattle.iop_thread.specs.Placing as threads_placing
 use Rattle.iop_thread.specs.Placing.{times}

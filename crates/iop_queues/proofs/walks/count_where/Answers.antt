@@ -1,5 +1,5 @@
 use Rattle.std.proofs.Common.{◌∙◌, sym, arith}
-use Rattle.iop_queues.proofs.Finding.{node_below, item_below, nearer, count_more, count_fits}
+use Rattle.iop_queues.proofs.Steps.{node_below, item_below, nearer, count_more, count_fits}
 use Rattle.iop_queues.proofs.walks.count_where.Goals as goal
 use Rattle.iop_queues.proofs.walks.count_where.Goals.{then-holds_at, else-holds_at}
 

@@ -1,5 +1,6 @@
 use Rattle.std.proofs.Common.{◌∙◌, sym}
-use Rattle.iop_queues.proofs.Finding.{node_below, item_below, nearer, chooses_where-none, none_more, none_until}
+use Rattle.iop_queues.proofs.Finding.{chooses_where-none}
+use Rattle.iop_queues.proofs.Steps.{node_below, item_below, nearer, none_more, none_until}
 use Rattle.iop_queues.proofs.walks.node_where.Goals as goal
 
 pub holds_at-requires : goal.holds_at-requires
@@ -18,7 +19,8 @@ next-cursor-requires g c = node_below c.requires c.in-Some.is c.loop-cursor.inva
 pub loop-cursor-preserved : goal.loop-cursor-preserved
 loop-cursor-preserved g c =
     none_more c.requires c.in-Some.is c.loop-cursor.invariant.inside
-    c.loop-cursor.invariant c.next-cursor.ensures.node (sym c.holds_at.ensures ∙ c.if-holds_at.false)
+    c.loop-cursor.invariant c.next-cursor.ensures.node
+    (sym c.holds_at.ensures ∙ c.if-holds_at.false)
 
 pub loop-cursor-smaller : goal.loop-cursor-smaller
 loop-cursor-smaller g c =

@@ -3,4 +3,4 @@ use Rattle.iop_mbx.proofs.MailboxTables.{total-messages}
 use Rattle.iop_mbx.proofs.mailboxes.Mailboxes.has_room.Goals as goal
 
 pub returns : goal.returns
-returns c = grind (arith, total-messages c.self.inside.objects c.self.invariant.0)
+returns c = grind (arith, total-messages c.self.inside.objects c.self.invariant)

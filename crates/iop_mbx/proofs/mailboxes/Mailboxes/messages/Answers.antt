@@ -5,5 +5,5 @@ use Rattle.iop_mbx.proofs.mailboxes.Mailboxes.messages.Goals as goal
 pub count-requires : goal.count-requires
 count-requires c = (
   omega arith,
-  queue_inside c.in-Some.ensures.sound c.self.invariant.0 c.args.id c.in-Some.ensures.known,
+  queue_inside c.in-Some.ensures.sound c.self.invariant c.args.id c.in-Some.ensures.known,
 )

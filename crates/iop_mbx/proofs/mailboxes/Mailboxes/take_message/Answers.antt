@@ -7,12 +7,12 @@ use Rattle.iop_mbx.proofs.mailboxes.Mailboxes.take_message.Goals as goal
 pub take-requires : goal.take-requires
 take-requires c = (
   omega arith,
-  queue_inside c.in-Some.ensures.sound c.self.invariant.0 c.args.id c.in-Some.ensures.known,
+  queue_inside c.in-Some.ensures.sound c.self.invariant c.args.id c.in-Some.ensures.known,
 )
 
 pub returns-clause-left : goal.returns-clause-left
 returns-clause-left c =
     let changed =
-    mailboxes_in-changed c.in-Some.ensures.sound c.self.invariant.0 c.args.id
+    mailboxes_in-changed c.in-Some.ensures.sound c.self.invariant c.args.id
     c.in-Some.ensures.known in
     grind (arith, state_of-in, set-get_or, changed)

@@ -1,4 +1,4 @@
-use Rattle.std.proofs.Common.{◌∙◌, ap, sym, length, append-nil, subst, arith}
+use Rattle.std.proofs.Common.{◌∙◌, ap, sym, length, subst, arith}
 use Rattle.std.proofs.lemmas.List.{length_push}
 use Rattle.iop_objects.specs.Standing.{IsTable}
 use Rattle.iop_objects.proofs.TableChanges.{creates-one, IsTable-created}
@@ -11,34 +11,32 @@ push_reserved-requires g c =
       arith,
       all_queues _ _ _ _ c.self.invariant.0,
       c.self.invariant.1,
-      ap length c.in-Some.ensures.items,
-      length_push c.pop.new.self.items c.in-Some.queue,
+      ap length c.in-Some.ensures,
+      length_push c.take.new.self c.in-Some.queue,
     )
 
 pub invariant_of-self : goal.invariant_of-self
 invariant_of-self g c = (
   subst (λ free. IsTable c.self.inside.live.items free c.self.inside.waiters c.self.inside.next)
-      (c.in_default.ensures.items ∙ append-nil c.pop.new.self.items) c.self.invariant.0,
+      (c.in_default.ensures.0 ∙ sym c.in_default.ensures.1) c.self.invariant.0,
   c.self.invariant.1,
-  omega (arith, c.pop.ensures.capacity, c.self.invariant.2),
 )
 
 pub invariant_of-self-2 : goal.invariant_of-self-2
 invariant_of-self-2 g c =
     let table =
     subst (λ free. IsTable c.self.inside.live.items free c.self.inside.waiters c.self.inside.next)
-    c.in-Some.ensures.items c.self.invariant.0 in (
+    c.in-Some.ensures c.self.invariant.0 in (
       rw c.push_reserved.ensures.items
           (IsTable-created _ _ _ _ _ table c.args.state c.if-self-gt-LAST_ID.false),
       omega (arith, c.push_reserved.ensures.capacity, c.self.invariant.1),
-      omega (arith, c.pop.ensures.capacity, c.self.invariant.2),
     )
 
 pub returns : goal.returns
 returns g c =
     let table =
     subst (λ free. IsTable c.self.inside.live.items free c.self.inside.waiters c.self.inside.next)
-    c.in-Some.ensures.items c.self.invariant.0 in
+    c.in-Some.ensures c.self.invariant.0 in
     let both = creates-one _ _ _ _ _ table c.args.state c.if-self-gt-LAST_ID.false in
     rw (c.push_reserved.ensures.items, ← c.self.view_is)
     (record { answer = sym (ap (λ t. t.0) both); left = sym (ap (λ t. t.1) both) })

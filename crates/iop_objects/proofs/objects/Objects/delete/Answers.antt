@@ -5,24 +5,18 @@ use Rattle.iop_objects.proofs.TableChanges.{IsTable-deleted, objects_in-deleted}
 use Rattle.iop_objects.proofs.Tables.{all_queues, deletes-none}
 use Rattle.iop_objects.proofs.objects.Objects.delete.Goals as goal
 
-pub push_reserved-requires : goal.push_reserved-requires
-push_reserved-requires g c =
-    omega (
-      arith,
-      all_queues _ _ _ _ c.self.invariant.0,
-      c.self.invariant.2,
-      c.in-Some.ensures.below,
-    )
+pub give_back-requires : goal.give_back-requires
+give_back-requires g c =
+    omega (arith, all_queues _ _ _ _ c.self.invariant.0, c.in-Some.ensures.below)
 
 pub invariant_of-self : goal.invariant_of-self
 invariant_of-self g c =
     let at = object_at c.self.inside.live.items c.args.id c.in-Some.place c.remove-object.result
     (rw c.deref.ensures.value at c.in-Some.ensures.place) c.remove-object.ensures.value in
     let none = ap (λ s. waiters_of s c.args.id) c.self.view_is ∙ c.requires.none in (
-      rw (c.remove-object.ensures.items, c.push_reserved.ensures.items)
+      rw (c.remove-object.ensures.items, c.give_back.ensures)
           (IsTable-deleted _ _ _ _ c.self.invariant.0 c.args.id _ _ at.0 at.1 none),
       omega (arith, c.remove-object.ensures.capacity, c.self.invariant.1),
-      omega (arith, c.push_reserved.ensures.capacity, c.self.invariant.2),
     )
 
 pub returns-in-Some : goal.returns-in-Some

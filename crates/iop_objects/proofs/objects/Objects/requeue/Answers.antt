@@ -24,7 +24,6 @@ invariant_of-self g c = (
       (IsTable-changed _ _ _ _ c.self.invariant.0 c.args.id c.in-Some.queue
       (rw c.deref.ensures.value at c.in-Some.ensures) _),
   c.self.invariant.1,
-  c.self.invariant.2,
 )
 
 pub invariant_of-self-else-by_priority : goal.invariant_of-self-else-by_priority
@@ -33,7 +32,6 @@ invariant_of-self-else-by_priority g c = (
       (IsTable-changed _ _ _ _ c.self.invariant.0 c.args.id c.in-Some.queue
       (rw c.deref.ensures.value at c.in-Some.ensures) _),
   c.self.invariant.1,
-  c.self.invariant.2,
 )
 
 pub returns-then-by_priority : goal.returns-then-by_priority

@@ -11,7 +11,6 @@ invariant_of-self g c =
     (rw c.deref.ensures.value at c.in-Some.ensures.place) c.index_mut.ensures.value in (
       IsTable-state _ _ _ _ c.self.invariant.0 c.args.id _ _ at.0 c.args.state,
       c.self.invariant.1,
-      c.self.invariant.2,
     )
 
 pub returns-in-Some : goal.returns-in-Some

@@ -17,7 +17,6 @@ invariant_of-self g c = (
       (IsTable-changed _ _ _ _ c.self.invariant.0 c.args.id c.in_ok-queue.queue
       (rw c.deref.ensures.value at c.in_ok-queue.ensures) _),
   c.self.invariant.1,
-  c.self.invariant.2,
 )
 
 pub returns-in_err-queue : goal.returns-in_err-queue

@@ -1,6 +1,7 @@
 use Rattle.std.proofs.Common.{◌∙◌, is_some, ap, arith, [], ◌∷◌, ◌++◌}
 use Rattle.iop_objects.specs.Objects.{object_of, waiting, waits}
 use Rattle.iop_objects.proofs.TableQueues.{queue_below, objects_in-changed, IsTable-changed, not_live}
+use Rattle.iop_objects.proofs.Tables.{all_waiting}
 use Rattle.iop_objects.proofs.objects.Objects.wait.Goals as goal
 
 pub push-requires : goal.push-requires
@@ -9,7 +10,12 @@ push-requires g c = (
   (
     queue_below _ _ _ _ c.self.invariant.0 c.args.id c.in-Some.queue
         (rw c.deref.ensures.value at c.in-Some.ensures),
-    omega (arith, c.self.invariant.0.count, ap waiting c.self.view_is, c.requires.room),
+    omega (
+      arith,
+      all_waiting _ _ _ _ c.self.invariant.0,
+      ap waiting c.self.view_is,
+      c.requires.room,
+    ),
   ),
 )
 
@@ -19,7 +25,6 @@ invariant_of-self g c = (
       (IsTable-changed _ _ _ _ c.self.invariant.0 c.args.id c.in-Some.queue
       (rw c.deref.ensures.value at c.in-Some.ensures) _),
   c.self.invariant.1,
-  c.self.invariant.2,
 )
 
 pub returns-in-Some : goal.returns-in-Some

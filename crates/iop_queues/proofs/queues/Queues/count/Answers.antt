@@ -1,6 +1,6 @@
 use Rattle.std.proofs.Common.{◌∙◌, ap, length}
 use Rattle.iop_queues.specs.Queues.{queue_at}
-use Rattle.iop_queues.proofs.Rounds.{all_those}
+use Rattle.iop_queues.proofs.Conditions.{all_those}
 use Rattle.iop_queues.proofs.queues.Queues.count.Goals as goal
 
 pub returns-clause-count : goal.returns-clause-count

@@ -1,7 +1,7 @@
 use Rattle.std.proofs.Common.{◌∙◌, ◌<◌, length, refl, sym, arith}
 use Rattle.iop_queues.specs.Queues.{moved_last, queue_at, those_where}
 use Rattle.iop_queues.proofs.Beside.{is_with}
-use Rattle.iop_queues.proofs.Rounds.{move_put, move_taken, moving_all, moving_none}
+use Rattle.iop_queues.proofs.MovedLast.{move_put, move_taken, moving_all, moving_none}
 use Rattle.iop_queues.proofs.queues.Queues.move_last.Goals.{in-Some, in_default}
 use Rattle.iop_queues.proofs.queues.Queues.move_last.Goals as goal
 
@@ -20,9 +20,9 @@ loop-preserved g c =
     elim c.match-take_where.branch [
       | in-Some w ↦ rw w.self-is
           (move_put c.args.queue c.args.self.now c.loop.self c.requires.queue c.loop.invariant.0 p
-          c.args.priority c.loop.counter c.loop.invariant.1 less c.take_where.new.self w.push.new.self _ _
-          c.take_where.ensures.left (sym c.take_where.ensures.item ∙ w.in-Some.is) w.with_priority.ensures
-          w.push.ensures)
+          c.args.priority c.loop.counter c.loop.invariant.1 less c.take_where.new.self
+          w.push.new.self _ _ c.take_where.ensures.left
+          (sym c.take_where.ensures.item ∙ w.in-Some.is) w.with_priority.ensures w.push.ensures)
       | in_default w ↦
           let some =
           move_taken c.args.queue c.args.self.now c.loop.self c.requires.queue c.loop.invariant.0 p

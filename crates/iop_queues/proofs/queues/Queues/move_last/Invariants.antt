@@ -1,6 +1,6 @@
 use Rattle.iop_queues.specs.Queues.{queue_at}
 use Rattle.iop_queues.proofs.Beside.{StayBeside}
-use Rattle.iop_queues.proofs.Rounds.{IsMoving}
+use Rattle.iop_queues.proofs.MovedLast.{IsMoving}
 use Rattle.iop_queues.proofs.queues.Queues.move_last.Given as goal
 
 abbrev pub invariant-loop : goal.invariant-loop

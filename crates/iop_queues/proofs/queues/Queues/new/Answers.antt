@@ -5,8 +5,10 @@ use Rattle.iop_queues.proofs.queues.Queues.new.Goals.{In_ok-items}
 use Rattle.iop_queues.proofs.queues.Queues.new.Goals as goal
 
 pub loop-node-init : goal.loop-node-init
-loop-node-init g c =
-    (c.in_ok-nodes.ensures.lists ∙ filling_none g.row.ROOM c.args.queues, c.in_ok-nodes.ensures.disjoint)
+loop-node-init g c = (
+  c.in_ok-nodes.ensures.lists ∙ filling_none g.row.ROOM c.args.queues,
+  c.in_ok-nodes.ensures.disjoint,
+)
 
 pub push_back-requires-clause-free : goal.push_back-requires-clause-free
 push_back-requires-clause-free g c =
@@ -23,7 +25,8 @@ loop-node-preserved g c = (
 full : (g : _) (c : In_ok-items g) → c.loop-node.nodes ≡ filling g.row.ROOM c.args.queues g.row.ROOM
 full g c =
     c.loop-node.invariant.0
-    ∙ ap (filling g.row.ROOM c.args.queues) (omega (arith, c.loop-node-test.false, c.loop-node.auto.node-end))
+    ∙ ap (filling g.row.ROOM c.args.queues)
+    (omega (arith, c.loop-node-test.false, c.loop-node.auto.node-end))
 
 pub invariant_of-result : goal.invariant_of-result
 invariant_of-result g c =

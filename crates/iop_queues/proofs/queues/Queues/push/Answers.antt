@@ -43,7 +43,8 @@ returns-in-Some g c =
     (left g c)
     ∙ queues-put _ _ _ _ c.self.invariant c.args.queue (below g c) c.in-Some.node c.args.queued
     (first g c) (fits g c)
-    ∙ ap (λ now. with_queue c.args.queue (queue_at c.args.queue now ++ c.args.queued ∷ []) now) c.self.view_is
+    ∙ ap (λ now. with_queue c.args.queue (queue_at c.args.queue now ++ c.args.queued ∷ []) now)
+    c.self.view_is
 
 pub returns-in_default : goal.returns-in_default
 returns-in_default g c =

@@ -1,7 +1,7 @@
 use Rattle.std.proofs.Common.{◌∙◌, ◌<◌, length, sym, arith}
 use Rattle.iop_queues.specs.Queues.{in_place, queue_at}
 use Rattle.iop_queues.proofs.Beside.{is_with}
-use Rattle.iop_queues.proofs.Rounds.{turn_put, turn_taken, turned_all}
+use Rattle.iop_queues.proofs.InPlace.{turn_put, turn_taken, turned_all}
 use Rattle.iop_queues.proofs.queues.Queues.set_priority.Goals.{in-Some, in_default}
 use Rattle.iop_queues.proofs.queues.Queues.set_priority.Goals as goal
 

@@ -1,7 +1,7 @@
 use Rattle.std.proofs.Common.{◌≡◌}
 use Rattle.iop_queues.specs.Queues.{queue_at}
 use Rattle.iop_queues.proofs.Beside.{StayBeside}
-use Rattle.iop_queues.proofs.Rounds.{turned}
+use Rattle.iop_queues.proofs.InPlace.{turned}
 use Rattle.iop_queues.proofs.queues.Queues.set_priority.Given as goal
 
 abbrev pub invariant-loop : goal.invariant-loop

@@ -16,13 +16,14 @@ found g c = let found = c.in_ok-node.ensures.node in rw c.deref.ensures.value at
 pub overflow_sub-self : goal.overflow_sub-self
 overflow_sub-self g c =
     let found = c.in_ok-node.ensures.node in
-    taken_some c.self.invariant c.self.view_is c.args.queue c.requires.queue (chooses c.args.by_priority) _
-    (rw c.deref.ensures.value at found)
+    taken_some c.self.invariant c.self.view_is c.args.queue c.requires.queue
+    (chooses c.args.by_priority) _ (rw c.deref.ensures.value at found)
 
 pub invariant_of-self : goal.invariant_of-self
 invariant_of-self g c =
-    taken_sound c.self.invariant c.self.view_is c.args.queue c.requires.queue (chooses c.args.by_priority) _ (found g c) _
-    c.set_free.ensures.lists c.set_free.ensures.disjoint
+    taken_sound c.self.invariant c.self.view_is c.args.queue c.requires.queue
+    (chooses c.args.by_priority) _ (found g c) _ c.set_free.ensures.lists
+    c.set_free.ensures.disjoint
 
 pub returns-clause-item : goal.returns-clause-item
 returns-clause-item g c =
@@ -30,15 +31,17 @@ returns-clause-item g c =
     let below : c.in_ok-node.node < length c.self.inside.items.items =
     omega (arith, c.in_ok-node.ensures.below, h.nodes_are, h.items_are) in
     get_or_read c.self.inside.items.items _ _ below c.index.ensures None
-    ∙ taken_item h c.self.view_is c.args.queue c.requires.queue (chooses c.args.by_priority) _ (found g c)
+    ∙ taken_item h c.self.view_is c.args.queue c.requires.queue (chooses c.args.by_priority) _
+    (found g c)
 
 pub returns-clause-left : goal.returns-clause-left
 returns-clause-left g c =
-    taken_left c.self.invariant c.self.view_is c.args.queue c.requires.queue (chooses c.args.by_priority) _ (found g c) _
-    c.set_free.ensures.lists
+    taken_left c.self.invariant c.self.view_is c.args.queue c.requires.queue
+    (chooses c.args.by_priority) _ (found g c) _ c.set_free.ensures.lists
 
 pub returns-clause-room : goal.returns-clause-room
 returns-clause-room g c =
     if_taken _
-    (taken_room c.self.invariant c.self.view_is c.args.queue c.requires.queue (chooses c.args.by_priority) _ (found g c) _
-    c.set_free.ensures.lists c.set_free.ensures.disjoint)
+    (taken_room c.self.invariant c.self.view_is c.args.queue c.requires.queue
+    (chooses c.args.by_priority) _ (found g c) _ c.set_free.ensures.lists
+    c.set_free.ensures.disjoint)

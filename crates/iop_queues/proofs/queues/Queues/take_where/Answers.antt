@@ -10,7 +10,8 @@ use Rattle.iop_queues.proofs.queues.Queues.take_where.Goals as goal
 found : (g : _) (c : After-result-1 g)
     → let own = list_at (c.args.queue + 1) c.self.inside.nodes in
     Finds c.self.inside.items.items own (Some c.in_ok-node.node)
-    (chooses_where (g.C.Condition.holds_for c.args.condition.now) (items_of c.self.inside.items.items own))
+    (chooses_where (g.C.Condition.holds_for c.args.condition.now)
+    (items_of c.self.inside.items.items own))
 found g c = let found = c.in_ok-node.ensures.node in rw c.deref.ensures.value at found
 
 pub overflow_sub-self : goal.overflow_sub-self
@@ -23,8 +24,8 @@ overflow_sub-self g c =
 pub invariant_of-self : goal.invariant_of-self
 invariant_of-self g c =
     let p = g.C.Condition.holds_for c.args.condition.now in
-    taken_sound c.self.invariant c.self.view_is c.args.queue c.requires.queue (chooses_where p) _ (found g c) _
-    c.set_free.ensures.lists c.set_free.ensures.disjoint
+    taken_sound c.self.invariant c.self.view_is c.args.queue c.requires.queue (chooses_where p) _
+    (found g c) _ c.set_free.ensures.lists c.set_free.ensures.disjoint
 
 pub returns-clause-item : goal.returns-clause-item
 returns-clause-item g c =
@@ -38,12 +39,12 @@ returns-clause-item g c =
 pub returns-clause-left : goal.returns-clause-left
 returns-clause-left g c =
     let p = g.C.Condition.holds_for c.args.condition.now in
-    taken_left c.self.invariant c.self.view_is c.args.queue c.requires.queue (chooses_where p) _ (found g c) _
-    c.set_free.ensures.lists
+    taken_left c.self.invariant c.self.view_is c.args.queue c.requires.queue (chooses_where p) _
+    (found g c) _ c.set_free.ensures.lists
 
 pub returns-clause-room : goal.returns-clause-room
 returns-clause-room g c =
     let p = g.C.Condition.holds_for c.args.condition.now in
     if_taken _
-    (taken_room c.self.invariant c.self.view_is c.args.queue c.requires.queue (chooses_where p) _ (found g c) _
-    c.set_free.ensures.lists c.set_free.ensures.disjoint)
+    (taken_room c.self.invariant c.self.view_is c.args.queue c.requires.queue (chooses_where p) _
+    (found g c) _ c.set_free.ensures.lists c.set_free.ensures.disjoint)

@@ -1,7 +1,7 @@
 -- What a number that is given, or given back, leaves of numbers that are used or free.
 use Rattle.std.proofs.Common.{◌≡◌, ◌≢◌, ℕ, zero, suc, ◌+◌, ◌-◌, ◌<◌, ◌≤◌, ◌⊎◌, inl, inr, Bool, true, false, cond, Some, List, [], ◌∷◌, ◌++◌, length, take, drop, get_or, refl, ap, ◌∙◌, arith}
 use Rattle.std.specs.Prelude.{◌==◌}
-use Rattle.std.specs.List.{All, remove, range_with_len}
+use Rattle.std.specs.List.{remove, range_with_len}
 use Rattle.std.proofs.lemmas.Bool.{eq-eqb, ne_eqb, eqb-true, eqb-false, cases_order}
 use Rattle.std.proofs.lemmas.List.{length_push}
 use Rattle.std.proofs.lemmas.List.Edits.{length-remove, get_or-remove_below, get_or-remove_above}
@@ -11,24 +11,24 @@ use Rattle.std.proofs.lemmas.List.Sums.{sum_by_push, sum_by-remove, sum_by-cons,
 use Rattle.iop_queues.specs.Numbers.{uses, AreNumbers}
 
 -- 1 where a number is another one, else 0
-abbrev same : ℕ → ℕ → ℕ
+abbrev pub same : ℕ → ℕ → ℕ
 same n k = cond (k == n) 1 0
 
-same-own : (n k : ℕ) → k ≡ n → same n k ≡ 1
+pub same-own : (n k : ℕ) → k ≡ n → same n k ≡ 1
 same-own n k e = ap (λ b. cond b 1 0) (eq-eqb k n e)
 
-same-other : (n k : ℕ) → k ≢ n → same n k ≡ 0
+pub same-other : (n k : ℕ) → k ≢ n → same n k ≡ 0
 same-other n k apart = ap (λ b. cond b 1 0) (ne_eqb k n apart)
 
-uses-push : (n : ℕ) (xs : List ℕ) (k : ℕ) → uses n (xs ++ k ∷ []) ≡ uses n xs + same n k
+pub uses-push : (n : ℕ) (xs : List ℕ) (k : ℕ) → uses n (xs ++ k ∷ []) ≡ uses n xs + same n k
 uses-push n xs k = sum_by_push (same n) xs k
 
-uses-remove : (n : ℕ) (xs : List ℕ) (i d : ℕ) → i < length xs
+pub uses-remove : (n : ℕ) (xs : List ℕ) (i d : ℕ) → i < length xs
     → uses n (remove xs i) + same n (get_or xs i d) ≡ uses n xs
 uses-remove n xs i d below = sum_by-remove (same n) xs i d below
 
 -- a number that stands in a list is used there
-uses-at : (n : ℕ) (xs : List ℕ) (i d : ℕ) → i < length xs → get_or xs i d ≡ n → 1 ≤ uses n xs
+pub uses-at : (n : ℕ) (xs : List ℕ) (i d : ℕ) → i < length xs → get_or xs i d ≡ n → 1 ≤ uses n xs
 uses-at n xs i d below e =
     omega (arith, same-own n (get_or xs i d) e, get_or-le-sum_by (same n) xs i d below)
 
@@ -107,14 +107,7 @@ module _ {bound : ℕ} {used free : List ℕ} where
         all = omega (arith, h.all, length-remove used i inside, length_push free k);
       }
 
-  -- a number that is used is not free
-  pub free_apart : AreNumbers bound used free → (i d : ℕ) → i < length used
-      → All (λ k. k ≢ get_or used i d) free
-  free_apart h i d inside = λ j e below is.
-      let n = get_or used i d in
-      omega (arith, h.once n, uses-at n used i d inside refl, uses-at n free j e below is)
-
-  -- it is used at one place alone
+  -- a number is used at one place alone
   pub used_apart : AreNumbers bound used free → (i j d : ℕ) → i < length used → j < length used
       → j ≢ i → get_or used j d ≢ get_or used i d
   used_apart h i j d first second apart is = by (cases_order j i)
