@@ -14,3 +14,5 @@ mod several_files;
 mod single_files;
 #[cfg(test)]
 mod sources;
+#[cfg(test)]
+mod vertical_blank;

@@ -11,6 +11,7 @@ mod sending;
 mod shelf;
 mod stream_sink;
 mod sure_files;
+mod trickle_sink;
 
 pub use count_sink::CountSink;
 pub use disk_files::DiskFiles;
@@ -20,3 +21,4 @@ pub use ports::{Failed, Files, Sink};
 pub use sending::send;
 pub use stream_sink::StreamSink;
 pub use sure_files::SureFiles;
+pub use trickle_sink::TrickleSink;

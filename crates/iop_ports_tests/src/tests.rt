@@ -1,5 +1,6 @@
 use iop_ports::{
-    CountSink, DiskFiles, Failed, Files, MemFiles, MemSink, Sink, StreamSink, SureFiles, send,
+    CountSink, DiskFiles, Failed, Files, MemFiles, MemSink, Sink, StreamSink, SureFiles,
+    TrickleSink, send,
 };
 use std::alloc::{AllocError, Global};
 use std::fs;
@@ -131,6 +132,41 @@ fn pieces_are_sent_whole_or_fail(rt: HostRuntime) -> Result<(), Fail> {
     assert!(rt; !send(&mut sink, b"cdef"));
     assert_eq!(rt; sink.bytes(), b"abcde".as_slice());
     assert_eq!(rt; sink.calls(), 4);
+    Ok(())
+}
+
+#[test]
+fn trickle_sinks_take_one_byte_at_a_time(rt: HostRuntime) -> Result<(), Fail> {
+    let alloc = rt.alloc();
+    let mut sink = TrickleSink::new(alloc, 3, vec![in alloc; 2]?)?;
+    let table = [
+        ("", Ok(0)),
+        ("abc", Ok(1)),
+        ("bc", Err(Failed)),
+        ("bc", Ok(1)),
+        ("c", Ok(1)),
+        ("d", Err(Failed)),
+        ("", Ok(0)),
+    ];
+    for (piece, wanted) in table {
+        writes(&rt, &mut sink, piece, wanted);
+    }
+    assert_eq!(rt; sink.bytes(), b"abc".as_slice());
+    assert_eq!(rt; sink.calls(), 5);
+    assert_eq!(rt; sink.faults(), 2);
+    Ok(())
+}
+
+#[test]
+fn pieces_are_sent_byte_by_byte(rt: HostRuntime) -> Result<(), Fail> {
+    let alloc = rt.alloc();
+    let mut sink = TrickleSink::new(alloc, 5, vec![in alloc; 4]?)?;
+    assert!(rt; send(&mut sink, b"ab"));
+    assert!(rt; send(&mut sink, b""));
+    assert!(rt; !send(&mut sink, b"cd"));
+    assert!(rt; send(&mut sink, b"de"));
+    assert_eq!(rt; sink.bytes(), b"abcde".as_slice());
+    assert_eq!(rt; sink.calls(), 6);
     Ok(())
 }
 

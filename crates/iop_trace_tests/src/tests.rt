@@ -5,45 +5,10 @@ ghost use Rattle.iop_base.specs.Text.{line_bytes};
 ghost use Rattle.iop_trace.specs.Outs.{sinks, Leaves};
 
 use iop_base::{Code, GuestFault, Kept, Line, Lines, Stop};
-use iop_ports::{Failed, Sink};
+use iop_ports::{Failed, Sink, TrickleSink};
 use iop_trace::{Out, dump_line, line_text};
 use std::alloc::Global;
 use std::test::Fail;
-
-/// Takes a byte at a time until it is full. From then on each write fails.
-#[derive(Drop)]
-struct Page {
-    bytes: Vec<u8>,
-    room: usize,
-    faults: u64,
-}
-
-impl Page {
-    fn new(alloc: Global, room: usize) -> Self {
-        Page {
-            bytes: Vec::new(alloc),
-            room,
-            faults: 0,
-        }
-    }
-}
-
-impl Sink for Page {
-    ghost use Rattle.std.specs.Prelude.{Some};
-
-    ghost told = { λ page. record { taken = Some page.bytes.items; faults = page.faults } };
-
-    fn write(&mut self, piece: &[u8]) -> Result<usize, Failed> {
-        if piece.is_empty() {
-            return Ok(0);
-        }
-        if self.bytes.len() < self.room && self.bytes.push(piece[0]).is_ok() {
-            return Ok(1);
-        }
-        self.faults = self.faults.saturating_add(1);
-        Err(Failed)
-    }
-}
 
 /// Takes whole pieces, and counts the writes.
 #[derive(Drop)]
@@ -153,8 +118,8 @@ fn writes_each_line(rt: HostRuntime) -> Result<(), Fail> {
 
 #[test]
 fn stops_at_a_failing_write(rt: HostRuntime) -> Result<(), Fail> {
-    let mut console = Page::new(rt.alloc(), 100);
-    let mut trace = Page::new(rt.alloc(), 12);
+    let mut console = TrickleSink::new(rt.alloc(), 100, Vec::new(rt.alloc()))?;
+    let mut trace = TrickleSink::new(rt.alloc(), 12, Vec::new(rt.alloc()))?;
     assert!(rt; !one_line(&mut console, &mut trace, 0, Line::Run(1)));
     let mut out = Out::new(&mut console, &mut trace);
     out.text(b"boot");
@@ -164,9 +129,9 @@ fn stops_at_a_failing_write(rt: HostRuntime) -> Result<(), Fail> {
     out.text(b"more");
     out.line(43, Line::Irq(0));
     assert!(rt; out.failed());
-    assert_eq!(rt; console.bytes.as_slice(), b"boot".as_slice());
-    assert_eq!(rt; trace.bytes.as_slice(), b"0 run 1\n42 l".as_slice());
-    assert_eq!(rt; trace.faults, 1);
+    assert_eq!(rt; console.bytes(), b"boot".as_slice());
+    assert_eq!(rt; trace.bytes(), b"0 run 1\n42 l".as_slice());
+    assert_eq!(rt; trace.faults(), 1);
     Ok(())
 }
 
@@ -192,8 +157,8 @@ fn writes_each_text_and_line_once(rt: HostRuntime) -> Result<(), Fail> {
 
 #[test]
 fn stops_at_a_failing_second_text(rt: HostRuntime) -> Result<(), Fail> {
-    let mut console = Page::new(rt.alloc(), 6);
-    let mut trace = Page::new(rt.alloc(), 100);
+    let mut console = TrickleSink::new(rt.alloc(), 6, Vec::new(rt.alloc()))?;
+    let mut trace = TrickleSink::new(rt.alloc(), 100, Vec::new(rt.alloc()))?;
     let mut out = Out::new(&mut console, &mut trace);
     out.text(b"boot");
     out.line(0, Line::Run(1));
@@ -201,9 +166,9 @@ fn stops_at_a_failing_second_text(rt: HostRuntime) -> Result<(), Fail> {
     assert!(rt; out.failed());
     out.line(1, Line::Run(2));
     out.text(b"last");
-    assert_eq!(rt; console.bytes.as_slice(), b"bootmo".as_slice());
-    assert_eq!(rt; console.faults, 1);
-    assert_eq!(rt; trace.bytes.as_slice(), b"0 run 1\n".as_slice());
+    assert_eq!(rt; console.bytes(), b"bootmo".as_slice());
+    assert_eq!(rt; console.faults(), 1);
+    assert_eq!(rt; trace.bytes(), b"0 run 1\n".as_slice());
     Ok(())
 }
 
