@@ -12,3 +12,9 @@ pub mod FrontLemmas
 pub mod Endings
 pub mod FilesAnswered
 pub mod Promising
+pub mod Loadings
+pub mod LoadingLines
+pub mod Bindings
+pub mod AllBound
+pub mod ModulesLeft
+pub mod Headline

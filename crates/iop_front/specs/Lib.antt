@@ -1,5 +1,7 @@
 pub mod Answers
+pub mod Headline
 pub mod Inputs
+pub mod Loadings
 pub mod Named
 pub mod Outcome
 pub mod Promises

@@ -1,9 +1,11 @@
 ghost use Rattle.std.specs.Prelude.{◌≡◌, None, map, string_bytes};
 ghost use Rattle.iop_options.specs.Commands.{command_of};
 ghost use Rattle.iop_front.specs.Answers.{outside};
+ghost use Rattle.iop_front.specs.Headline.{Headline};
 ghost use Rattle.iop_front.specs.Promises.{Promises};
 
 use crate::answering::answer;
+use crate::laws;
 use iop_ports::{Files, Sink};
 use std::alloc::Global;
 
@@ -16,6 +18,10 @@ use std::alloc::Global;
 /// The words are without the program's name. The first file that cannot be read, or is too long, or
 /// a bad line of the script, decides, and no later file is opened. At most 4,194,305 bytes of each
 /// are read.
+///
+/// What it writes and answers is the outcome of what was read (`Promises`); and that is the outcome
+/// of one run, of which the headline holds (`Headline`): how its modules link, where its stubs go,
+/// how its threads are switched.
 pub fn iop_main<F: Files, C: Sink, T: Sink>(
     alloc: Global,
     words: &[String],
@@ -29,6 +35,9 @@ pub fn iop_main<F: Files, C: Sink, T: Sink>(
         (seen files.new console.new trace.new) }
     // Where the words are no command no file is opened.
     ensures untouched { command_of (map string_bytes words.now) ≡ None → files.new ≡ files.old }
+    // What holds of the run whose outcome a command's is.
+    ensures headline { Headline }
 {
+    laws::headline();
     answer(alloc, words, files, console, trace).code()
 }

@@ -5,6 +5,7 @@ mod answering;
 mod command;
 mod dumping;
 mod inputs;
+pub mod laws;
 mod modules;
 mod modules_to_load;
 mod reading;
