@@ -121,6 +121,7 @@ class Registers:
         self.r = [0] * 32
         self.hi = self.lo = 0
         self.pc, self.next, self.slot = pc % 2**32, (pc + 4) % 2**32, False
+        self.pending = None  # a register and what was loaded for it, which it has behind the next instruction
         for name, value in named.items():
             self.r[{"a0": 4, "a1": 5, "gp": 28, "sp": 29, "ra": 31}[name]] = value % 2**32
 
@@ -134,7 +135,9 @@ class Processor:
         it = instruction(self.memory.load(cpu.pc, 4))
         name, s, t = it.name, cpu.r[it.rs], cpu.r[it.rt]
         if it.computes:
-            self.set_register(it.into, it.computes(s, t))
+            value = it.computes(s, t)
+            self.write_back()
+            self.set_register(it.into, value)
             self.go_on(cpu.next + 4, False)
         elif name in JUMPS:
             self.jump(it, s, t)
@@ -143,29 +146,48 @@ class Processor:
         elif name in (None, "break"):
             raise Fault("break" if name else "reserved")
         else:
-            self.move(it, s, t)
+            (self.access if name[0] in "ls" else self.move)(it, s, t)
             self.go_on(cpu.next + 4, False)
 
-    def move(self, it, s, t):
-        """An instruction on HI and LO, a load or a store."""
-        cpu, name = self.cpu, it.name
+    def access(self, it, s, t):
+        """A load, behind which what it loads is pending, or a store."""
         at = (s + signed(it.immediate, 16)) % 2**32
+        loaded = None
+        if it.name[0] == "l":
+            value = self.loaded(it.name, at, self.latest(it.rt)) % 2**32
+            loaded = (it.rt, value) if it.rt else None
+        else:
+            self.store(it.name, at, t)
+        self.write_back()
+        self.cpu.pending = loaded
+
+    def move(self, it, s, t):
+        """An instruction on HI and LO."""
+        cpu, name = self.cpu, it.name
+        self.write_back()
         if name in PAIRS:
             cpu.hi, cpu.lo = (half % 2**32 for half in PAIRS[name](s, t))
         elif name in ("mfhi", "mflo"):
             self.set_register(it.into, cpu.hi if name == "mfhi" else cpu.lo)
         elif name == "mthi":
             cpu.hi = s
-        elif name == "mtlo":
-            cpu.lo = s
-        elif name[0] == "l":
-            self.set_register(it.rt, self.loaded(name, at, t))
         else:
-            self.store(name, at, t)
+            cpu.lo = s
 
     def go_on(self, following, slot):
         """The next instruction is executed, and then the one at an address."""
         self.cpu.pc, self.cpu.next, self.cpu.slot = self.cpu.next, following % 2**32, slot
+
+    def write_back(self):
+        """What was loaded goes into its register."""
+        if self.cpu.pending:
+            number, value = self.cpu.pending
+            self.cpu.r[number], self.cpu.pending = value, None
+
+    def latest(self, number):
+        """A register as it is once what was loaded is in it."""
+        pending = self.cpu.pending
+        return pending[1] if pending and pending[0] == number else self.cpu.r[number]
 
     def set_register(self, number, value):
         if number:
@@ -174,12 +196,13 @@ class Processor:
     def call(self, code):
         """A syscall. It moves on first, and the registers may then be those of another thread; a fault leaves it there."""
         cpu = self.cpu
-        before = cpu.pc, cpu.next, cpu.slot
+        before = cpu.pc, cpu.next, cpu.slot, list(cpu.r), cpu.pending
+        self.write_back()
         self.go_on(cpu.next + 4, False)
         try:
             answer = self.syscall(code)
         except Fault:
-            cpu.pc, cpu.next, cpu.slot = before
+            cpu.pc, cpu.next, cpu.slot, cpu.r, cpu.pending = before
             raise
         if answer is not None:
             cpu.r[2] = answer % 2**32
@@ -196,6 +219,7 @@ class Processor:
             target = s
         else:
             target = cpu.pc + 4 + 4 * signed(it.immediate, 16) if TAKEN[it.name](s, t) else cpu.next + 4
+        self.write_back()
         if it.name == "jalr":
             self.set_register(it.into, link)
         elif it.name.endswith("al"):

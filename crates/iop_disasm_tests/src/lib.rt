@@ -1,4 +1,5 @@
-//! Tests of iop_disasm: the texts of words, and listings of memory.
+//! Tests of iop_disasm: the texts of words, listings of memory, and registers that are read too
+//! soon.
 #![tactic(auto)]
 
 #[cfg(test)]

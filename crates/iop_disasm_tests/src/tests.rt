@@ -1,5 +1,5 @@
 use iop_base::WriteFault;
-use iop_disasm::{inst_text, listing};
+use iop_disasm::{inst_text, listing, read_too_soon};
 use iop_ports::MemSink;
 use iop_ram::Ram;
 use std::test::Fail;
@@ -19,6 +19,34 @@ fn words_have_texts(rt: HostRuntime) -> Result<(), Fail> {
     ];
     for (word, at, text) in &table {
         assert_eq!(rt; inst_text(*word, *at).as_slice(), text.as_bytes());
+    }
+    Ok(())
+}
+
+#[test]
+fn words_read_what_is_loaded_before_them(rt: HostRuntime) -> Result<(), Fail> {
+    let lw_2 = 0x8FA2_0010;
+    let table: [(u32, u32, Option<u8>); 16] = [
+        (lw_2, 0x0044_1821, Some(2)), // addu $3,$2,$4
+        (lw_2, 0x0002_1900, Some(2)), // sll $3,$2,4
+        (lw_2, 0x0082_0018, Some(2)), // mult $4,$2
+        (lw_2, 0x0040_0008, Some(2)), // jr $2
+        (lw_2, 0xAFA2_0000, Some(2)), // sw $2,0($29)
+        (lw_2, 0x9845_0000, Some(2)), // lwr $5,0($2)
+        (lw_2, 0x2402_0001, None), // addiu $2,$0,1
+        (lw_2, 0x3C42_0001, None), // lui $2,0x0001, with a field that it does not use
+        (lw_2, 0x8882_0003, None), // lwl $2,3($4)
+        (lw_2, 0x0042_000C, None), // syscall 67584
+        (lw_2, 0x9C42_0000, None), // no instruction
+        (0x9882_0000, 0x0044_1821, Some(2)), // lwr $2,0($4)
+        (0x8882_0003, 0x9882_0000, None), // lwl $2,3($4), lwr $2,0($4)
+        (0x8FA0_0010, 0x0000_1821, None), // lw $0,16($29), addu $3,$0,$0
+        (0xAFA2_0010, 0x0044_1821, None), // sw $2,16($29)
+        (0x9C42_0000, 0x0044_1821, None), // no instruction
+    ];
+    for (word, next, number) in &table {
+        let read = read_too_soon(*word, *next).map(|reg| reg.number());
+        assert_eq!(rt; read, *number);
     }
     Ok(())
 }

@@ -1,11 +1,10 @@
 -- What a row leaves of a processor: what lasts over the writing of registers, and holds where the
 -- processor has moved on.
-use Rattle.std.proofs.Common.{◌≡◌, ℕ, ◌+◌, ◌==◌, Bool, true, false, cond, Option, Some, None, List, refl, ◌∙◌, arith}
+use Rattle.std.proofs.Common.{◌≡◌, ℕ, ◌==◌, Bool, true, false, cond, Option, Some, None, List, refl, ◌∙◌, arith}
 use Rattle.std.specs.Prelude.{⊤, slice_set}
 use Rattle.std.proofs.lemmas.Bool.{cond_both}
 use Rattle.std.proofs.lemmas.Bool.Decides.{nat_tests}
 use Rattle.std.proofs.lemmas.List.{length-set, get_or-set_other}
-use Rattle.iop_base.specs.Numbers.{wrapped}
 use Rattle.iop_base.specs.Places.{load_at}
 use Rattle.iop_base.specs.declared.guest_fault.GuestFault.TheVariants.{BranchInSlot}
 use Rattle.iop_base.specs.declared.width.Width.TheVariants.{Word}
@@ -13,15 +12,19 @@ use Rattle.iop_isa.specs.declared.instruction.Inst.{Inst}
 use Rattle.iop_isa.specs.declared.instruction.Inst.TheVariants.{Sll, Srl, Sra, Sllv, Srlv, Srav, Jr, Jalr, Syscall, Break, Mfhi, Mthi, Mflo, Mtlo, Mult, Multu, Div, Divu, Add, Addu, Sub, Subu, And, Or, Xor, Nor, Slt, Sltu, Bltz, Bgez, Bltzal, Bgezal, J, Jal, Beq, Bne, Blez, Bgtz, Addi, Addiu, Slti, Sltiu, Andi, Ori, Xori, Lui, Lb, Lh, Lwl, Lw, Lbu, Lhu, Lwr, Sb, Sh, Swl, Sw, Swr}
 use Rattle.iop_isa.specs.Instructions.{inst_of}
 use Rattle.iop_exec.specs.declared.cpu.Cpu.{Cpu}
-use Rattle.iop_exec.specs.Laws.{GoesToNext, IsSteady, RowsGoToNext, RowsStayStraight, RowsStaySteady, cpu_after}
+use Rattle.iop_exec.specs.declared.cpu.Pending.{Pending}
+use Rattle.iop_exec.specs.Laws.{Leaves, IsSteady, RowsGoToNext, RowsStayStraight, RowsStaySteady, cpu_after}
 use Rattle.iop_exec.specs.Processors.{IsStraight}
-use Rattle.iop_exec.specs.Row.{Row, Goes, Serves, Faults, Storing, at_next, after_jump, with_reg, with_link, results, sums, loads, pairs, place, word_round, stores_as, stores_made, effect_of, inst_row, word_row, row_of, row}
+use Rattle.iop_exec.specs.Row.{Row, Goes, Serves, Faults, Storing, at_next, after_jump, with_reg, with_pending, writes_back, after_write_back, results, sums, loads, pairs, jumps, jumps_linked, place, word_round, stores_as, stores_made, effect_of, inst_row, word_row, row_of, row}
 
 -- P lasts while registers are written, and Q holds once the processor has moved on
 pub record RowKeeps (P Q : Cpu → Type 0) : Type 0 where
   pub writes : (c : Cpu) (n value : ℕ) → (n == 0) ≡ false → P c
       → P (record c { regs = slice_set c.regs n value })
   pub pairs : (c : Cpu) (hi lo : ℕ) → P c → P (record c { hi = hi; lo = lo })
+  pub drops : (c : Cpu) → P c → P (record c { pending = None })
+  pub pends : (c : Cpu) (n value : ℕ) → (n == 0) ≡ false → P c
+      → P (record c { pending = Some (record { reg = n; value = value }) })
   pub moves : (c : Cpu) → P c → Q (at_next c)
   pub jumps : (c : Cpu) (target : ℕ) → P c → Q (after_jump c target)
 
@@ -31,15 +34,27 @@ pub written : {P Q : Cpu → Type 0} → RowKeeps P Q → (c : Cpu) (n value : �
 written {P} {Q} h c n value has =
     cond_both (n == 0) c _ P (λ zero. has) (λ other. h.writes c n value other has)
 
--- it has moved on, unless the row faults
-abbrev Leaves : (Cpu → Type 0) → Cpu → Row → Type 0
-Leaves Q c (Goes after storing) = Q after
-Leaves Q c (Serves code) = Q (at_next c)
-Leaves Q c (Faults fault) = ⊤
+-- and what is loaded
+pub pended : {P Q : Cpu → Type 0} → RowKeeps P Q → (c : Cpu) (n value : ℕ) → P c
+    → P (with_pending c n value)
+pended {P} {Q} h c n value has =
+    cond_both (n == 0) c _ P (λ zero. has) (λ other. h.pends c n value other has)
+
+back_by : {P Q : Cpu → Type 0} → RowKeeps P Q → (c : Cpu) (o : Option Pending) → P c
+    → P (writes_back o c)
+back_by h c None has = has
+back_by h c (Some load) has = h.drops _ (written h c load.reg load.value has)
+
+-- and the writing of what is pending
+pub back : {P Q : Cpu → Type 0} → RowKeeps P Q → (c : Cpu) → P c → P (after_write_back c)
+back h c has = back_by h c c.pending has
 
 module _ {P Q : Cpu → Type 0} (h : RowKeeps P Q) (memory : List ℕ) (c : Cpu) (has : P c) where
+  had : P (after_write_back c)
+  had = back h c has
+
   results_leave : (n value : ℕ) → Leaves Q c (results c n value)
-  results_leave n value = h.moves _ (written h c n value has)
+  results_leave n value = h.moves _ (written h _ n value had)
 
   sums_leave : (n : ℕ) (sum : Option ℕ) → Leaves Q c (sums c n sum)
   sums_leave n None = tt
@@ -47,21 +62,21 @@ module _ {P Q : Cpu → Type 0} (h : RowKeeps P Q) (memory : List ℕ) (c : Cpu)
 
   loads_leave : (n : ℕ) (number : Option ℕ) → Leaves Q c (loads c n number)
   loads_leave n None = tt
-  loads_leave n (Some number) = results_leave n number
+  loads_leave n (Some number) = h.moves _ (pended h _ n number had)
 
   pairs_leave : (hi lo : ℕ) → Leaves Q c (pairs c hi lo)
-  pairs_leave hi lo = h.moves _ (h.pairs c hi lo has)
+  pairs_leave hi lo = h.moves _ (h.pairs _ hi lo had)
 
-  jumps_leave : (target : ℕ) → Leaves Q c (Goes (after_jump c target) None)
-  jumps_leave target = h.jumps c target has
+  jumps_leave : (target : ℕ) → Leaves Q c (jumps c target)
+  jumps_leave target = h.jumps _ target had
 
-  links_leave : (n target : ℕ) → Leaves Q c (Goes (after_jump (with_link c n) target) None)
-  links_leave n target = h.jumps _ target (written h c n (wrapped (c.pc + 8)) has)
+  links_leave : (n target : ℕ) → Leaves Q c (jumps_linked c n target)
+  links_leave n target = h.jumps _ target (written h _ n _ had)
 
   stores_leave : (after : Option (List ℕ)) (storing : Storing)
       → Leaves Q c (stores_as after c storing)
   stores_leave None storing = tt
-  stores_leave (Some after) storing = h.moves c has
+  stores_leave (Some after) storing = h.moves _ had
 
   parts_leave : (word : Option ℕ) (at : ℕ) (made : ℕ → ℕ)
       → Leaves Q c (stores_made word c memory at made)
@@ -78,7 +93,7 @@ module _ {P Q : Cpu → Type 0} (h : RowKeeps P Q) (memory : List ℕ) (c : Cpu)
   effect_leaves (Srav rd rt rs) = results_leave rd _
   effect_leaves (Jr rs) = jumps_leave _
   effect_leaves (Jalr rd rs) = links_leave rd _
-  effect_leaves (Syscall n) = h.moves c has
+  effect_leaves (Syscall n) = h.moves _ had
   effect_leaves (Break n) = tt
   effect_leaves (Mfhi rd) = results_leave rd _
   effect_leaves (Mthi rs) = pairs_leave _ _
@@ -157,23 +172,22 @@ goes_to : (c : Cpu) → RowKeeps (λ d. d.next ≡ c.next) (λ d. d.pc ≡ c.nex
 goes_to c = record {
   writes = λ d n value other is. is;
   pairs = λ d hi lo is. is;
+  drops = λ d is. is;
+  pends = λ d n value other is. is;
   moves = λ d is. is;
   jumps = λ d target is. is;
 }
 
-gone_to : (c : Cpu) (r : Row) → Leaves (λ d. d.pc ≡ c.next) c r → GoesToNext c r
-gone_to c (Goes after storing) is = is
-gone_to c (Serves code) is = is
-gone_to c (Faults fault) is = tt
-
 pub rows_go_to_next : RowsGoToNext
-rows_go_to_next memory c = gone_to c (row memory c) (row_leaves (goes_to c) memory c refl)
+rows_go_to_next memory c = row_leaves (goes_to c) memory c refl
 
 -- whatever stood there, the processor is straight
 straightens : RowKeeps (λ c. ⊤) IsStraight
 straightens = record {
   writes = λ c n value other is. tt;
   pairs = λ c hi lo is. tt;
+  drops = λ c is. tt;
+  pends = λ c n value other is. tt;
   moves = λ c is out. refl;
   jumps = λ c target is out. absurd (cc out);
 }
@@ -190,14 +204,37 @@ steadies = record {
     registers = length-set c.regs n value ∙ is.registers;
     zero = get_or-set_other c.regs n 0 value 0 (λ none. grind (arith, nat_tests, other, none))
         ∙ is.zero;
+    pending = is.pending;
   };
-  pairs = λ c hi lo is.
-      record { straight = is.straight; registers = is.registers; zero = is.zero };
-  moves = λ c is. record { straight = λ out. refl; registers = is.registers; zero = is.zero };
+  pairs = λ c hi lo is. record {
+    straight = is.straight;
+    registers = is.registers;
+    zero = is.zero;
+    pending = is.pending;
+  };
+  drops = λ c is. record {
+    straight = is.straight;
+    registers = is.registers;
+    zero = is.zero;
+    pending = tt;
+  };
+  pends = λ c n value other is. record {
+    straight = is.straight;
+    registers = is.registers;
+    zero = is.zero;
+    pending = λ none. grind (arith, nat_tests, other, none);
+  };
+  moves = λ c is. record {
+    straight = λ out. refl;
+    registers = is.registers;
+    zero = is.zero;
+    pending = is.pending;
+  };
   jumps = λ c target is. record {
     straight = λ out. absurd (cc out);
     registers = is.registers;
     zero = is.zero;
+    pending = is.pending;
   };
 }
 

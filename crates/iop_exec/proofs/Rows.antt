@@ -1,12 +1,9 @@
 -- The row of a word, and of the word at pc.
-use Rattle.std.proofs.Common.{◌≡◌, ℕ, false, ◌&&◌, cond, Some, List, refl, ap, ◌∙◌}
+use Rattle.std.proofs.Common.{◌≡◌, ℕ, Some, List, ap}
 use Rattle.iop_base.specs.Places.{load_at}
-use Rattle.iop_base.specs.declared.guest_fault.GuestFault.TheVariants.{BranchInSlot}
 use Rattle.iop_base.specs.declared.width.Width.TheVariants.{Word}
 use Rattle.iop_exec.specs.declared.cpu.Cpu.{Cpu}
-use Rattle.iop_isa.specs.declared.instruction.Inst.{Inst}
-use Rattle.iop_isa.specs.Instructions.{inst_of, is_jump}
-use Rattle.iop_exec.specs.Row.{Faults, effect_of, inst_row, row, row_of, word_row}
+use Rattle.iop_exec.specs.Row.{row, row_of, word_row}
 
 module _ (memory : List ℕ) (c : Cpu) where
   pub row_some : (word : ℕ)

@@ -3,3 +3,4 @@ pub mod Row
 pub mod Stepping
 pub mod Processors
 pub mod Laws
+pub mod LoadDelays

@@ -11,11 +11,19 @@ abbrev pub position_of : Cpu → Position
 position_of c = record { pc = c.pc; next = c.next; in_slot = c.in_slot }
 
 abbrev pub registers_of : Cpu → Registers
-registers_of c = record { regs = c.regs; hi = c.hi; lo = c.lo }
+registers_of c = record { regs = c.regs; hi = c.hi; lo = c.lo; pending = c.pending }
 
 -- the processor of both
 abbrev pub cpu_of : Registers → Position → Cpu
-cpu_of r p = record { regs = r.regs; hi = r.hi; lo = r.lo; pc = p.pc; next = p.next; in_slot = p.in_slot }
+cpu_of r p = record {
+  regs = r.regs;
+  hi = r.hi;
+  lo = r.lo;
+  pc = p.pc;
+  next = p.next;
+  in_slot = p.in_slot;
+  pending = r.pending;
+}
 
 -- the processor with a position in place of its own
 abbrev pub standing_at : Position → Cpu → Cpu

@@ -1,6 +1,6 @@
 ghost use Rattle.iop_exec.specs.Processors.{cpu_of};
 ghost use Rattle.iop_exec.specs.Row.{effect_of, inst_row, row, word_row};
-ghost use Rattle.iop_exec.specs.Stepping.{Does};
+ghost use Rattle.iop_exec.specs.Stepping.{Does, DoesUpToCall};
 ghost use Rattle.std.specs.Prelude.{Some};
 
 use crate::arithmetic::{
@@ -31,14 +31,18 @@ pub fn step<B: Bus>(cpu: &mut Cpu, bus: &mut B) -> Event
     let mut position = Position::of(cpu);
     let event = step_apart(&mut regs, &mut position, bus);
     *cpu = regs.standing_at(position);
+    if let Event::Service(_) = event {
+        cpu.move_on();
+    }
     event
 }
 
 /// Executes the instruction at `pc` as [`step`] does, over registers and a position that are kept
-/// apart.
+/// apart, up to the call of a service: there the processor still stands at the `syscall`, from which
+/// [`Cpu::move_on`] moves it on.
 #[tactic(auto, unfolding(crate::specs::Row::row))]
 pub fn step_apart<B: Bus>(regs: &mut Registers, position: &mut Position, bus: &mut B) -> Event
-    ensures { Does B.bytes B.stores (row (B.bytes bus.old) (cpu_of regs.old position.old))
+    ensures { DoesUpToCall B.bytes B.stores (row (B.bytes bus.old) (cpu_of regs.old position.old))
         result (cpu_of regs.old position.old) bus.old (cpu_of regs.new position.new) bus.new }
 {
     match bus.fetch(position.pc) {
@@ -67,7 +71,8 @@ fn execute_word<B: Bus>(
     position: &mut Position,
     bus: &mut B,
 ) -> Event
-    ensures { Does B.bytes B.stores (word_row word (B.bytes bus.old) (cpu_of regs.old position.old))
+    ensures { DoesUpToCall B.bytes B.stores
+        (word_row word (B.bytes bus.old) (cpu_of regs.old position.old))
         result (cpu_of regs.old position.old) bus.old (cpu_of regs.new position.new) bus.new }
 {
     let fields = Fields::of(word);
@@ -86,7 +91,7 @@ fn execute_as<B: Bus>(
     position: &mut Position,
     bus: &mut B,
 ) -> Event
-    ensures { Does B.bytes B.stores
+    ensures { DoesUpToCall B.bytes B.stores
         (inst_row (Some inst) (B.bytes bus.old) (cpu_of regs.old position.old))
         result (cpu_of regs.old position.old) bus.old (cpu_of regs.new position.new) bus.new }
 {
@@ -101,7 +106,7 @@ fn execute_as<B: Bus>(
 #[inline(always)]
 #[tactic(auto, unfolding(crate::specs::Row::effect_of))]
 fn execute<B: Bus>(inst: Inst, regs: &mut Registers, position: &mut Position, bus: &mut B) -> Event
-    ensures { Does B.bytes B.stores
+    ensures { DoesUpToCall B.bytes B.stores
         (effect_of inst (B.bytes bus.old) (cpu_of regs.old position.old))
         result (cpu_of regs.old position.old) bus.old (cpu_of regs.new position.new) bus.new }
 {
@@ -128,9 +133,9 @@ fn execute<B: Bus>(inst: Inst, regs: &mut Registers, position: &mut Position, bu
             rd,
             signed_shift(regs.reg(rt), regs.reg(rs) % 32),
         ),
-        Inst::Jr { rs } => position.jump(regs.reg(rs)),
+        Inst::Jr { rs } => regs.jump(position, regs.reg(rs)),
         Inst::Jalr { rd, rs } => regs.jump_and_link(position, rd, regs.reg(rs)),
-        Inst::Syscall { n } => position.serve(n),
+        Inst::Syscall { n } => Event::Service(n.number()),
         Inst::Break { .. } => Event::Fault(GuestFault::Break),
         Inst::Mfhi { rd } => regs.complete(position, rd, regs.hi),
         Inst::Mthi { rs } => regs.complete_pair(position, regs.reg(rs), regs.lo),
@@ -188,23 +193,25 @@ fn execute<B: Bus>(inst: Inst, regs: &mut Registers, position: &mut Position, bu
             rd,
             u32::from(regs.reg(rs) < regs.reg(rt)),
         ),
-        Inst::Bltz { rs, imm } => position.branch(is_negative(regs.reg(rs)), imm),
-        Inst::Bgez { rs, imm } => position.branch(!is_negative(regs.reg(rs)), imm),
+        Inst::Bltz { rs, imm } => regs.branch(position, is_negative(regs.reg(rs)), imm),
+        Inst::Bgez { rs, imm } => regs.branch(position, !is_negative(regs.reg(rs)), imm),
         Inst::Bltzal { rs, imm } => regs.branch_and_link(position, is_negative(regs.reg(rs)), imm),
         Inst::Bgezal { rs, imm } => regs.branch_and_link(position, !is_negative(regs.reg(rs)), imm),
-        Inst::J { target } => position.jump(jump_target(position.pc, target)),
+        Inst::J { target } => regs.jump(position, jump_target(position.pc, target)),
         Inst::Jal { target } => regs.jump_and_link(
             position,
             Reg::new(31),
             jump_target(position.pc, target),
         ),
-        Inst::Beq { rs, rt, imm } => position.branch(regs.reg(rs) == regs.reg(rt), imm),
-        Inst::Bne { rs, rt, imm } => position.branch(regs.reg(rs) != regs.reg(rt), imm),
-        Inst::Blez { rs, imm } => position.branch(
+        Inst::Beq { rs, rt, imm } => regs.branch(position, regs.reg(rs) == regs.reg(rt), imm),
+        Inst::Bne { rs, rt, imm } => regs.branch(position, regs.reg(rs) != regs.reg(rt), imm),
+        Inst::Blez { rs, imm } => regs.branch(
+            position,
             is_negative(regs.reg(rs)) || regs.reg(rs) == 0,
             imm,
         ),
-        Inst::Bgtz { rs, imm } => position.branch(
+        Inst::Bgtz { rs, imm } => regs.branch(
+            position,
             !(is_negative(regs.reg(rs)) || regs.reg(rs) == 0),
             imm,
         ),
@@ -237,7 +244,7 @@ fn execute<B: Bus>(inst: Inst, regs: &mut Registers, position: &mut Position, bu
         Inst::Lwl { rt, imm, rs } => regs.load(
             position,
             rt,
-            upper_part(bus, regs.place(rs, imm), regs.reg(rt)),
+            upper_part(bus, regs.place(rs, imm), regs.latest(rt)),
         ),
         Inst::Lw { rt, imm, rs } => regs.load(
             position,
@@ -257,9 +264,10 @@ fn execute<B: Bus>(inst: Inst, regs: &mut Registers, position: &mut Position, bu
         Inst::Lwr { rt, imm, rs } => regs.load(
             position,
             rt,
-            lower_part(bus, regs.place(rs, imm), regs.reg(rt)),
+            lower_part(bus, regs.place(rs, imm), regs.latest(rt)),
         ),
         Inst::Sb { rt, imm, rs } => store(
+            regs,
             position,
             bus,
             regs.place(rs, imm),
@@ -267,6 +275,7 @@ fn execute<B: Bus>(inst: Inst, regs: &mut Registers, position: &mut Position, bu
             regs.reg(rt),
         ),
         Inst::Sh { rt, imm, rs } => store(
+            regs,
             position,
             bus,
             regs.place(rs, imm),
@@ -274,12 +283,14 @@ fn execute<B: Bus>(inst: Inst, regs: &mut Registers, position: &mut Position, bu
             regs.reg(rt),
         ),
         Inst::Swl { rt, imm, rs } => store_upper_part(
+            regs,
             position,
             bus,
             regs.place(rs, imm),
             regs.reg(rt),
         ),
         Inst::Sw { rt, imm, rs } => store(
+            regs,
             position,
             bus,
             regs.place(rs, imm),
@@ -287,6 +298,7 @@ fn execute<B: Bus>(inst: Inst, regs: &mut Registers, position: &mut Position, bu
             regs.reg(rt),
         ),
         Inst::Swr { rt, imm, rs } => store_lower_part(
+            regs,
             position,
             bus,
             regs.place(rs, imm),

@@ -11,7 +11,7 @@ mod position;
 mod registers;
 
 pub use bus::Bus;
-pub use cpu::{Cpu, Event};
+pub use cpu::{Cpu, Event, Pending};
 pub use execution::{step, step_apart};
 pub use position::Position;
 pub use registers::Registers;

@@ -5,7 +5,7 @@ ghost use Rattle.iop_base.specs.Places.{load_at};
 ghost use Rattle.iop_exec.specs.Arithmetic.{left_load, right_load, left_store, right_store};
 ghost use Rattle.iop_exec.specs.Processors.{cpu_of};
 ghost use Rattle.iop_exec.specs.Row.{word_start, word_round, stores, stores_over};
-ghost use Rattle.iop_exec.specs.Stepping.{Does};
+ghost use Rattle.iop_exec.specs.Stepping.{DoesUpToCall};
 ghost use Rattle.std.specs.Prelude.{◌≡◌, option_map};
 
 use crate::arithmetic::{left_load, left_store, right_load, right_store};
@@ -59,18 +59,20 @@ pub(crate) fn lower_part<B: Bus>(bus: &B, at: u32, old: u32) -> Option<u32>
 
 /// Stores the low bytes of a value: `Address` where they have no place.
 pub(crate) fn store<B: Bus>(
+    regs: &mut Registers,
     position: &mut Position,
     bus: &mut B,
     at: u32,
     width: Width,
     value: u32,
 ) -> Event
-    ensures { (r : Registers) → Does B.bytes B.stores
-        (stores (cpu_of r position.old) (B.bytes bus.old) at width value)
-        result (cpu_of r position.old) bus.old (cpu_of r position.new) bus.new }
+    ensures { DoesUpToCall B.bytes B.stores
+        (stores (cpu_of regs.old position.old) (B.bytes bus.old) at width value)
+        result (cpu_of regs.old position.old) bus.old (cpu_of regs.new position.new) bus.new }
 {
     match bus.store(at, width, value) {
         Ok(()) => {
+            regs.write_back();
             position.advance();
             Event::Plain
         }
@@ -80,17 +82,19 @@ pub(crate) fn store<B: Bus>(
 
 /// Stores as `swl` does: `Address` where there is no word.
 pub(crate) fn store_upper_part<B: Bus>(
+    regs: &mut Registers,
     position: &mut Position,
     bus: &mut B,
     at: u32,
     value: u32,
 ) -> Event
-    ensures { (r : Registers) → Does B.bytes B.stores
-        (stores_over (cpu_of r position.old) (B.bytes bus.old) at (left_store at value))
-        result (cpu_of r position.old) bus.old (cpu_of r position.new) bus.new }
+    ensures { DoesUpToCall B.bytes B.stores
+        (stores_over (cpu_of regs.old position.old) (B.bytes bus.old) at (left_store at value))
+        result (cpu_of regs.old position.old) bus.old (cpu_of regs.new position.new) bus.new }
 {
     match load_at(bus, word_start(at), Width::Word) {
         Some(word) => store(
+            regs,
             position,
             bus,
             word_start(at),
@@ -103,17 +107,19 @@ pub(crate) fn store_upper_part<B: Bus>(
 
 /// Stores as `swr` does: `Address` where there is no word.
 pub(crate) fn store_lower_part<B: Bus>(
+    regs: &mut Registers,
     position: &mut Position,
     bus: &mut B,
     at: u32,
     value: u32,
 ) -> Event
-    ensures { (r : Registers) → Does B.bytes B.stores
-        (stores_over (cpu_of r position.old) (B.bytes bus.old) at (right_store at value))
-        result (cpu_of r position.old) bus.old (cpu_of r position.new) bus.new }
+    ensures { DoesUpToCall B.bytes B.stores
+        (stores_over (cpu_of regs.old position.old) (B.bytes bus.old) at (right_store at value))
+        result (cpu_of regs.old position.old) bus.old (cpu_of regs.new position.new) bus.new }
 {
     match load_at(bus, word_start(at), Width::Word) {
         Some(word) => store(
+            regs,
             position,
             bus,
             word_start(at),

@@ -1,8 +1,8 @@
 ghost use Rattle.std.specs.Prelude.{◌≡◌};
-ghost use Rattle.iop_exec.specs.Processors.{position_of, standing_at, next_position, position_after_jump, position_after_branch};
+ghost use Rattle.iop_exec.specs.Processors.{position_of, next_position, position_after_jump, position_after_branch};
 
 use crate::cpu::{Cpu, Event};
-use iop_isa::{Code20, branch_target};
+use iop_isa::branch_target;
 
 /// Where a processor stands: at which instruction, and at which one after it.
 #[derive(Clone, Copy, Debug, PartialEq, Eq)]
@@ -27,15 +27,6 @@ impl Position {
         }
     }
 
-    /// Puts a processor at this position; its registers stay.
-    pub fn restore(self, cpu: &mut Cpu)
-        ensures { cpu.new ≡ standing_at self cpu.old }
-    {
-        cpu.pc = self.pc;
-        cpu.next = self.next;
-        cpu.in_slot = self.in_slot;
-    }
-
     /// Moves on to the next instruction, after one that is no branch or jump.
     pub(crate) fn advance(&mut self)
         ensures { self.new ≡ next_position self.old }
@@ -43,15 +34,6 @@ impl Position {
         self.pc = self.next;
         self.next = self.next.wrapping_add(4);
         self.in_slot = false;
-    }
-
-    /// Ends a `syscall`.
-    pub(crate) fn serve(&mut self, code: Code20) -> Event
-        ensures position { self.new ≡ next_position self.old }
-        ensures event { result ≡ Event.Service code }
-    {
-        self.advance();
-        Event::Service(code.number())
     }
 
     /// Jumps: the instruction at `next` stands in the delay slot, and the one at the target comes

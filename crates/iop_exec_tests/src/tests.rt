@@ -14,6 +14,7 @@ fn cpu_at(pc: u32) -> Cpu {
         pc,
         next: pc.wrapping_add(4),
         in_slot: false,
+        pending: None,
     }
 }
 
@@ -161,7 +162,8 @@ fn jumps_and_branches(rt: HostRuntime) -> Result<(), Fail> {
 
 #[test]
 fn parts_of_a_word(rt: HostRuntime) -> Result<(), Fail> {
-    // register 2 after each instruction from 0x108 on; $ra is stored over the last word
+    // register 2 after each instruction from 0x108 on, which has what the one before loaded; $ra is
+    // stored over the last word
     let words = [
         0x4433_2211,
         0x8877_6655,
@@ -171,10 +173,12 @@ fn parts_of_a_word(rt: HostRuntime) -> Result<(), Fail> {
         0x8402_0104,
         0xA41F_0106,
         0x8C02_0104,
+        0,
     ];
     let mut ram = Ram::new(rt.alloc(), 0x100, &words)?;
     let mut cpu = cpu_at(0x108);
     for value in [
+        0,
         0x0044_3322,
         0x5544_3322,
         0xFFFF_FF88,
@@ -185,5 +189,56 @@ fn parts_of_a_word(rt: HostRuntime) -> Result<(), Fail> {
         assert_eq!(rt; step(&mut cpu, &mut ram), Event::Plain);
         assert_eq!(rt; cpu.regs[2], value);
     }
+    Ok(())
+}
+
+#[test]
+fn load_delay_slots(rt: HostRuntime) -> Result<(), Fail> {
+    // three words behind 5 at 0x100, and registers 2, 3 and 4 after them, of which 2 was 1 before
+    let table = [
+        // lw $2,256($0); addu $3,$2,$0; addu $4,$2,$0
+        ([0x8C02_0100, 0x0040_1821, 0x0040_2021], (5, 1, 5)),
+        // lw $2,256($0); addiu $2,$0,9; nop
+        ([0x8C02_0100, 0x2402_0009, 0], (9, 0, 0)),
+        // lw $2,256($0); lb $2,257($0); addu $3,$2,$0
+        ([0x8C02_0100, 0x8002_0101, 0x0040_1821], (0, 5, 0)),
+        // lw $0,256($0); addu $3,$0,$0; addu $4,$0,$0
+        ([0x8C00_0100, 0x0000_1821, 0x0000_2021], (1, 0, 0)),
+        // lw $2,256($0); jal 0x10C; addu $3,$2,$0
+        ([0x8C02_0100, 0x0C00_0043, 0x0040_1821], (5, 5, 0)),
+    ];
+    for (words, registers) in table {
+        let mut ram = Ram::new(rt.alloc(), 0x100, &[5, words[0], words[1], words[2]])?;
+        let mut cpu = cpu_at(0x104);
+        cpu.regs[2] = 1;
+        for _ in 0..3 {
+            assert_eq!(rt; step(&mut cpu, &mut ram), Event::Plain);
+        }
+        assert_eq!(rt; (cpu.regs[2], cpu.regs[3], cpu.regs[4]), registers);
+    }
+    Ok(())
+}
+
+#[test]
+fn pending_at_a_fault(rt: HostRuntime) -> Result<(), Fail> {
+    // lw $2,256($0); break 0
+    let mut ram = Ram::new(rt.alloc(), 0x100, &[5, 0x8C02_0100, 0x0000_000D])?;
+    let mut cpu = cpu_at(0x104);
+    assert_eq!(rt; step(&mut cpu, &mut ram), Event::Plain);
+    let before = cpu;
+    assert_eq!(rt; step(&mut cpu, &mut ram), Event::Fault(GuestFault::Break));
+    assert_eq!(rt; cpu, before);
+    Ok(())
+}
+
+#[test]
+fn pending_at_a_call(rt: HostRuntime) -> Result<(), Fail> {
+    // lw $2,256($0); syscall 0
+    let mut ram = Ram::new(rt.alloc(), 0x100, &[5, 0x8C02_0100, 0x0000_000C])?;
+    let mut cpu = cpu_at(0x104);
+    assert_eq!(rt; step(&mut cpu, &mut ram), Event::Plain);
+    assert_eq!(rt; (cpu.regs[2], cpu.pending.is_some()), (0, true));
+    assert_eq!(rt; step(&mut cpu, &mut ram), Event::Service(0));
+    assert_eq!(rt; (cpu.regs[2], cpu.pending.is_some()), (5, false));
     Ok(())
 }

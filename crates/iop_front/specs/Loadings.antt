@@ -7,16 +7,16 @@ use Rattle.iop_base.specs.Text.{line_bytes}
 use Rattle.iop_base.specs.declared.code.Code.{Code}
 use Rattle.iop_base.specs.declared.code.TheConstants.Code.{ILLEGAL_OBJECT, LINK_ERROR, NO_MEMORY}
 use Rattle.iop_base.specs.declared.line.Line.TheVariants.{Load, Refused}
-use Rattle.iop_exec.specs.Row.{Serves, at_next}
+use Rattle.iop_exec.specs.Row.{Serves}
 use Rattle.iop_kernel.specs.Serving.{services}
 use Rattle.iop_kernel.specs.System.{Served}
 use Rattle.iop_kernel.specs.declared.after.After.TheVariants.{ModuleReturned}
 use Rattle.iop_linker.specs.Linking.{export_table_of, target_of, text_stubs}
-use Rattle.iop_machine.specs.Iop.{Iop, system_of}
+use Rattle.iop_machine.specs.Iop.{Iop}
 use Rattle.iop_machine.specs.Loading.{loading_of, places, with_kernel}
 use Rattle.iop_machine.specs.Looking.{takes_events}
 use Rattle.iop_machine.specs.Modules.{Module}
-use Rattle.iop_machine.specs.Services.{leaves, serves}
+use Rattle.iop_machine.specs.Services.{leaves, serves, calling}
 use Rattle.iop_machine.specs.Stepping.{Boots, Executes, step, turn_of}
 use Rattle.iop_machine.specs.World.{World}
 use Rattle.iop_machine.specs.declared.begun_module.BegunModule.{BegunModule}
@@ -142,7 +142,7 @@ ComesNext s m t = ComesToLoad s.modules s m t
 
 -- what a call of a code leaves
 abbrev pub served_by : Iop → (code : ℕ) → Served
-served_by s code = services (system_of (record s { cpu = at_next s.cpu })) code
+served_by s code = services (calling s) code
 
 -- by it a module has returned a value, and is kept or removed
 abbrev pub behind_end : Iop → (code : ℕ) → BegunModule → (value : ℕ) → Iop

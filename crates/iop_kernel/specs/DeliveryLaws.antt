@@ -14,7 +14,7 @@ use Rattle.iop_time.specs.declared.alarm.Alarm.{Alarm}
 use Rattle.iop_time.specs.declared.delay.Delay.{Delay}
 use Rattle.iop_time.specs.declared.due.Due.TheVariants as due
 use Rattle.iop_kernel.specs.Deliveries.{Delivered, may_deliver, delivers, next_look}
-use Rattle.iop_kernel.specs.Handlers.{handler_registers, handler_for}
+use Rattle.iop_kernel.specs.Handlers.{handler_registers}
 use Rattle.iop_kernel.specs.Laws.{IsCore}
 use Rattle.iop_kernel.specs.Overdue.{NoMomentHasCome}
 use Rattle.iop_kernel.specs.System.{Kernel, Core}
@@ -28,7 +28,7 @@ NoLineComes k = (n : ℕ) → CanBeDelivered (line_of k.irqs n) → ⊥
 
 -- a handler begins for this, and what the processor had is kept; the threads stay as they were
 pub record Begins (c : Core) (d : Delivered) (cause : Cause) (handler : Handler) : Type 0 where
-  pub active : d.core.kernel.handler ≡ Some (handler_for cause c.cpu)
+  pub active : d.core.kernel.handler ≡ Some (record { cause = cause; kept = c.cpu })
   pub registers : d.core.cpu ≡ handler_registers handler
   pub threads : d.core.kernel.threads ≡ c.kernel.threads
 

@@ -111,7 +111,11 @@ pub record ServiceKeeps (s : System) (d : Served) : Type 0 where
   pub answers : d.left.after ≡ Resume → HasAnswer s.core.cpu d.left.state.core.cpu
   -- it takes one number at most for an alarm or a delay
   pub numbers : d.left.state.core.kernel.timers.next ≤ s.core.kernel.timers.next + 1
-  pub core : IsCore s.core → IsCore d.left.state.core
+  -- threads and waiters stay where they belong, and no wait becomes overdue
+  pub placed : IsPlaced s.core.kernel → IsPlaced d.left.state.core.kernel
+  pub overdue : NoneOverdue s.core.kernel → NoneOverdue d.left.state.core.kernel
+  -- what holds at all times goes on to hold where nothing is pending, as behind a `syscall`
+  pub core : s.core.cpu.pending ≡ None → IsCore s.core → IsCore d.left.state.core
   pub clock : d.left.state.core.kernel.clock ≡ s.core.kernel.clock
   pub memory : Writes s d.left.state.memory d.pieces
   -- each thread that waits has a place for what it is told

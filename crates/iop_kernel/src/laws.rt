@@ -18,13 +18,15 @@ ghost use Rattle.iop_kernel.specs.WaitingLaws.{WaitsBeginSo, WaitsBeginWhere};
 ghost use Rattle.iop_kernel.specs.WakingLaws.{DeletionsWakeAll, WaitsEndSo};
 ghost use Rattle.iop_kernel.specs.WordLaws.{WordsAreRead};
 
-/// What holds of the kernel at all times is kept by each service that a thread or a handler calls.
-/// After it a thread runs on exactly where `Resume` says so, with a word in `$v0` and otherwise the
-/// registers of its call. After `Switch` none runs, and the one that called waits, or is ready, or
-/// has ended, which the loader's thread never does; the loader's thread alone returns from a
-/// module, and a fault changes nothing. A handler goes on after `Resume`, with a word in `$v0`, and
-/// has returned after `Switch`. A service takes no time and one number at most; it stores ranges of
-/// bytes inside RAM, and tells of each live stub that they meet.
+/// What holds of the kernel at all times is kept by each service that a thread or a handler calls
+/// while nothing is pending of a load, as behind a `syscall`. That threads and waiters stand where
+/// they belong, and that no wait is overdue, is kept by each. After it a thread runs on exactly
+/// where `Resume` says so, with a word in `$v0` and otherwise the registers of its call. After
+/// `Switch` none runs, and the one that called waits, or is ready, or has ended, which the loader's
+/// thread never does; the loader's thread alone returns from a module, and a fault changes nothing.
+/// A handler goes on after `Resume`, with a word in `$v0`, and has returned after `Switch`. A
+/// service takes no time and one number at most; it stores ranges of bytes inside RAM, and tells of
+/// each live stub that they meet.
 pub fn services_keep()
     ensures { ServicesKeep }
 {}
@@ -66,7 +68,7 @@ pub fn deliveries_are_in_order()
 
 /// The handler of a line or of an alarm begins at its address with its argument in `$a0`, the `$gp`
 /// of who registered it, the handlers' stack in `$sp`, the handlers' return in `$ra`, and zero in
-/// all other registers.
+/// all other registers. Nothing is pending of a load.
 pub fn handlers_begin_with()
     ensures { HandlersBeginWith }
 {}

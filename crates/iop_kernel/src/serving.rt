@@ -131,7 +131,8 @@ impl<R: Ready> Kernel<R> {
     }
 
     /// Does what a `syscall` of a code asks for, where a thread or a handler executes. The
-    /// processor stands behind it.
+    /// processor stands behind it, and nothing is pending: what is pending of a load for `$v0`
+    /// would replace the answer.
     ///
     /// It answers `Fault` exactly where the code has no meaning, where a place that it looks at is
     /// not in RAM or not aligned, where a handler returns as a thread or a module does, where a

@@ -43,6 +43,7 @@ impl World {
             pc: 0,
             next: 4,
             in_slot: false,
+            pending: None,
         };
         let mut kernel = Kernel::new(alloc, KernelReady::new(alloc)?)?;
         kernel.begin(&cpu);

@@ -98,6 +98,7 @@ fn processor(a0: u32, a1: u32, a2: u32) -> Cpu {
         pc: 0,
         next: 4,
         in_slot: false,
+        pending: None,
     }
 }
 

@@ -8,10 +8,10 @@ use Rattle.iop_base.proofs.Lists.{length-bytes_of}
 use Rattle.iop_exec.specs.declared.cpu.Cpu.{Cpu}
 use Rattle.iop_exec.specs.declared.cpu.Event.{Event}
 use Rattle.iop_exec.specs.declared.cpu.Event.TheVariants.{Plain, Service, Fault}
-use Rattle.iop_exec.specs.Row.{Row, Goes, Serves, Faults, row, at_next}
+use Rattle.iop_exec.specs.Row.{Row, Goes, Serves, Faults, row}
 use Rattle.iop_exec.specs.declared.position.Position.{Position}
 use Rattle.iop_exec.specs.declared.registers.Registers.{Registers}
-use Rattle.iop_exec.specs.Processors.{cpu_of, position_of, registers_of, standing_at}
+use Rattle.iop_exec.specs.Processors.{cpu_of, position_of, registers_of}
 use Rattle.iop_kernel.specs.System.{is_active}
 use Rattle.iop_kernel.proofs.Placing.Basics.{clock_place}
 use Rattle.iop_kernel.specs.Standing.{HasNumber}
@@ -21,7 +21,7 @@ use Rattle.iop_machine.specs.Advancing.{Reached, Advances}
 use Rattle.iop_machine.specs.Iop.{Iop, Transition, Takes, silent, with_state}
 use Rattle.iop_machine.specs.Looking.{moved}
 use Rattle.iop_machine.specs.Running.{Runs, RunsFor}
-use Rattle.iop_machine.specs.Services.{calls, faults_with, concludes}
+use Rattle.iop_machine.specs.Services.{faults_with, concludes}
 use Rattle.iop_machine.specs.Standing.{Stands, StandsBooted}
 use Rattle.iop_machine.specs.Stepping.{performs, steps}
 use Rattle.iop_machine.specs.Storing.{Performs}
@@ -114,9 +114,8 @@ module _ (s : Iop) (cpu' : Cpu) (memory' : Memory) (b c : Output) where
   abbrev Performed : Event → Transition Iop → Type 0
   Performed Plain t =
       (after s cpu' memory' (s.kernel.clock + 1) ≡ t.state) × Gives b c t.pieces
-  Performed (Fault kind) t = Gives b c [] × (concludes settled (position_of s.cpu) (Fault kind) ≡ t)
-  Performed (Service code) t =
-      Gives b c [] × (concludes settled (position_of s.cpu) (Service code) ≡ t)
+  Performed (Fault kind) t = Gives b c [] × (concludes settled (Fault kind) ≡ t)
+  Performed (Service code) t = Gives b c [] × (concludes settled (Service code) ≡ t)
 
   performed_by : (event : Event) (r : Row)
       → Performs r event s.kernel.clock s.cpu s.memory b cpu' memory' c
@@ -138,8 +137,8 @@ module _ (s : Iop) (cpu' : Cpu) (memory' : Memory) (b c : Output) where
   performed_by event (Serves code) h =
       subst (λ (e : Event). Performed e (performs s (Serves code))) (sym h.0) (
         h.3,
-        ap (λ x. calls (record settled { cpu = standing_at (position_of s.cpu) x }) x code) h.1
-            ∙ ap (λ x. calls (record s { memory = x }) (at_next s.cpu) code) h.2,
+        ap (λ x. concludes (record settled { cpu = x }) (Service code)) h.1
+            ∙ ap (λ x. concludes (record s { memory = x }) (Service code)) h.2,
       )
   performed_by event (Faults kind) h =
       subst (λ (e : Event). Performed e (performs s (Faults kind))) (sym h.0) (
@@ -150,7 +149,7 @@ module _ (s : Iop) (cpu' : Cpu) (memory' : Memory) (b c : Output) where
 
   -- where it is not plain it is still to be concluded
   is_left : (event : Event) (t : Transition Iop) → (event ≡ Plain → ⊥) → Performed event t
-      → Gives b c [] × (concludes settled (position_of s.cpu) event ≡ t)
+      → Gives b c [] × (concludes settled event ≡ t)
   is_left Plain t other h = absurd (other refl)
   is_left (Fault kind) t other h = h
   is_left (Service code) t other h = h
@@ -286,12 +285,9 @@ module _ {w : World} {budget left : ℕ} {m : Program} {a b c : Output} {event :
         (to before stands)
 
     -- an instruction that is not plain
-    pub conclude_advances : {new : Program} {d : Output} (position : Position) → (event ≡ Plain → ⊥)
-        → position ≡ position_of m.cpu
-        → ((s : Iop) → Stands now s → Takes Stands (concludes s position event) new c d)
+    pub conclude_advances : {new : Program} {d : Output} → (event ≡ Plain → ⊥)
+        → ((s : Iop) → Stands now s → Takes Stands (concludes s event) new c d)
         → Advances StandsBooted w budget turn.bursts.taken (left - 1) new a d
-    conclude_advances position other p does =
+    conclude_advances other does =
         let rest = is_left before cpu' memory' b c event _ other performed in
-        let same = p ∙ ap (λ (s : Iop). position_of s.cpu) (sym stands.rest) in
-        burst_with (takes_as (silent_then rest.0 (does _ now_stands))
-        (ap (λ x. concludes (settled before cpu' memory' b c) x event) same ∙ rest.1))
+        burst_with (takes_as (silent_then rest.0 (does _ now_stands)) rest.1)

@@ -1,5 +1,5 @@
 -- A delivery, if one is to be made, and a dispatch, if one is.
-use Rattle.std.proofs.Common.{◌≡◌, ℕ, Bool, true, false, Option, Some, None, List, refl, ap, sym, ◌∙◌, subst}
+use Rattle.std.proofs.Common.{◌≡◌, ℕ, Bool, true, false, Option, Some, None, refl, ap, sym, ◌∙◌, subst}
 use Rattle.std.specs.Prelude.{option_map, is_some}
 use Rattle.iop_base.specs.Output.{Output}
 use Rattle.iop_base.proofs.Giving.{gives_none}

@@ -17,11 +17,13 @@ use Rattle.iop_thread.specs.declared.kind.Kind.TheVariants.{Semaphore, Mailbox}
 use Rattle.iop_machine.specs.Histories.{calls_in}
 use Rattle.iop_machine.specs.Iop.{Iop}
 use Rattle.iop_machine.specs.Laws.{RunsAreCounted, RunsAreDelivered}
+use Rattle.iop_machine.specs.Looking.{takes_events}
 use Rattle.iop_machine.specs.Modules.{Module}
+use Rattle.iop_machine.specs.Services.{calling}
 use Rattle.iop_machine.specs.Stepping.{step, steps}
 use Rattle.iop_machine.specs.World.{World, beginning}
 use Rattle.iop_machine.proofs.Landing.{runs_stay_sound}
-use Rattle.iop_machine.proofs.ObjectSteps.{AllObjects, objects, calling, ObjectsGo, stay, served, taken_objects, step_objects}
+use Rattle.iop_machine.proofs.ObjectSteps.{AllObjects, objects, ObjectsGo, stay, served, taken_objects, step_objects}
 use Rattle.iop_machine.proofs.PlacesKept.{calling_have}
 
 -- a history tells what has become of the objects
@@ -74,8 +76,9 @@ goes_grow : (s : Iop) (new : Kernel) → HavePlaces s.memory s.kernel → {call 
 goes_grow s new places (stay same) history h =
     subst (Tells (objects new)) (sym (append-nil history)) (told_so history same h)
 goes_grow s new places (served code core same) history h =
-    told_so (longer history (called (calling s) code)) same
-    (serves_grow (calling s) code core (calling_have s new places) history
+    let system = calling (takes_events s) in
+    told_so (longer history (called system code)) same
+    (serves_grow system code core (calling_have s new places) history
     (told_so history (taken_objects s) h))
 
 -- over whole runs

@@ -7,7 +7,7 @@ use Rattle.iop_base.specs.Places.{phys}
 use Rattle.iop_base.specs.declared.code.Code.{Code}
 use Rattle.iop_base.specs.declared.line.Line.{Line}
 use Rattle.iop_base.specs.declared.line.Line.TheVariants.{Load, Refused}
-use Rattle.iop_exec.specs.Row.{Row, Goes, Serves, Faults, Storing, at_next}
+use Rattle.iop_exec.specs.Row.{Row, Goes, Serves, Faults, Storing}
 use Rattle.iop_kernel.specs.Laws.{Store, after_stores, stores_lines, Writes, ServiceKeeps}
 use Rattle.iop_kernel.specs.Serving.{services}
 use Rattle.iop_kernel.specs.System.{System, Served, is_active}
@@ -23,10 +23,10 @@ use Rattle.iop_stubs.specs.Stubs.{access_place, Memory, after_store, meets, stub
 use Rattle.iop_stubs.specs.declared.live_stub.Stub.{Stub}
 use Rattle.iop_stubs.proofs.Storing.{store_sound}
 use Rattle.iop_sysmem.specs.BlockMap.{BlockMap}
-use Rattle.iop_machine.specs.Iop.{Iop, Transition, tells, system_of}
+use Rattle.iop_machine.specs.Iop.{Iop, Transition, tells}
 use Rattle.iop_machine.specs.Loading.{loading_of, places, passes, enters_or, loads_first, starts_by}
 use Rattle.iop_machine.specs.Modules.{Module, argument_block}
-use Rattle.iop_machine.specs.Services.{calls, calls_by, serves, leaves, returns_by, ends_module, goes_on_by}
+use Rattle.iop_machine.specs.Services.{calls, calls_by, serves, calling, leaves, returns_by, ends_module, goes_on_by}
 use Rattle.iop_machine.specs.Stepping.{performs, stores_it, waits_by}
 use Rattle.iop_machine.specs.Storing.{stores_bytes, fills}
 use Rattle.iop_machine.specs.declared.arguments.TheConstants.{ARGUMENTS, ARGUMENTS_LEN}
@@ -283,10 +283,9 @@ performs_keeps s (Goes after None) active h = same s.kernel.clock s.memory s.blo
 performs_keeps s (Goes after (Some storing)) active h =
     stays_number (record s { cpu = after }) storing h
 performs_keeps s (Serves code) active h =
-    let system = system_of (record s { cpu = at_next s.cpu }) in
-    let kept = services_keep system code active in
-    let d = services system code in
-    calls_by_keep s d (serves_keep system d kept h) kept.clock h d.left.after
+    let kept = services_keep (calling s) code active in
+    let d = services (calling s) code in
+    calls_by_keep s d (serves_keep (calling s) d kept h) kept.clock h d.left.after
 performs_keeps s (Faults kind) active h = same s.kernel.clock s.memory s.blocks [] h
 
 -- the clock goes on

@@ -17,7 +17,7 @@ use Rattle.iop_stubs.specs.declared.live_stub.Stub.{Stub}
 use Rattle.iop_sysmem.specs.BlockMap.{AreBlocks, IsBlockSize, block_of, end_of}
 use Rattle.iop_sysmem.specs.declared.blocks.TheConstants.{KERNEL}
 use Rattle.iop_thread.specs.declared.kind.Kind.TheVariants.{Semaphore, EventFlag, Mailbox}
-use Rattle.iop_thread.proofs.KeptRegisters.{begun_steady}
+use Rattle.iop_thread.proofs.KeptSteadily.{begun_steady}
 use Rattle.iop_machine.specs.Events.{CanCome}
 use Rattle.iop_machine.specs.Iop.{Iop, Transition, core_of}
 use Rattle.iop_machine.specs.KernelArea.{kernel_area}

@@ -3,7 +3,7 @@
 use Rattle.std.proofs.Common.{◌≡◌, ℕ, Option, Some, None, Result, Ok, Err, List, [], ◌∷◌, refl, ap}
 use Rattle.iop_base.specs.declared.code.Code.{Code}
 use Rattle.iop_exec.specs.Laws.{IsSteady}
-use Rattle.iop_exec.specs.Row.{Row, Goes, Serves, Faults, at_next}
+use Rattle.iop_exec.specs.Row.{Row, Goes, Serves, Faults}
 use Rattle.iop_kernel.specs.System.{Kernel, Served}
 use Rattle.iop_kernel.specs.Serving.{services}
 use Rattle.iop_kernel.specs.declared.after.After.{After}
@@ -11,12 +11,12 @@ use Rattle.iop_kernel.specs.declared.after.After.TheVariants.{Resume, Switch, Mo
 use Rattle.iop_modload.specs.Finishing.{finishes}
 use Rattle.iop_modload.specs.declared.loaded.Loaded.{Loaded}
 use Rattle.iop_script.specs.declared.raise.Raise.{Raise}
-use Rattle.iop_thread.proofs.KeptRegisters.{begun_steady}
+use Rattle.iop_thread.proofs.KeptSteadily.{begun_steady}
 use Rattle.iop_thread.specs.ThreadTable.{ThreadTable}
-use Rattle.iop_machine.specs.Iop.{Iop, Transition, with_threads, system_of}
+use Rattle.iop_machine.specs.Iop.{Iop, Transition, with_threads}
 use Rattle.iop_machine.specs.Loading.{loading_of, places, enters_or, loads_first, with_kernel, starts_by, boots}
 use Rattle.iop_machine.specs.Modules.{Module, module_start}
-use Rattle.iop_machine.specs.Services.{leaves, goes_on_by, ends_module, returns_by, calls, calls_by, serves}
+use Rattle.iop_machine.specs.Services.{leaves, goes_on_by, ends_module, returns_by, calls, calls_by, serves, calling}
 use Rattle.iop_machine.specs.declared.begun_module.BegunModule.{BegunModule}
 use Rattle.iop_machine.specs.Looking.{takes_events}
 use Rattle.iop_machine.specs.Stepping.{performs, waits_by, Turn, Stays, Boots, Delivers, Dispatches, Executes, Waits, takes_turn}
@@ -105,8 +105,7 @@ unfolding calls
 performs_events s (Goes after None) = refl
 performs_events s (Goes after (Some storing)) = refl
 performs_events s (Serves code) =
-    let d = services (system_of (record s { cpu = at_next s.cpu })) code in
-    calls_by_events s d d.left.after
+    let d = services (calling s) code in calls_by_events s d d.left.after
 performs_events s (Faults kind) = refl
 
 -- the clock goes on

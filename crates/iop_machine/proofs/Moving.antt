@@ -3,7 +3,8 @@ use Rattle.std.proofs.Common.{◌≡◌, ℕ, ◌+◌, ◌-◌, ◌^◌, ◌≤�
 use Rattle.iop_base.specs.Numbers.{one_if}
 use Rattle.iop_exec.proofs.RowKeeps.{rows_stay_steady}
 use Rattle.iop_exec.specs.Laws.{IsSteady, cpu_after}
-use Rattle.iop_exec.specs.Row.{Row, Goes, Serves, Faults, at_next, row}
+use Rattle.iop_exec.specs.Row.{Row, Goes, Serves, Faults, behind_syscall, row}
+use Rattle.iop_exec.proofs.WritingBack.{pending-after_write_back}
 use Rattle.iop_exec.specs.declared.cpu.Cpu.{Cpu}
 use Rattle.iop_kernel.proofs.Keeping.Services.{services_keep}
 use Rattle.iop_kernel.proofs.Keeping.Steps.{core_steps}
@@ -20,10 +21,10 @@ use Rattle.iop_kernel.specs.declared.after.After.TheVariants.{Resume, Switch, Mo
 use Rattle.iop_modload.specs.Finishing.{finishes}
 use Rattle.iop_time.specs.Timers.{Timers}
 use Rattle.iop_machine.specs.Events.{CanCome}
-use Rattle.iop_machine.specs.Iop.{Iop, Transition, with_state, later, core_of, system_of}
+use Rattle.iop_machine.specs.Iop.{Iop, Transition, with_state, later, core_of}
 use Rattle.iop_machine.specs.Loading.{loads_first, with_kernel, starts_by, boots}
 use Rattle.iop_machine.specs.Looking.{takes_events, next_coming}
-use Rattle.iop_machine.specs.Services.{calls, calls_by, serves, leaves, goes_on_by, ends_module, returns_by}
+use Rattle.iop_machine.specs.Services.{calls, calls_by, serves, calling, leaves, goes_on_by, ends_module, returns_by}
 use Rattle.iop_machine.specs.Stepping.{Turn, takes_turn, is_execution, step, executes, stores_it, performs, waits_by}
 use Rattle.iop_machine.specs.World.{World}
 use Rattle.iop_machine.specs.declared.begun_module.BegunModule.{BegunModule}
@@ -153,11 +154,11 @@ module _ {comes : Type 0} where
       moves_later s (stores_it (record s { cpu = after }) (Some storing)) refl (omega arith)
       (moves_with s after moved h)
   performs_move s (Serves code) h active moved =
-      let system = system_of (record s { cpu = at_next s.cpu }) in
-      let kept = services_keep system code active in
-      let d = services system code in
-      calls_by_move s d h kept.clock kept.numbers (kept.core (moves_with s (at_next s.cpu) moved h))
-      d.left.after (λ value e. returning_opens system code value e)
+      let kept = services_keep (calling s) code active in
+      let d = services (calling s) code in
+      calls_by_move s d h kept.clock kept.numbers (kept.core (pending-after_write_back s.cpu)
+      (moves_with s (behind_syscall s.cpu) moved h))
+      d.left.after (λ value e. returning_opens (calling s) code value e)
   performs_move s (Faults kind) h active moved = at_once 1 (core_of s) (core_of s) h refl refl
 
   -- what is done behind the script's events that are due is done at this moment

@@ -4,8 +4,7 @@ use Rattle.std.proofs.Common.{◌≡◌, ℕ, Option, Some, None, [], refl, ap, 
 use Rattle.iop_base.specs.declared.guest_fault.GuestFault.{GuestFault}
 use Rattle.iop_event.specs.EventFlags.{EventFlags}
 use Rattle.iop_exec.specs.Laws.{IsSteady, cpu_after}
-use Rattle.iop_exec.specs.Row.{Row, Goes, Serves, Faults, at_next, row}
-use Rattle.iop_exec.specs.declared.cpu.Cpu.{Cpu}
+use Rattle.iop_exec.specs.Row.{Row, Goes, Serves, Faults, behind_syscall, row}
 use Rattle.iop_exec.proofs.RowKeeps.{rows_stay_steady}
 use Rattle.iop_kernel.specs.Histories.{Called, called}
 use Rattle.iop_kernel.specs.Kinds.{Table, of_kind}
@@ -20,9 +19,9 @@ use Rattle.iop_mbx.specs.Mailboxes.{Mailboxes}
 use Rattle.iop_sema.specs.Semaphores.{Semaphores}
 use Rattle.iop_thread.specs.declared.kind.Kind.{Kind}
 use Rattle.iop_machine.specs.Histories.{call_at, call_by, call_in}
-use Rattle.iop_machine.specs.Iop.{Iop, core_of, system_of}
+use Rattle.iop_machine.specs.Iop.{Iop, core_of}
 use Rattle.iop_machine.specs.Looking.{takes_events, next_coming}
-use Rattle.iop_machine.specs.Services.{calls, calls_by, serves}
+use Rattle.iop_machine.specs.Services.{calls, calls_by, serves, calling}
 use Rattle.iop_machine.specs.Stepping.{Turn, takes_turn, is_execution, step, executes, performs, waits_by}
 use Rattle.iop_machine.specs.World.{World}
 use Rattle.iop_machine.proofs.LoadingLands.{boots_leave, returns_leave}
@@ -42,31 +41,28 @@ objects k = (k.semaphores, k.event_flags, k.mailboxes)
 abbrev pub objects_in : (kind : Kind) → AllObjects → Table kind
 objects_in kind all = of_kind kind all.0 all.1 all.2
 
--- the system that calls a service: the events that are due are taken, and the `syscall` is executed
-abbrev pub calling : Iop → System
-calling s = let v = takes_events s in system_of (record v { cpu = at_next v.cpu })
-
 -- what a step leaves of the objects, by the call that it makes
 pub data ObjectsGo (s : Iop) (new : Kernel) : Option Called → Type 0 where
   stay : objects new ≡ objects s.kernel → ObjectsGo s new None
-  served : (code : ℕ) → IsCore (calling s).core
-      → objects new ≡ objects (services (calling s) code).left.state.core.kernel
-      → ObjectsGo s new (called (calling s) code)
+  served : (code : ℕ) → (let v = takes_events s in IsCore (calling v).core)
+      → (let v = takes_events s in
+      objects new ≡ objects (services (calling v) code).left.state.core.kernel)
+      → ObjectsGo s new (called (calling (takes_events s)) code)
 
 -- the events that are due change interrupt lines alone
 pub taken_objects : (s : Iop) → objects (takes_events s).kernel ≡ objects s.kernel
 taken_objects s = ap objects (taken_kernel s)
 
 -- what becomes of a caller changes nothing of what its service left
-calls_by_same : (s : Iop) (behind : Cpu) (d : Served) (after : After)
+calls_by_same : (s : Iop) (d : Served) (after : After)
     → ((kind : GuestFault) → after ≡ Fault kind
-    → (d.left.state ≡ system_of (record s { cpu = behind })) × (d.pieces ≡ []))
+    → (d.left.state ≡ calling s) × (d.pieces ≡ []))
     → objects (calls_by s d after).state.kernel ≡ objects d.left.state.core.kernel
-calls_by_same s behind d Resume alone = refl
-calls_by_same s behind d Switch alone = refl
-calls_by_same s behind d (ModuleReturned value) alone =
+calls_by_same s d Resume alone = refl
+calls_by_same s d Switch alone = refl
+calls_by_same s d (ModuleReturned value) alone =
     let now = (serves s d).state in ap objects (returns_leave now now.begun value).kernel
-calls_by_same s behind d (Fault kind) alone =
+calls_by_same s d (Fault kind) alone =
     sym (ap (λ (x : System). objects x.core.kernel) (alone kind refl).0)
 
 -- the clock goes on to a moment, if one comes
@@ -83,9 +79,9 @@ performs_objects s core (Goes after None) moved = stay (taken_objects s)
 performs_objects s core (Goes after (Some storing)) moved = stay (taken_objects s)
 performs_objects s core (Serves code) moved =
     let v = takes_events s in
-    let d = services (calling s) code in
-    served code (moves_with v (at_next v.cpu) moved core)
-    (calls_by_same v (at_next v.cpu) d d.left.after (services_alone (calling s) code))
+    let d = services (calling v) code in
+    served code (moves_with v (behind_syscall v.cpu) moved core)
+    (calls_by_same v d d.left.after (services_alone (calling v) code))
 performs_objects s core (Faults kind) moved = stay (taken_objects s)
 
 -- a turn, by the call that it makes

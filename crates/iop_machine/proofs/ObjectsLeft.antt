@@ -9,9 +9,11 @@ use Rattle.iop_kernel.proofs.Codes.Objects.{code_keeps_objects}
 use Rattle.iop_kernel.proofs.Placing.ObjectsKept.{same_objects}
 use Rattle.iop_thread.specs.declared.kind.Kind.{Kind}
 use Rattle.iop_machine.specs.Iop.{Iop}
+use Rattle.iop_machine.specs.Looking.{takes_events}
 use Rattle.iop_machine.specs.ObjectLaws.{StepsKeepObjects}
+use Rattle.iop_machine.specs.Services.{calling}
 use Rattle.iop_machine.specs.Stepping.{step}
-use Rattle.iop_machine.proofs.ObjectSteps.{objects_in, calling, ObjectsGo, stay, served, taken_objects, step_objects}
+use Rattle.iop_machine.proofs.ObjectSteps.{objects_in, ObjectsGo, stay, served, taken_objects, step_objects}
 
 module _ (kind : Kind) (s : Iop) (new : Kernel) where
   abbrev old : Table kind
@@ -23,10 +25,11 @@ module _ (kind : Kind) (s : Iop) (new : Kernel) where
   goes_kept (stay same) other =
       subst (KeepsObjects old) (sym (ap (objects_in kind) same)) (same_objects old)
   goes_kept (served code core same) other =
-      let left = (services (calling s) code).left.state.core.kernel in
+      let system = calling (takes_events s) in
+      let left = (services system code).left.state.core.kernel in
       subst (KeepsObjects old) (sym (ap (objects_in kind) same))
       (subst (λ (t : Table kind). KeepsObjects t (table kind left))
-      (ap (objects_in kind) (taken_objects s)) (code_keeps_objects kind (calling s) code other))
+      (ap (objects_in kind) (taken_objects s)) (code_keeps_objects kind system code other))
 
 pub steps_keep_objects : StepsKeepObjects
 steps_keep_objects = λ w kind machine other.

@@ -5,7 +5,7 @@ use Rattle.iop_base.proofs.Giving.{gives_none}
 use Rattle.iop_exec.specs.declared.cpu.Cpu.{Cpu}
 use Rattle.iop_exec.specs.declared.cpu.Event.{Event}
 use Rattle.iop_exec.specs.Row.{Row, Goes, Serves, Faults}
-use Rattle.iop_exec.specs.Stepping.{Does}
+use Rattle.iop_exec.specs.Stepping.{DoesUpToCall}
 use Rattle.iop_stubs.specs.Stubs.{Memory}
 use Rattle.iop_machine.specs.declared.guest_bus.GuestBus.{GuestBus}
 use Rattle.iop_machine.specs.Storing.{Stores, Performs, ram_of}
@@ -29,7 +29,8 @@ module _ {L : Type 0} (seen : L → Output) where
 
   -- what an instruction does over the bus
   pub over_bus : (row : Row) (event : Event) (cpu cpu' : Cpu) (old new : GuestBus L)
-      → Does ram_of (Stores seen) row event cpu old cpu' new → OverBus row event cpu cpu' old new
+      → DoesUpToCall ram_of (Stores seen) row event cpu old cpu' new
+      → OverBus row event cpu cpu' old new
   over_bus (Goes after None) event cpu cpu' old new h =
       stays (Goes after None) event cpu cpu' old new h.2
       (h.0, h.1, refl, gives_none (seen old.lines.now))
@@ -48,7 +49,7 @@ module _ {L : Type 0} (seen : L → Output) where
   -- and what it does over memory and what takes the lines
   pub performed : (row : Row) (event : Event) (cpu cpu' : Cpu) (old new : GuestBus L)
       (memory : Memory) (told : Output)
-      → Does ram_of (Stores seen) row event cpu old cpu' new → memory ≡ new.guest.now
+      → DoesUpToCall ram_of (Stores seen) row event cpu old cpu' new → memory ≡ new.guest.now
       → told ≡ seen new.lines.now
       → Performs row event old.clock cpu old.guest.now (seen old.lines.now) cpu' memory told
   performed row event cpu cpu' old new memory told h e f =

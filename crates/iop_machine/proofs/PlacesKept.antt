@@ -8,7 +8,8 @@ use Rattle.iop_kernel.proofs.KeptPlaces.{services_have_places}
 use Rattle.iop_stubs.specs.Stubs.{Memory}
 use Rattle.iop_machine.specs.Iop.{Iop}
 use Rattle.iop_machine.specs.Looking.{takes_events}
-use Rattle.iop_machine.proofs.ObjectSteps.{AllObjects, objects, objects_in, calling, ObjectsGo, stay, served, taken_objects}
+use Rattle.iop_machine.specs.Services.{calling}
+use Rattle.iop_machine.proofs.ObjectSteps.{AllObjects, objects, objects_in, ObjectsGo, stay, served, taken_objects}
 
 -- threads have the same places where they wait for the same objects
 pub places_as : (memory : Memory) (k l : Kernel) → objects l ≡ objects k
@@ -19,11 +20,14 @@ places_as memory k l same have kind =
 
 -- so a step leaves those that wait with their places
 module _ (s : Iop) (new : Kernel) (have : HavePlaces s.memory s.kernel) where
-  pub calling_have : HavePlaces (calling s).memory (calling s).core.kernel
-  calling_have = places_as s.memory s.kernel (takes_events s).kernel (taken_objects s) have
+  abbrev now : Iop
+  now = takes_events s
+
+  pub calling_have : HavePlaces (calling now).memory (calling now).core.kernel
+  calling_have = places_as s.memory s.kernel now.kernel (taken_objects s) have
 
   pub go_with_places : {call : Option Called} → ObjectsGo s new call → HavePlaces s.memory new
   go_with_places (stay same) = places_as s.memory s.kernel new same have
   go_with_places (served code core same) =
-      places_as s.memory (services (calling s) code).left.state.core.kernel new same
-      (services_have_places (calling s) code calling_have)
+      places_as s.memory (services (calling now) code).left.state.core.kernel new same
+      (services_have_places (calling now) code calling_have)

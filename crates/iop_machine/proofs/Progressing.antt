@@ -1,5 +1,5 @@
 -- How a run goes on by a call of the machine.
-use Rattle.std.proofs.Common.{◌≡◌, ℕ, ◌+◌, ◌*◌, suc, ◌<◌, Bool, true, false, Option, None, List, ap, sym, ◌∙◌, arith, subst}
+use Rattle.std.proofs.Common.{◌≡◌, ℕ, ◌+◌, ◌*◌, suc, ◌<◌, Bool, true, false, Option, None, ap, sym, ◌∙◌, arith, subst}
 use Rattle.iop_base.specs.Output.{Output}
 use Rattle.iop_base.specs.declared.stop.Stop.{Stop}
 use Rattle.iop_kernel.specs.declared.kernel.Kernel.{Kernel as Kernels}

@@ -3,9 +3,8 @@ use Rattle.std.proofs.Common.{◌≡◌, ℕ, true, false, Option, None, List, l
 use Rattle.std.specs.Prelude.{is_some}
 use Rattle.iop_base.specs.Output.{Output, Gives}
 use Rattle.iop_base.specs.declared.guest_fault.GuestFault.{GuestFault}
-use Rattle.iop_exec.specs.Processors.{standing_at}
+use Rattle.iop_exec.specs.Row.{behind_syscall}
 use Rattle.iop_exec.specs.declared.cpu.Cpu.{Cpu}
-use Rattle.iop_exec.specs.declared.position.Position.{Position}
 use Rattle.iop_kernel.specs.Laws.{ServiceKeeps}
 use Rattle.iop_kernel.specs.Serving.{services}
 use Rattle.iop_kernel.specs.Standing as kernel
@@ -24,7 +23,7 @@ use Rattle.iop_sysmem.specs.BlockMap.{BlockMap}
 use Rattle.iop_thread.specs.Operations as threads
 use Rattle.iop_machine.specs.Iop.{Iop, Takes, with_state, system_of, with_system}
 use Rattle.iop_machine.specs.Loading.{loads_first}
-use Rattle.iop_machine.specs.Services.{faults_with, leaves, goes_on_by, ends_module, returns_by, serves, calls_by, calls}
+use Rattle.iop_machine.specs.Services.{faults_with, leaves, goes_on_by, ends_module, returns_by, serves, calls_by, calling, calls}
 use Rattle.iop_machine.specs.Standing.{iop_of, Stands}
 use Rattle.iop_machine.specs.declared.begun_module.BegunModule.{BegunModule}
 use Rattle.iop_machine.specs.declared.iop.Iop.{Iop as Program}
@@ -100,31 +99,31 @@ returns_takes {m} {now} {a} {b} o value is g s h =
     subst (λ x. Takes Stands (returns_by s x value) now a b)
     (sym (ap (λ (x : Iop). x.begun) h.rest ∙ is)) (g s h)
 
--- the processor stands again where it stood before
-stands_restored : (m : Program) (before : Position) (cpu : Cpu) → cpu ≡ standing_at before m.cpu
-    → (s : Iop) → Stands m s
-    → Stands (record m { cpu = cpu }) (record s { cpu = standing_at before s.cpu })
-stands_restored m before cpu e =
-    carried m (λ s. Stands (record m { cpu = cpu }) (record s { cpu = standing_at before s.cpu }))
-    (λ k h. record { kernel = h; rest = ap (λ x. record (iop_of m k) { cpu = x }) (sym e) })
+-- with another processor
+pub stands_with_cpu : (m : Program) (cpu : Cpu) (s : Iop) → Stands m s
+    → Stands (record m { cpu = cpu }) (record s { cpu = cpu })
+stands_with_cpu m cpu =
+    carried m (λ s. Stands (record m { cpu = cpu }) (record s { cpu = cpu }))
+    (λ k h. record { kernel = h; rest = refl })
 
 -- what a `syscall` of a code comes to
 abbrev pub did : ℕ → Iop → Served
-did code s = services (system_of s) code
+did code s = services (calling s) code
 
 -- this call left the kernel with its processor, the memory, the blocks and the libraries so, and
 -- gave its pieces
 pub record IsServed (m left : Program) (code : ℕ) (after : After) (a b : Output) : Type 0 where
   pub serves : (k : Kernel) → kernel.Stands KernelStands m.kernel k
-      → kernel.ServesPlaced KernelStands (did code (iop_of m k)) after left.kernel left.cpu left.guest
-      left.blocks left.registry a b
+      → kernel.ServesPlaced KernelStands (did code (iop_of m k)) after left.kernel left.cpu
+      left.guest left.blocks left.registry a b
 
--- as the clause of the kernel's call says it
-pub served : (m : Program) (code : ℕ) {new : Kernels KernelReady} {cpu : Cpu} {memory : Memory}
-    {blocks : BlockMap} {libraries : List Library} {after : After} {a b : Output}
+-- as the clause of the kernel's call says it, which was made with this processor
+pub served : (m : Program) (behind : Cpu) (code : ℕ) → behind ≡ behind_syscall m.cpu
+    → {new : Kernels KernelReady} {cpu : Cpu} {memory : Memory} {blocks : BlockMap}
+    {libraries : List Library} {after : After} {a b : Output}
     → ((k : Kernel) → kernel.Stands KernelStands m.kernel k
-    → kernel.ServesPlaced KernelStands (did code (iop_of m k)) after new cpu memory blocks
-    libraries a b)
+    → let d = services (system_of (record (iop_of m k) { cpu = behind })) code in
+    kernel.ServesPlaced KernelStands d after new cpu memory blocks libraries a b)
     → IsServed m (record m {
       kernel = new;
       cpu = cpu;
@@ -132,7 +131,14 @@ pub served : (m : Program) (code : ℕ) {new : Kernels KernelReady} {cpu : Cpu} 
       blocks = blocks;
       registry = libraries;
     }) code after a b
-served m code serves = record { serves = serves }
+served m behind code moved {new} {cpu} {memory} {blocks} {libraries} {after} {a} {b} serves =
+    record {
+      serves = λ k stands.
+          subst (λ (at : Cpu).
+          let d = services (system_of (record (iop_of m k) { cpu = at })) code in
+          kernel.ServesPlaced KernelStands d after new cpu memory blocks libraries a b)
+          moved (serves k stands);
+    }
 
 -- the program with what was left
 abbrev pub with_left : Program → Program → Program
@@ -145,16 +151,12 @@ with_left m left = record m {
 }
 
 module _ {m left : Program} {code : ℕ} {after : After} {a b : Output}
-    (h : IsServed m left code after a b) (before : Position) where
-  -- the state in which the processor stood at the `syscall`
-  abbrev pub stood : Iop → Iop
-  stood s = record s { cpu = standing_at before s.cpu }
-
+    (h : IsServed m left code after a b) where
   -- the call took what it leaves and gives
   pub serves_takes : (s : Iop) → Stands m s
-      → Takes Stands (serves (stood s) (did code s)) (with_left m left) a b
+      → Takes Stands (serves s (did code s)) (with_left m left) a b
   serves_takes =
-      carried m (λ s. Takes Stands (serves (stood s) (did code s)) (with_left m left) a b)
+      carried m (λ s. Takes Stands (serves s (did code s)) (with_left m left) a b)
       (λ k stands.
       let done = h.serves k stands in
       let taken = done.served in
@@ -176,31 +178,34 @@ module _ {m left : Program} {code : ℕ} {after : After} {a b : Output}
 
   -- then by what becomes of its caller
   pub calls_takes : (r : After) → after ≡ r → {now : Program} {c : Output} (s : Iop) → Stands m s
-      → Takes Stands (calls_by (stood s) (did code s) r) now a c
-      → Takes Stands (calls (stood s) s.cpu code) now a c
+      → Takes Stands (calls_by s (did code s) r) now a c
+      → Takes Stands (calls s (behind_syscall s.cpu) code) now a c
   unfolding calls
   calls_takes r is s stands t =
-      takes_as t (ap (calls_by (stood s) (did code s)) (sym is ∙ answer_is s stands))
+      takes_as t (ap (calls_by s (did code s)) (sym is ∙ answer_is s stands))
 
   -- one that faulted has changed nothing, and given nothing
-  pub faults_takes : (kind : GuestFault) → after ≡ Fault kind → (cpu : Cpu)
-      → cpu ≡ standing_at before left.cpu → (now : Program)
-      → ((s : Iop) → Stands (record (with_left m left) { cpu = cpu }) s
+  pub faults_takes : (kind : GuestFault) → after ≡ Fault kind → (now : Program)
+      → ((s : Iop) → Stands (record (with_left m left) { cpu = m.cpu }) s
       → Stands now (faults_with s kind))
-      → (s : Iop) → Stands m s → Takes Stands (calls (stood s) s.cpu code) now a b
-  faults_takes kind is cpu restored now faults s stands =
+      → (s : Iop) → Stands m s → Takes Stands (calls s (behind_syscall s.cpu) code) now a b
+  faults_takes kind is now faults s stands =
       let taken = serves_takes s stands in
-      let alone = services_alone (system_of s) code kind (sym (answer_is s stands) ∙ is) in
-      let same : Stands (with_left m left) s =
+      let alone = services_alone (calling s) code kind (sym (answer_is s stands) ∙ is) in
+      let kept = record (with_left m left) { cpu = m.cpu } in
+      let same : Stands (with_left m left) (with_system s (calling s)) =
       subst (λ x. Stands (with_left m left) (with_system s x)) alone.0 taken.state in
+      let back : Stands kept s = subst (λ (at : Cpu). Stands kept (record s { cpu = at }))
+      (sym (ap (λ (x : Iop). x.cpu) stands.rest)) (stands_with_cpu (with_left m left) m.cpu _ same)
+      in
       calls_takes (Fault kind) is s stands (record {
-        state = faults _ (stands_restored (with_left m left) before cpu restored s same);
+        state = faults s back;
         gives = subst (Gives a b) alone.1 taken.gives;
       })
 
   -- where a thread or a handler executes, a call keeps what each service keeps
-  keeps : (s : Iop) → is_active s.kernel ≡ true → ServiceKeeps (system_of s) (did code s)
-  keeps s = services_keep (system_of s) code
+  keeps : (s : Iop) → is_active s.kernel ≡ true → ServiceKeeps (calling s) (did code s)
+  keeps s = services_keep (calling s) code
 
   -- so the moment is that of before
   pub clock_left : (s : Iop) → Stands m s → is_active s.kernel ≡ true

@@ -1,6 +1,6 @@
 -- How what is said of each state that the program's machine stands for is proved of one, and how
 -- transitions that calls took follow one another.
-use Rattle.std.proofs.Common.{◌≡◌, ℕ, Option, None, List, [], ◌∷◌, refl, ap, sym, ◌∙◌, subst}
+use Rattle.std.proofs.Common.{◌≡◌, ℕ, Option, None, [], ◌∷◌, refl, ap, sym, ◌∙◌, subst}
 use Rattle.iop_base.specs.Output.{Output, Gives}
 use Rattle.iop_base.specs.Piece.{Traced}
 use Rattle.iop_base.specs.Text.{line_bytes}

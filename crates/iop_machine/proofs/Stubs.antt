@@ -9,7 +9,9 @@ use Rattle.iop_base.specs.Places.{IsRamSize, is_mapped, phys, load_at}
 use Rattle.iop_base.specs.declared.guest_fault.GuestFault.TheVariants.{BranchInSlot}
 use Rattle.iop_base.specs.declared.width.Width.TheVariants.{Word}
 use Rattle.iop_exec.specs.Processors.{IsStraight}
-use Rattle.iop_exec.specs.Row.{Row, Goes, Faults, effect_of, inst_row, after_jump, at_next, row, word_row}
+use Rattle.iop_exec.specs.Processors.{standing_at, position_after_jump}
+use Rattle.iop_exec.specs.Row.{Row, Goes, Faults, effect_of, inst_row, jumps, at_next, after_write_back, row, word_row}
+use Rattle.iop_exec.proofs.WritingBack.{position-after_write_back, pending-after_write_back, after_write_back-none}
 use Rattle.iop_exec.specs.declared.cpu.Cpu.{Cpu}
 use Rattle.iop_exec.proofs.Rows.{row_some}
 use Rattle.iop_isa.specs.Instructions.{inst_of}
@@ -106,9 +108,11 @@ module _ (memory : Memory) (stub : Stub) (c : Cpu) (sound : IsSound memory)
   reaches =
       row_some memory.ram c (number_at memory.ram stub.at 4) word_is
       ∙ ap (λ i. inst_row i memory.ram c) inst_is
-      ∙ by_slot c.in_slot (Faults BranchInSlot)
-      (Goes (after_jump c (jump_target c.pc (stub.target / 4))) None)
-      ∙ ap (λ t. cond c.in_slot (Faults BranchInSlot) (Goes (after_jump c t) None)) target_is
+      ∙ by_slot c.in_slot (Faults BranchInSlot) (jumps c (jump_target c.pc (stub.target / 4)))
+      ∙ ap (λ t. cond c.in_slot (Faults BranchInSlot) (jumps c t)) target_is
+      ∙ ap (λ p. cond c.in_slot (Faults BranchInSlot)
+      (Goes (standing_at (position_after_jump p (stub_target c.pc stub)) (after_write_back c)) None))
+      (position-after_write_back c)
 
   -- behind it stands its second word
   abbrev pub behind_at : ℕ
@@ -150,15 +154,17 @@ module _ (memory : Memory) (stub : Stub) (c : Cpu) (sound : IsSound memory)
       let in_imm : imm_of word ≡ stub.index = omega (arith, bound.index, bound.index_small) in
       rw (in_opcode, in_rs, in_rt, in_imm) refl
 
-  -- a processor that stands there in a slot goes on, and nothing else changes
-  second_row : (d : Cpu) → d.pc ≡ behind_at → d.in_slot ≡ true
+  -- a processor that stands there in a slot, with nothing pending, goes on and changes nothing else
+  second_row : (d : Cpu) → d.pc ≡ behind_at → d.in_slot ≡ true → d.pending ≡ None
       → row memory.ram d ≡ Goes (at_next d) None
   unfolding effect_of word_row
-  second_row d at slot =
+  second_row d at slot none =
       row_some memory.ram d (number_at memory.ram (stub.at + 4) 4)
       (ap (λ pc. load_at memory.ram pc Word) at ∙ second_word)
       ∙ ap (λ i. inst_row i memory.ram d) second_inst
-      ∙ rw slot refl
+      ∙ ap (λ b. cond (b && false) (Faults BranchInSlot) (Goes (at_next (after_write_back d)) None))
+      slot
+      ∙ ap (λ x. Goes (at_next x) None) (after_write_back-none d none)
 
 pub stubs_reach_their_functions : StubsReachTheirFunctions
 stubs_reach_their_functions = λ memory stub c sound has place. reaches memory stub c sound has place
@@ -195,8 +201,8 @@ module _ (s : Iop) (stub : Stub) (h : IsToExecute s) (sound : IsSound s.memory)
       abbrev behind : Iop
       behind = behind_stub (takes_events s) stub
 
-      jumps : row s.memory.ram s.cpu ≡ Goes behind.cpu None
-      jumps =
+      goes : row s.memory.ram s.cpu ≡ Goes behind.cpu None
+      goes =
           reaches s.memory stub s.cpu sound has place
           ∙ ap (λ b. cond b (Faults BranchInSlot) (Goes behind.cpu None)) out
 
@@ -223,10 +229,11 @@ module _ (s : Iop) (stub : Stub) (h : IsToExecute s) (sound : IsSound s.memory)
 
       followed : IsFollowed (booted s) stub
       followed = record {
-        slot = performs_as s (Goes behind.cpu None) h jumps;
+        slot = performs_as s (Goes behind.cpu None) h goes;
         between = (next_performs behind 1 goes_on.over goes_on.looks (omega arith)).executing_is;
         target = performs_as behind onward goes_on
-            (second_row s.memory stub s.cpu sound has place behind.cpu (straight out) refl);
+            (second_row s.memory stub s.cpu sound has place behind.cpu (straight out) refl
+            (pending-after_write_back s.cpu));
       }
 
 -- in each state that a run reaches

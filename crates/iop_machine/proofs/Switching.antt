@@ -9,9 +9,7 @@ use Rattle.iop_base.specs.Piece.{Piece, Traced}
 use Rattle.iop_base.specs.Places.{IsRamSize}
 use Rattle.iop_base.specs.Text.{line_bytes}
 use Rattle.iop_base.specs.declared.line.Line.TheVariants as lines
-use Rattle.iop_exec.proofs.RowKeeps.{rows_stay_steady}
-use Rattle.iop_exec.specs.Laws.{IsSteady, cpu_after}
-use Rattle.iop_exec.specs.Row.{Row, Goes, Serves, Faults, at_next, row}
+use Rattle.iop_exec.specs.Row.{Row, Goes, Serves, Faults, row}
 use Rattle.iop_kernel.proofs.Keeping.Services.{services_keep}
 use Rattle.iop_kernel.proofs.Order.Strict.{dispatches_are_strict}
 use Rattle.iop_kernel.proofs.Switching.{dispatches_alone_switch, stores_run_none, same_runs, none_runs}
@@ -28,11 +26,11 @@ use Rattle.iop_stubs.specs.Stubs.{access_place}
 use Rattle.iop_thread.proofs.Waits.{moves_waits}
 use Rattle.iop_thread.specs.Placing.{IsPlaced}
 use Rattle.iop_thread.specs.ThreadTable.{ThreadTable}
-use Rattle.iop_machine.specs.Iop.{Iop, Transition, core_of, system_of}
+use Rattle.iop_machine.specs.Iop.{Iop, Transition, core_of}
 use Rattle.iop_machine.specs.Loading.{loads_first, with_kernel, starts_by, boots}
 use Rattle.iop_machine.specs.Looking.{takes_events}
 use Rattle.iop_machine.specs.Modules.{Module}
-use Rattle.iop_machine.specs.Services.{calls, calls_by, serves, leaves, goes_on_by, ends_module, returns_by}
+use Rattle.iop_machine.specs.Services.{calls, calls_by, serves, calling, leaves, goes_on_by, ends_module, returns_by}
 use Rattle.iop_machine.specs.Stepping.{Turn, Dispatches, turn_of, takes_turn, step, steps, performs, waits_by}
 use Rattle.iop_machine.specs.SwitchLaws.{running_in, IsTaken, SwitchesByDispatch, RunsSwitchByDispatch, RunsSince, RunningThreadsWereTaken}
 use Rattle.iop_machine.specs.World.{World, beginning}
@@ -41,7 +39,7 @@ use Rattle.iop_machine.proofs.Landing.{runs_stay_sound}
 use Rattle.iop_machine.proofs.LoadingLands.{loads_first_lands}
 use Rattle.iop_machine.proofs.LoadingLines.{finishes_run_none, loads_first_run_none}
 use Rattle.iop_machine.proofs.LookingLemmas.{taken_clock, taken_kernel}
-use Rattle.iop_machine.proofs.Moving.{moves_with, takes_core}
+use Rattle.iop_machine.proofs.Moving.{takes_core}
 use Rattle.iop_machine.proofs.Stepping.{IsTurn, stopped, unbooted, delivery, dispatch, execution, waiting, turn_is}
 
 -- a transition lets none run, and tells of none
@@ -127,21 +125,19 @@ calls_by_run s d served placed (Fault kind) = same_none _ _ _ refl (All-nil IsNo
 
 -- an instruction of what executes
 performs_run : (s : Iop) → IsCore (core_of s) → (r : Row) → is_active s.kernel ≡ true
-    → (IsSteady s.cpu → IsSteady (cpu_after s.cpu r)) → KeepsRunning s (performs s r)
+    → KeepsRunning s (performs s r)
 unfolding calls
-performs_run s core (Goes after None) active moved = same_none _ _ _ refl (All-nil IsNoRun)
-performs_run s core (Goes after (Some storing)) active moved =
+performs_run s core (Goes after None) active = same_none _ _ _ refl (All-nil IsNoRun)
+performs_run s core (Goes after (Some storing)) active =
     let place = access_place s.memory storing.at storing.width in
     let bytes = bytes_of (width_bytes storing.width) storing.value in
     same_none _ _ _ refl (stores_run_none s.kernel.clock s.memory place (length bytes))
-performs_run s core (Serves code) active moved =
-    let system = system_of (record s { cpu = at_next s.cpu }) in
-    let d = services system code in
-    let left = (services_keep system code active).core
-    (moves_with s (at_next s.cpu) moved core) in
-    calls_by_run s d (dispatches_alone_switch.services system code core.placed.threads)
-    left.placed.threads d.left.after
-performs_run s core (Faults kind) active moved = same_none _ _ _ refl (All-nil IsNoRun)
+performs_run s core (Serves code) active =
+    let d = services (calling s) code in
+    let placed = (services_keep (calling s) code active).placed core.placed in
+    calls_by_run s d (dispatches_alone_switch.services (calling s) code core.placed.threads)
+    placed.threads d.left.after
+performs_run s core (Faults kind) active = same_none _ _ _ refl (All-nil IsNoRun)
 
 -- the clock goes on
 waits_run : (s : Iop) (o : Option ℕ) → KeepsRunning s (waits_by s o)
@@ -187,7 +183,7 @@ turn_shows w core (dispatch d goes none is) =
 turn_shows w core (execution goes looks) =
     let v = takes_events w.iop in
     inl (behind_events w.iop (performs_run v (takes_core w.iop core) (row v.memory.ram v.cpu)
-    looks.active_is (rows_stay_steady v.memory.ram v.cpu)))
+    looks.active_is))
 turn_shows w core (waiting goes looks) =
     inl (behind_events w.iop (waits_run (takes_events w.iop) _))
 

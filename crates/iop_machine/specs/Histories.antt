@@ -1,15 +1,16 @@
 -- The history of a run: the calls of services that its steps make.
 use Rattle.std.specs.Prelude.{ℕ, zero, suc, Bool, true, false, Option, None, option_to_list, List, [], ◌++◌}
-use Rattle.iop_exec.specs.Row.{Row, Serves, at_next, row}
+use Rattle.iop_exec.specs.Row.{Row, Serves, row}
 use Rattle.iop_kernel.specs.Histories.{Called, called}
-use Rattle.iop_machine.specs.Iop.{Iop, system_of}
+use Rattle.iop_machine.specs.Iop.{Iop}
 use Rattle.iop_machine.specs.Looking.{takes_events}
+use Rattle.iop_machine.specs.Services.{calling}
 use Rattle.iop_machine.specs.Stepping.{steps, executes}
 use Rattle.iop_machine.specs.World.{World}
 
 -- the service that an instruction calls, if it is a call of one
 abbrev pub call_at : Iop → Row → Option Called
-call_at s (Serves code) = called (system_of (record s { cpu = at_next s.cpu })) code
+call_at s (Serves code) = called (calling s) code
 call_at s other = None
 
 -- none is called where no instruction is executed

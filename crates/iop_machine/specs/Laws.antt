@@ -102,8 +102,9 @@ pub record StaysSound (stubs : List Stub) (s : Iop) : Type 0 where
   pub whole : HasBlocks s.memory s.blocks
   -- each live stub is one that a linking has bound
   pub live : (stub : Stub) → Contains s.memory.live stub → Contains stubs stub
-  -- threads stand where their states say; where none runs, another may; and outside a delay slot
-  -- the next instruction of each is the one behind
+  -- threads stand where their states say; where none runs, another may; outside a delay slot the
+  -- next instruction of each is the one behind; what is pending of a load is for a register but 0,
+  -- and nothing is pending where a thread waits
   pub core : IsCore (core_of s)
   -- each thread that waits has a place for what it is told
   pub places : HavePlaces s.memory s.kernel

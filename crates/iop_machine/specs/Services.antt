@@ -1,15 +1,14 @@
--- What a `syscall` leaves of the machine, and how modules end. That the next module begins in the instruction
--- in which one returns is this project's own profile.
+-- What a `syscall` leaves of the machine, and how modules end. That the next module begins in the
+-- instruction in which one returns is this project's own profile.
 use Rattle.std.specs.Prelude.{ℕ, Option, Some, None, []}
 use Rattle.iop_base.specs.declared.guest_fault.GuestFault.{GuestFault}
 use Rattle.iop_base.specs.declared.stop.Stop.TheVariants as stops
 use Rattle.iop_exec.specs.declared.cpu.Cpu.{Cpu}
 use Rattle.iop_exec.specs.declared.cpu.Event.{Event}
 use Rattle.iop_exec.specs.declared.cpu.Event.TheVariants as events
-use Rattle.iop_exec.specs.declared.position.Position.{Position}
-use Rattle.iop_exec.specs.Processors.{standing_at}
+use Rattle.iop_exec.specs.Row.{behind_syscall}
 use Rattle.iop_kernel.specs.Serving.{services}
-use Rattle.iop_kernel.specs.System.{Served}
+use Rattle.iop_kernel.specs.System.{System, Served}
 use Rattle.iop_kernel.specs.declared.after.After.{After}
 use Rattle.iop_kernel.specs.declared.after.After.TheVariants.{Resume, Switch, ModuleReturned, Fault}
 use Rattle.iop_modload.specs.Finishing.{Leaves, finishes}
@@ -31,8 +30,8 @@ leaves s left = record {
   bound = [];
 }
 
--- the loader's thread, which runs, goes on with the registers of the module that begins; where there is
--- none, it ends
+-- the loader's thread, which runs, goes on with the registers of the module that begins; where
+-- there is none, it ends
 abbrev pub goes_on_by : Iop → Option BegunModule → Iop
 goes_on_by s None = with_threads s (threads.ends_running s.kernel.threads)
 goes_on_by s (Some begun) = s
@@ -61,15 +60,17 @@ calls_by s d (ModuleReturned value) =
     with_state later (and_then (serves s d) (λ v. returns_by v v.begun value))
 calls_by s d (Fault kind) = silent (faults_with s kind)
 
+-- the system that a `syscall` calls, at which the processor stands: it has moved on from there
+abbrev pub calling : Iop → System
+calling s = system_of (record s { cpu = behind_syscall s.cpu })
+
 -- a `syscall` of a code; the processor behind it is this one
 unfoldable pub calls : Iop → (behind : Cpu) → (code : ℕ) → Transition Iop
 calls s behind code =
     let d = services (system_of (record s { cpu = behind })) code in calls_by s d d.left.after
 
--- what an instruction is still to do by its event; it stood at this position, and the processor has moved on
--- from there unless it faulted
-abbrev pub concludes : Iop → (before : Position) → Event → Transition Iop
-concludes s before events.Plain = silent s
-concludes s before (events.Fault kind) = silent (faults_with s kind)
-concludes s before (events.Service code) =
-    calls (record s { cpu = standing_at before s.cpu }) s.cpu code
+-- what an instruction is still to do by its event: the processor stands at it, unless it was plain
+abbrev pub concludes : Iop → Event → Transition Iop
+concludes s events.Plain = silent s
+concludes s (events.Fault kind) = silent (faults_with s kind)
+concludes s (events.Service code) = calls s (behind_syscall s.cpu) code

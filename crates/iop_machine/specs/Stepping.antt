@@ -4,7 +4,7 @@ use Rattle.iop_base.specs.Numbers.{one_if}
 use Rattle.iop_base.specs.Piece.{Piece}
 use Rattle.iop_base.specs.declared.stop.Stop.{Stop}
 use Rattle.iop_base.specs.declared.stop.Stop.TheVariants.{Quiet, Budget}
-use Rattle.iop_exec.specs.Row.{Row, Goes, Serves, Faults, Storing, at_next, row}
+use Rattle.iop_exec.specs.Row.{Row, Goes, Serves, Faults, Storing, behind_syscall, row}
 use Rattle.iop_kernel.specs.Deliveries.{Delivered, delivers}
 use Rattle.iop_kernel.specs.Dispatching.{Dispatched, dispatches}
 use Rattle.iop_kernel.specs.System.{Core, is_active}
@@ -24,7 +24,7 @@ stores_it s (Some storing) = stores_number s storing.at storing.width storing.va
 -- an instruction of the thread that runs, or of the handler that is active
 abbrev pub performs : Iop → Row → Transition Iop
 performs s (Goes after storing) = with_state later (stores_it (record s { cpu = after }) storing)
-performs s (Serves code) = calls s (at_next s.cpu) code
+performs s (Serves code) = calls s (behind_syscall s.cpu) code
 performs s (Faults kind) = silent (faults_with s kind)
 
 -- where nothing executes the clock goes on to what comes next, and where nothing comes all is quiet

@@ -8,12 +8,12 @@ use Rattle.iop_stubs.specs.Stubs.{Memory, access_place, after_store, range_place
 use Rattle.iop_exec.specs.declared.cpu.Cpu.{Cpu}
 use Rattle.iop_exec.specs.declared.cpu.Event.{Event}
 use Rattle.iop_exec.specs.declared.cpu.Event.TheVariants.{Plain, Service, Fault}
-use Rattle.iop_exec.specs.Row.{Row, Goes, Serves, Faults, Storing, at_next}
+use Rattle.iop_exec.specs.Row.{Row, Goes, Serves, Faults, Storing}
 use Rattle.iop_machine.specs.declared.guest_bus.GuestBus.{GuestBus}
 use Rattle.iop_machine.specs.Iop.{Iop, Transition}
 
--- bytes are stored at a physical place, if there is one: a live stub of which a byte is stored into is told
--- and no longer live
+-- bytes are stored at a physical place, if there is one: a live stub of which a byte is stored into
+-- is told and no longer live
 abbrev pub stores_at : Iop → Option ℕ → List ℕ → Transition Iop
 stores_at s place bytes = record {
   state = record s { memory = after_store s.memory place bytes };
@@ -59,12 +59,12 @@ lines_after clock memory None = []
 lines_after clock memory (Some s) =
     store_lines clock memory (access_place memory s.at s.width) (width_bytes s.width)
 
--- the execution of an instruction, by its row
+-- the execution of an instruction, by its row: up to the call of a service
 abbrev pub Performs : Row → Event → ℕ → Cpu → Memory → Output → Cpu → Memory → Output → Type 0
 Performs (Goes after storing) event clock cpu memory seen cpu' memory' seen' =
     (event ≡ Plain) × (cpu' ≡ after) × (memory' ≡ memory_after memory storing)
     × Gives seen seen' (lines_after clock memory storing)
 Performs (Serves code) event clock cpu memory seen cpu' memory' seen' =
-    (event ≡ Service code) × (cpu' ≡ at_next cpu) × (memory' ≡ memory) × Gives seen seen' []
+    (event ≡ Service code) × (cpu' ≡ cpu) × (memory' ≡ memory) × Gives seen seen' []
 Performs (Faults kind) event clock cpu memory seen cpu' memory' seen' =
     (event ≡ Fault kind) × (cpu' ≡ cpu) × (memory' ≡ memory) × Gives seen seen' []

@@ -4,7 +4,7 @@ use Rattle.iop_base.specs.Numbers.{wrapped}
 use Rattle.iop_base.specs.Piece.{Piece}
 use Rattle.iop_base.specs.Places.{IsRamSize, phys}
 use Rattle.iop_base.specs.declared.guest_fault.GuestFault.TheVariants.{BranchInSlot}
-use Rattle.iop_exec.specs.Row.{Row, Goes, Faults, row}
+use Rattle.iop_exec.specs.Row.{Row, Goes, Faults, after_write_back, row}
 use Rattle.iop_exec.specs.declared.cpu.Cpu.{Cpu}
 use Rattle.iop_script.specs.declared.raise.Raise.{Raise}
 use Rattle.iop_stubs.specs.Binding.{IsSound}
@@ -23,12 +23,16 @@ use Rattle.iop_machine.specs.World.{World, booted, beginning}
 abbrev pub stub_target : ℕ → Stub → ℕ
 stub_target at stub = wrapped (at + 4) / 2 ^ 28 * 2 ^ 28 + stub.target
 
+-- the processor in the delay slot of a stub's jump: what was pending at the stub is written
+abbrev pub in_stub_slot : Cpu → Stub → Cpu
+in_stub_slot c stub =
+    record (after_write_back c) { pc = c.next; next = stub_target c.pc stub; in_slot = true }
+
 -- what a live stub does: in a delay slot it faults; else its jump is taken after the instruction
 -- behind it
 abbrev pub stub_row : Cpu → Stub → Row
 stub_row c stub =
-    if c.in_slot then Faults BranchInSlot
-    else Goes (record c { pc = c.next; next = stub_target c.pc stub; in_slot = true }) None
+    if c.in_slot then Faults BranchInSlot else Goes (in_stub_slot c stub) None
 
 -- a live stub that is executed goes to its function: after it and the instruction in its delay slot
 abbrev pub StubsReachTheirFunctions : Type 0
@@ -69,18 +73,19 @@ RunsTellStubs =
 abbrev pub behind_stub : Iop → Stub → Iop
 behind_stub s stub = record s {
   kernel = record s.kernel { clock = s.kernel.clock + 1 };
-  cpu = record s.cpu { pc = s.cpu.next; next = stub_target s.cpu.pc stub; in_slot = true };
+  cpu = in_stub_slot s.cpu stub;
 }
 
 -- the state in which its second word is executed, once the events that are due are taken
 abbrev pub in_slot_of : World → Stub → Iop
 in_slot_of w stub = behind_stub (takes_events w.iop) stub
 
--- the processor at a stub's function, with the registers that it had at the stub
+-- the processor at a stub's function, with the registers that it had at the stub, into which what
+-- was pending there is written
 abbrev pub at_function : Cpu → Stub → Cpu
 at_function c stub =
     let target = stub_target c.pc stub in
-    record c { pc = target; next = wrapped (target + 4); in_slot = false }
+    record (after_write_back c) { pc = target; next = wrapped (target + 4); in_slot = false }
 
 -- an instruction was executed that left this processor
 abbrev pub behind_slot : Iop → Cpu → Iop

@@ -64,8 +64,6 @@ impl Iop {
         let mut clock = self.kernel.now();
         let mut left = budget;
         'instructions: loop {
-            // Taken apart: whole, it would be put into memory for each instruction.
-            let Position { pc, next, in_slot } = position;
             left -= 1;
             match perform(&mut registers, &mut position, &mut self.guest, clock, out) {
                 Event::Plain => {
@@ -77,7 +75,7 @@ impl Iop {
                 }
                 event => {
                     self.take_over(registers, position, clock);
-                    self.conclude(event, Position { pc, next, in_slot }, out);
+                    self.conclude(event, out);
                     return left;
                 }
             }

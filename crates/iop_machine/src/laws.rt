@@ -80,7 +80,7 @@ pub fn arguments_are_read()
 
 /// A module begins at its entry with the number of its words in `$a0`, where their addresses stand
 /// in `$a1`, its `$gp`, the loader's stack in `$sp`, the module's return in `$ra`, and zero in all
-/// other registers.
+/// other registers. Nothing is pending of a load.
 pub fn modules_begin_with()
     ensures { ModulesBeginWith }
 {}
@@ -88,7 +88,8 @@ pub fn modules_begin_with()
 /// In each state that the machine reaches from its beginning memory is sound, the blocks are those
 /// of that memory, each live stub is one that a linking has bound on the way, threads stand where
 /// their states say, no wait is overdue, and outside a delay slot the next instruction of each is
-/// the one behind.
+/// the one behind. What is pending of a load is for a register but 0, and nothing is pending where
+/// a thread waits.
 pub fn runs_stay_sound()
     ensures { RunsStaySound }
 {}
@@ -112,8 +113,9 @@ pub fn runs_keep_stubs()
 
 /// In each state that a run reaches, a live stub that a thread or a handler executes goes to its
 /// function: its second word is executed, which changes nothing, and then the instruction at the
-/// function, with the registers and the memory of before. No service is called and nothing is
-/// delivered or dispatched in between. In a delay slot the stub faults.
+/// function. The memory is that of before, and so are the registers, with what was pending of a
+/// load at the stub written. No service is called and nothing is delivered or dispatched in
+/// between. In a delay slot the stub faults.
 pub fn stubs_are_followed()
     ensures { StubsAreFollowed }
 {}

@@ -1,7 +1,7 @@
 //! What a `syscall` leaves of the machine, and how modules end.
 
 ghost use Rattle.std.specs.Prelude.{◌≡◌, ◌+◌, ◌^◌, ◌<◌, true, length};
-ghost use Rattle.iop_exec.specs.Processors.{standing_at};
+ghost use Rattle.iop_exec.specs.Row.{behind_syscall};
 ghost use Rattle.iop_machine.specs.Iop.{Iop as State, Takes, later};
 ghost use Rattle.iop_kernel.specs.Standing.{HasNumber};
 ghost use Rattle.iop_kernel.specs.System.{is_active};
@@ -11,7 +11,7 @@ ghost use Rattle.iop_machine.specs.Standing.{Stands, IsSound};
 use crate::begun_module::BegunModule;
 use crate::iop::Iop;
 use iop_base::{GuestFault, Lines, Stop};
-use iop_exec::{Event, Position};
+use iop_exec::Event;
 use iop_kernel::After;
 use iop_modload::finish;
 
@@ -73,18 +73,19 @@ impl Iop {
         }
     }
 
-    /// Does what a code asks for. Its `syscall` stood at `before`, and the processor has moved on
-    /// from it.
-    fn call<L: Lines>(&mut self, code: u32, before: Position, lines: &mut L)
+    /// Lets the processor move on from its `syscall`, and does what the code asks for. Where that
+    /// faults, the processor is as it was before, at the `syscall`.
+    fn call<L: Lines>(&mut self, code: u32, lines: &mut L)
         requires runs { (s : State) × Stands self.old s × (is_active s.kernel ≡ true) }
         requires time { self.old.kernel.clock + 1 < 2 ^ 64 }
         requires number { HasNumber self.old.kernel }
         requires same_size { self.old.blocks.size ≡ length self.old.guest.ram }
         ensures { (s : State) → Stands self.old s
-            → let stood = record s { cpu = standing_at before s.cpu } in
-            Takes Stands (calls stood s.cpu code) self.new
+            → Takes Stands (calls s (behind_syscall s.cpu) code) self.new
             (L.output lines.old) (L.output lines.new) }
     {
+        let before = self.cpu;
+        self.cpu.move_on();
         let after = self.kernel.service(
             code,
             &mut self.cpu,
@@ -100,29 +101,29 @@ impl Iop {
                 self.tick();
             }
             After::Fault(kind) => {
-                before.restore(&mut self.cpu);
+                self.cpu = before;
                 self.fault(kind);
             }
         }
     }
 
     /// Concludes an instruction that ended a burst by its event: it stops with a fault, or does
-    /// what a code asks for. The instruction stood at `before`.
+    /// what a code asks for. The processor stands at the instruction.
     #[inline(never)]
     #[tactic(auto, using(iop_base::proofs::Giving::gives_none))]
-    pub(crate) fn conclude<L: Lines>(&mut self, event: Event, before: Position, lines: &mut L)
+    pub(crate) fn conclude<L: Lines>(&mut self, event: Event, lines: &mut L)
         requires runs { (s : State) × Stands self.old s × (is_active s.kernel ≡ true) }
         requires time { self.old.kernel.clock + 1 < 2 ^ 64 }
         requires number { HasNumber self.old.kernel }
         requires same_size { self.old.blocks.size ≡ length self.old.guest.ram }
         ensures { (s : State) → Stands self.old s
-            → Takes Stands (concludes s before event) self.new
+            → Takes Stands (concludes s event) self.new
             (L.output lines.old) (L.output lines.new) }
     {
         match event {
             Event::Plain => {}
             Event::Fault(kind) => self.fault(kind),
-            Event::Service(code) => self.call(code, before, lines),
+            Event::Service(code) => self.call(code, lines),
         }
     }
 }

@@ -4,10 +4,10 @@ use Rattle.std.proofs.lemmas.Bool.{cond_both, ltb-false}
 use Rattle.iop_base.specs.declared.code.Code.{Code}
 use Rattle.iop_base.specs.declared.code.TheConstants.Code.{OK, UNKNOWN_THREAD, DORMANT, NOT_SUSPENDED}
 use Rattle.iop_exec.specs.declared.cpu.Cpu.{Cpu}
-use Rattle.iop_thread.specs.Changes.{is_begun, is_waiting, is_suspended, in_new_state, woken_state, resumed_state, woken_up, has_wakeup, part_of, ready_after, TurnsInPlace, TurnsRunning}
+use Rattle.iop_thread.specs.Changes.{is_begun, is_waiting, is_suspended, in_new_state, woken_state, suspended_with, resumed_state, woken_up, has_wakeup, part_of, ready_after, TurnsInPlace, TurnsRunning}
 use Rattle.iop_thread.specs.Operations.{blocks_it, wakes_in, wakes_it, suspends_it, resumes_in, resumes_it, wakes_up_by, wakes_up_it, cancels_it, takes_wakeup_it}
 use Rattle.iop_thread.specs.Placing.{IsPlaced, is_in_state}
-use Rattle.iop_thread.specs.States.{is_dormant, is_ready, wait_in, sleeps, suspended_state}
+use Rattle.iop_thread.specs.States.{is_dormant, is_ready, wait_in, sleeps}
 use Rattle.iop_thread.specs.ThreadTable.{ThreadTable, thread_of, running_thread, with_thread}
 use Rattle.iop_thread.specs.declared.state.State.{State}
 use Rattle.iop_thread.specs.declared.state.State.TheVariants.{Dormant, Running, Ready, Waiting, Suspended, WaitingSuspended}
@@ -80,13 +80,13 @@ module _ (s : ThreadTable) (id : ℕ) where
 
   -- a thread is suspended
   pub one_suspends_it : (registers : Cpu) (o : Option Thread) → thread_of s.live id ≡ o
-      → Does s id IsCodeOk is_begun (in_new_state (suspended_state registers))
+      → Does s id IsCodeOk is_begun (in_new_state (suspended_with registers))
       (suspends_it s registers o)
   one_suspends_it registers None found =
-      answers_not s id (UNKNOWN_THREAD ≡ OK) is_begun (in_new_state (suspended_state registers))
+      answers_not s id (UNKNOWN_THREAD ≡ OK) is_begun (in_new_state (suspended_with registers))
       unknown_not_ok (ap (told is_begun) found)
   one_suspends_it registers (Some t) found =
-      let change = suspended_state registers in
+      let change = suspended_with registers in
       cond_both (is_dormant t.state) _ _ (Does s id IsCodeOk is_begun (in_new_state change))
       (λ dormant. answers_not s id (DORMANT ≡ OK) is_begun (in_new_state change) dormant_not_ok
       (told_of s id t found is_begun ∙ not_begun (is_dormant t.state) dormant))

@@ -20,7 +20,7 @@ use Rattle.iop_thread.proofs.FindingThreads.{either_way}
 use Rattle.iop_thread.proofs.Moving.{live_leaving}
 
 module _ (Is : Thread → Type 0) (MayHave : Cpu → Type 0)
-    (MayWait : ThreadTable → Wait → Type 0) where
+    (MayWait : ThreadTable → Wait → Cpu → Type 0) where
   -- it holds of a thread at first, and after each change of one
   pub record Lasts : Type 0 where
     pub first : (id : ℕ) (param : Param) (stack gp : ℕ) → Is (dormant_thread id param stack gp)
@@ -32,7 +32,7 @@ module _ (Is : Thread → Type 0) (MayHave : Cpu → Type 0)
     pub ends : (t : Thread) → Is t → Is (record t { state = Dormant })
     pub changes : (t : Thread) (priority : ℕ) → Is t → Is (record t { priority = priority })
     pub waits : (s : ThreadTable) (t : Thread) (wait : Wait) (registers : Cpu)
-        → running_thread s ≡ Some t → MayHave registers → MayWait s wait → Is t
+        → running_thread s ≡ Some t → MayHave registers → MayWait s wait registers → Is t
         → Is (record t { state = Waiting wait registers })
     pub wakes : (t : Thread) (wait : Wait) (own : Cpu) (answer : ℕ) → t.state ≡ Waiting wait own
         → Is t → Is (record t { state = Ready (with_answer own answer) })
@@ -152,7 +152,7 @@ module _ (Is : Thread → Type 0) (MayHave : Cpu → Type 0)
         (λ other. each_rotates_ready (first_ready s priority))
 
     -- the running thread waits
-    each_blocks_it : (wait : Wait) (registers : Cpu) → MayHave registers → MayWait s wait
+    each_blocks_it : (wait : Wait) (registers : Cpu) → MayHave registers → MayWait s wait registers
         → (o : Option Thread) → running_thread s ≡ o → IfSome o Is
         → Each (blocks_it s wait registers o)
     each_blocks_it wait registers may waits None at is = all

@@ -34,6 +34,7 @@ begins_with pc a0 a1 gp sp ra = record {
   pc = refl;
   next = refl;
   in_slot = refl;
+  pending = refl;
   hi = refl;
   lo = refl;
   a0 = refl;

@@ -12,7 +12,7 @@ pub mod FindingThreads
 pub mod FirstRegisters
 pub mod Handling
 pub mod Holding
-pub mod KeptRegisters
+pub mod KeptSteadily
 pub mod LiveThreads
 pub mod MappedLists
 pub mod Moving

@@ -1,13 +1,13 @@
 -- A thread that sleeps has no wakeups: at first, and after each operation.
 use Rattle.std.proofs.Common.{◌≡◌, [], ℕ, Option, Some, None, IfSome, ap, sym, ◌∙◌, refl, subst, arith}
-use Rattle.std.specs.Prelude.{⊤}
 use Rattle.std.proofs.lemmas.List.Elements.{All-cons, All-nil}
+use Rattle.iop_exec.specs.declared.cpu.Cpu.{Cpu}
 use Rattle.iop_thread.specs.declared.thread.Thread.{Thread}
 use Rattle.iop_thread.specs.declared.wait.Wait.{Wait}
 use Rattle.iop_thread.specs.declared.wait.Wait.TheVariants.{Sleep}
 use Rattle.iop_thread.specs.States.{wait_in, sleeps}
 use Rattle.iop_thread.specs.ThreadTable.{ThreadTable, running_thread}
-use Rattle.iop_thread.specs.Laws.{SleepersAreUnwoken, MayWaitSo, KeepsSleepers, OperationsKeepSleepers}
+use Rattle.iop_thread.specs.Laws.{AnyRegisters, SleepersAreUnwoken, MayWaitSo, KeepsSleepers, OperationsKeepSleepers}
 use Rattle.iop_thread.proofs.EachThread.{Lasts, keeps_each}
 use Rattle.iop_thread.proofs.WaitingOn.{wait_suspended}
 
@@ -20,13 +20,14 @@ unwoken_awake : (o : Option Wait) (n : ℕ) → o ≡ None → o ≡ Some Sleep 
 unwoken_awake o n awake asleep = absurd (cc (awake, asleep))
 
 -- one that runs may sleep if it has no wakeups
-unwoken_waiting : (s : ThreadTable) (t : Thread) (wait : Wait) → running_thread s ≡ Some t
-    → MayWaitSo s wait → Some wait ≡ Some Sleep → t.wakeups ≡ 0
-unwoken_waiting s t wait runs may asleep =
+unwoken_waiting : (s : ThreadTable) (t : Thread) (wait : Wait) (registers : Cpu)
+    → running_thread s ≡ Some t → MayWaitSo s wait registers → Some wait ≡ Some Sleep
+    → t.wakeups ≡ 0
+unwoken_waiting s t wait registers runs may asleep =
     subst (λ o. IfSome o (λ (t : Thread). t.wakeups ≡ 0)) runs (may (cc asleep))
 
 -- it lasts over each change of a thread
-unwoken_lasts : Lasts IsUnwoken (λ registers. ⊤) MayWaitSo
+unwoken_lasts : Lasts IsUnwoken AnyRegisters MayWaitSo
 unwoken_lasts = record {
   first = λ id param stack gp asleep. refl;
   starts = λ t argument is asleep. refl;
@@ -34,7 +35,7 @@ unwoken_lasts = record {
   runs = λ t is. unwoken_awake None t.wakeups refl;
   ends = λ t is. unwoken_awake None t.wakeups refl;
   changes = λ t priority is. is;
-  waits = λ s t wait registers runs given may is. unwoken_waiting s t wait runs may;
+  waits = λ s t wait registers runs given may is. unwoken_waiting s t wait registers runs may;
   wakes = λ t wait own answer at is. unwoken_awake None t.wakeups refl;
   wakes_suspended = λ t wait own answer at is. unwoken_awake None t.wakeups refl;
   suspends = λ t registers given is asleep. is (sym (wait_suspended registers t.state) ∙ asleep);
@@ -47,7 +48,7 @@ unwoken_lasts = record {
 
 -- each operation leaves threads that are so
 pub keeps_sleepers : (s : ThreadTable) → SleepersAreUnwoken s → KeepsSleepers s
-keeps_sleepers = keeps_each IsUnwoken (λ registers. ⊤) MayWaitSo unwoken_lasts
+keeps_sleepers = keeps_each IsUnwoken AnyRegisters MayWaitSo unwoken_lasts
 
 -- the loader's thread alone does not wait
 pub operations_keep_sleepers : OperationsKeepSleepers

@@ -11,7 +11,7 @@ use Rattle.iop_thread.specs.declared.thread.TheConstants.{LOADER, MOST_WAKEUPS}
 use Rattle.iop_thread.specs.declared.wait.Wait.{Wait}
 use Rattle.iop_thread.specs.Operations.{Dispatch, dormant_thread, creates, deletes, starts, begins, ends_running, terminates, changes, rotates, blocks, wakes, suspends, resumes, wakes_up, cancels, takes_wakeup, dispatches}
 use Rattle.iop_thread.specs.Placing.{IsPlaced, is_in_state}
-use Rattle.iop_thread.specs.States.{is_dormant, is_ready, wait_in, sleeps, suspended_state, with_answer, first_registers}
+use Rattle.iop_thread.specs.States.{is_dormant, is_ready, wait_in, sleeps, with_answer, first_registers}
 use Rattle.iop_thread.specs.ThreadTable.{ThreadTable, thread_of, without, has_priority, running_thread, first_ready}
 
 -- the states that operations ask for
@@ -46,6 +46,13 @@ abbrev pub woken_state : (answer : ℕ) → State → State
 woken_state answer (Waiting wait own) = Ready (with_answer own answer)
 woken_state answer (WaitingSuspended wait own) = Suspended (with_answer own answer)
 woken_state answer other = other
+
+-- suspended, and if it waits it waits on: one that ran keeps the registers that are given
+abbrev pub suspended_with : (registers : Cpu) → State → State
+suspended_with registers Running = Suspended registers
+suspended_with registers (Ready own) = Suspended own
+suspended_with registers (Waiting wait own) = WaitingSuspended wait own
+suspended_with registers other = other
 
 -- no longer suspended: ready, or it waits on
 abbrev pub resumed_state : State → State
@@ -181,7 +188,7 @@ pub record MovesOne (s : ThreadTable) : Type 0 where
   pub wakes : (id answer : ℕ) → TurnsInPlace s (wakes s id answer) id
       (is_in_state is_waiting s.live id) (in_new_state (woken_state answer))
   pub suspends : (id : ℕ) (registers : Cpu) → let done = suspends s id registers in
-      TurnsWhere (done.0 ≡ OK) s done.1 id is_begun (in_new_state (suspended_state registers))
+      TurnsWhere (done.0 ≡ OK) s done.1 id is_begun (in_new_state (suspended_with registers))
   pub resumes : (id : ℕ) → let done = resumes s id in
       TurnsWhere (done.0 ≡ OK) s done.1 id is_suspended (in_new_state resumed_state)
   pub wakes_up : (id : ℕ) → let done = wakes_up s id in

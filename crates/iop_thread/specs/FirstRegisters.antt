@@ -1,6 +1,6 @@
 -- With which registers a thread, a handler or a module begins, read back by the names that the
 -- calling convention O32 of MIPS gives them. What they are is this project's own profile.
-use Rattle.std.specs.Prelude.{◌≡◌, ◌≢◌, ℕ, ◌+◌, ◌-◌, ◌≤◌, ◌^◌, false, length}
+use Rattle.std.specs.Prelude.{◌≡◌, ◌≢◌, ℕ, ◌+◌, ◌-◌, ◌≤◌, ◌^◌, false, None, length}
 use Rattle.iop_base.specs.Numbers.{wrapped}
 use Rattle.iop_exec.specs.declared.cpu.Cpu.{Cpu}
 use Rattle.iop_exec.specs.Row.{reg}
@@ -14,6 +14,7 @@ pub record BeginsWith (c : Cpu) (at first second pointer stack back : ℕ) : Typ
   pub pc : c.pc ≡ at
   pub next : c.next ≡ wrapped (at + 4)
   pub in_slot : c.in_slot ≡ false
+  pub pending : c.pending ≡ None
   pub hi : c.hi ≡ 0
   pub lo : c.lo ≡ 0
   pub a0 : reg c 4 ≡ first

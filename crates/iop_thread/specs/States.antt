@@ -1,5 +1,5 @@
--- The states of a thread, and what its waits and states are called in numbers (ps2sdk: thread.h). The
--- numbers of the waits, and a thread's first registers, are this project's own profile.
+-- The states of a thread, and what its waits and states are called in numbers (ps2sdk: thread.h).
+-- The numbers of the waits, and a thread's first registers, are this project's own profile.
 use Rattle.std.specs.Prelude.{ℕ, ◌+◌, ◌-◌, ◌^◌, Bool, true, false, Option, Some, None, replicate}
 use Rattle.iop_base.specs.Numbers.{wrapped}
 use Rattle.iop_exec.specs.declared.cpu.Cpu.{Cpu}
@@ -34,14 +34,6 @@ wait_in other = None
 abbrev pub sleeps : Option Wait → Bool
 sleeps (Some Sleep) = true
 sleeps other = false
-
--- the registers with which a thread is to go on
-abbrev pub kept_registers : State → Option Cpu
-kept_registers (Ready own) = Some own
-kept_registers (Waiting wait own) = Some own
-kept_registers (Suspended own) = Some own
-kept_registers (WaitingSuspended wait own) = Some own
-kept_registers other = None
 
 abbrev pub state_number : State → ℕ
 state_number Running = 1
@@ -84,10 +76,11 @@ zeroed_at pc = record {
   pc = pc;
   next = wrapped (pc + 4);
   in_slot = false;
+  pending = None;
 }
 
--- the registers with which a started thread begins: `$a0` its argument, `$gp`, `$sp` 16 bytes below the
--- stack's end, `$ra` where a thread returns to
+-- the registers with which a started thread begins: `$a0` its argument, `$gp`, `$sp` 16 bytes below
+-- the stack's end, `$ra` where a thread returns to
 abbrev pub first_registers : Thread → (argument : ℕ) → Cpu
 first_registers t argument =
     let top = wrapped (t.stack + t.param.stack_size + (2 ^ 32 - 16)) in

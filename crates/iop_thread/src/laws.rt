@@ -13,26 +13,27 @@ pub fn operations_keep_places()
     ensures { OperationsKeepPlaces }
 {}
 
-/// Outside a delay slot the next instruction of each thread is the one behind: at first, and after each
-/// operation.
+/// Outside a delay slot the next instruction of each thread is the one behind: at first, and after
+/// each operation.
 pub fn operations_keep_straight()
     ensures { OperationsKeepStraight }
 {}
 
-/// What each thread keeps is straight and has 32 registers, of which register 0 holds 0: at first,
-/// and after each operation.
+/// What each thread keeps is straight and has 32 registers, 0 in register 0 and nothing pending for
+/// it, and one that waits has nothing pending at all: at first, and after each operation, if none
+/// begins to wait with something pending.
 pub fn operations_keep_steady()
     ensures { OperationsKeepSteady }
 {}
 
-/// A thread that sleeps has no wakeups: at first, and after each operation, if none sleeps while it has
-/// one.
+/// A thread that sleeps has no wakeups: at first, and after each operation, if none sleeps while it
+/// has one.
 pub fn operations_keep_sleepers()
     ensures { OperationsKeepSleepers }
 {}
 
-/// Which threads are live after each operation, what each waits for, and which one runs. A thread waits
-/// from the call that blocks it until it is woken or terminated; a wakeup ends sleep alone.
+/// Which threads are live after each operation, what each waits for, and which one runs. A thread
+/// waits from the call that blocks it until it is woken or terminated; a wakeup ends sleep alone.
 pub fn operations_move_waits()
     ensures { OperationsMoveWaits }
 {}
@@ -52,13 +53,14 @@ pub fn waking_ends_one_wait()
 {}
 
 /// A thread that is started begins at its entry with its argument in `$a0`, its `$gp`, `$sp` 16
-/// bytes below its stack's end, the thread's return in `$ra`, and zero in all other registers.
+/// bytes below its stack's end, the thread's return in `$ra`, zero in all other registers, and
+/// nothing pending.
 pub fn first_registers_are_read()
     ensures { FirstRegistersAreRead }
 {}
 
-/// The thread that is dispatched is the first of the best priority, and better than the one that ran.
-/// Where none is dispatched, no ready thread is better than the one that runs.
+/// The thread that is dispatched is the first of the best priority, and better than the one that
+/// ran. Where none is dispatched, no ready thread is better than the one that runs.
 pub fn dispatch_is_strict()
     ensures { DispatchIsStrict }
 {}

@@ -115,5 +115,6 @@ pub fn registers_at(pc: u32) -> Cpu
         pc,
         next: pc.wrapping_add(4),
         in_slot: false,
+        pending: None,
     }
 }

@@ -220,7 +220,7 @@ impl<R: Ready> Threads<R> {
             priority,
             ..found.thread
         };
-        match thread.state {
+        match found.thread.state {
             State::Ready(registers) => {
                 self.leave(found);
                 self.put_last(found.slot, thread, registers);

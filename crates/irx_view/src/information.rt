@@ -60,7 +60,7 @@ fn write_tables<W: Write>(text: &Text, out: &mut W) -> io::Result<()> {
             Part::Import(table) => write_import(&table, out)?,
             Part::BadImport => writeln!(out, "import   bad at {at:08x}")?,
             Part::Export(table) => write_export(&table, out)?,
-            Part::Word(_) => {}
+            Part::Word { .. } => {}
         }
     }
     Ok(())

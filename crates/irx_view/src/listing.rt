@@ -7,15 +7,16 @@ use crate::entries::Marks;
 use crate::module::text_of;
 use crate::parts::{Part, Parts};
 use crate::tables::{ExportTable, ImportTable};
-use iop_disasm::inst_text;
+use iop_disasm::{inst_text, read_too_soon};
 use irx_elf::Irx;
 use std::alloc::Global;
 use std::io;
 use std::io::Write;
 
 /// Writes the text of a module as it stands in the file: a line for each table, each stub, each
-/// function and each word that is of no table. A line begins with its place in the image. The type
-/// of a relocation entry at a word or a function ends its line.
+/// function and each word that is of no table. A line begins with its place in the image. Remarks
+/// end it: the type of a relocation entry at a word or a function, and the register that a word
+/// loads and the one behind it reads.
 pub fn write_listing<W: Write>(alloc: Global, irx: &Irx<'_>, out: &mut W) -> io::Result<()>
     requires { length irx.now.image ≤ MOST_IMAGE }
 {
@@ -34,7 +35,7 @@ impl Marks {
             Part::Import(table) => write_import(table, out),
             Part::BadImport => writeln!(out, "{at:08x}: bad import table"),
             Part::Export(table) => self.write_export(table, out),
-            Part::Word(word) => self.write_word(at, *word, out),
+            Part::Word { word, next } => self.write_word(at, *word, *next, out),
         }
     }
 
@@ -46,24 +47,41 @@ impl Marks {
         for number in 0..table.count {
             let (place, function) = table.function(number);
             write!(out, "{place:08x}:   function {number} at {function:08x}")?;
-            self.end_line(place, out)?;
+            self.write_entry(place, out)?;
+            out.write_all(b"\n")?;
         }
         Ok(())
     }
 
-    /// Writes the line of a word.
-    fn write_word<W: Write>(&self, at: u32, word: u32, out: &mut W) -> io::Result<()> {
+    /// Writes the line of a word, behind which the text may have another.
+    fn write_word<W: Write>(
+        &self,
+        at: u32,
+        word: u32,
+        next: Option<u32>,
+        out: &mut W,
+    ) -> io::Result<()> {
         write!(out, "{at:08x}: {word:08x} ")?;
         out.write_all(&inst_text(word, at))?;
-        self.end_line(at, out)
+        self.write_entry(at, out)?;
+        write_read_too_soon(word, next, out)?;
+        out.write_all(b"\n")
     }
 
-    /// Ends a line with the type of the relocation entry at its place, where there is one.
-    fn end_line<W: Write>(&self, at: u32, out: &mut W) -> io::Result<()> {
+    /// Writes the remark on the relocation entry at a place, where there is one: its type.
+    fn write_entry<W: Write>(&self, at: u32, out: &mut W) -> io::Result<()> {
         match self.at(at) {
-            Some(kind) => writeln!(out, " ; {}", kind.name()),
-            None => out.write_all(b"\n"),
+            Some(kind) => write!(out, " ; {}", kind.name()),
+            None => Ok(()),
         }
+    }
+}
+
+/// Writes the remark on the register that a word loads and the next one reads, where there is one.
+fn write_read_too_soon<W: Write>(word: u32, next: Option<u32>, out: &mut W) -> io::Result<()> {
+    match next.and_then(|next| read_too_soon(word, next)) {
+        Some(reg) => write!(out, " ; the next word reads ${} too soon", reg.number()),
+        None => Ok(()),
     }
 }
 

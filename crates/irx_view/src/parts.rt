@@ -15,8 +15,8 @@ pub(crate) enum Part<'a> {
     BadImport,
     /// An export table.
     Export(ExportTable<'a>),
-    /// A word that is of no table.
-    Word(u32),
+    /// A word that is of no table, and the one behind it, if the text has one.
+    Word { word: u32, next: Option<u32> },
 }
 
 /// The parts of a text that are still to come, with their places.
@@ -69,6 +69,10 @@ fn part_at<'a>(text: &'a Text, at: u32) -> (Part<'a>, u32)
     }
     match ExportTable::read(text, at) {
         Some(table) => (Part::Export(table), table.end()),
-        None => (Part::Word(text.word(at)), at + 4),
+        None => {
+            let word = text.word(at);
+            let next = text.word_behind(at);
+            (Part::Word { word, next }, at + 4)
+        }
     }
 }

@@ -43,6 +43,18 @@ impl Text {
         word(&self.ram, at)
     }
 
+    /// Reads the word behind the one at a place, if the text has one.
+    pub fn word_behind(&self, at: u32) -> Option<u32>
+        requires aligned { at % 4 ≡ 0 }
+        requires inside { at + 4 ≤ self.now.size }
+    {
+        if self.size - at >= 8 {
+            Some(self.word(at + 4))
+        } else {
+            None
+        }
+    }
+
     /// Tells whether an import table starts at a place.
     pub fn starts_import(&self, at: u32) -> bool
         requires aligned { at % 4 ≡ 0 }

@@ -5,7 +5,7 @@ use Rattle.iop_exec.specs.Laws.{IsSteady}
 use Rattle.iop_exec.specs.declared.cpu.Cpu.{Cpu}
 use Rattle.iop_thread.specs.Laws.{AreSteady}
 use Rattle.iop_thread.specs.ThreadTable.{ThreadTable}
-use Rattle.iop_thread.proofs.KeptRegisters.{keeps_steady}
+use Rattle.iop_thread.proofs.KeptSteadily.{keeps_steady}
 use Rattle.iop_kernel.specs.Laws.{IsCore}
 use Rattle.iop_kernel.specs.Overdue.{NoneOverdue}
 use Rattle.iop_kernel.specs.Placing.{IsPlaced}

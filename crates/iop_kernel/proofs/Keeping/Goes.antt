@@ -12,12 +12,12 @@ use Rattle.iop_thread.specs.Placing.{IsPlaced}
 use Rattle.iop_thread.specs.ThreadTable.{ThreadTable, is_it}
 use Rattle.iop_thread.specs.declared.wait.Wait.{Wait}
 use Rattle.iop_thread.specs.declared.wait.Wait.TheVariants.{Delay, Object}
-use Rattle.iop_thread.proofs.KeptRegisters.{keeps_steady}
+use Rattle.iop_thread.proofs.KeptSteadily.{keeps_steady}
 use Rattle.iop_thread.proofs.Placed.{keeps_places}
 use Rattle.iop_thread.proofs.Waits.{moves_waits}
 use Rattle.iop_kernel.specs.Callers.{HasLeft, HasAnswer}
 use Rattle.iop_kernel.specs.Laws.{Follows, HandlerFollows}
-use Rattle.iop_kernel.specs.System.{Core, System, may_switch, caller, caller_beside, running_registers, with_threads, answered}
+use Rattle.iop_kernel.specs.System.{Core, System, may_switch, caller, caller_beside, registers_beside, running_registers, with_threads, answered}
 use Rattle.iop_kernel.specs.ThreadWaits.{waits}
 use Rattle.iop_kernel.specs.Waits.{wakes_all, core_leaves, core_requeues}
 use Rattle.iop_kernel.specs.declared.active_handler.ActiveHandler.{ActiveHandler}
@@ -44,6 +44,13 @@ pub caller_runs_by : (o : Option ActiveHandler) (running : Option ℕ)
 caller_runs_by None None calls none = cc calls
 caller_runs_by None (Some id) calls none = cc none
 caller_runs_by (Some handler) running calls none = cc calls
+
+-- where a thread calls, its registers are the processor's
+clear_beside : (o : Option ActiveHandler) (running : Option ℕ) (cpu : Cpu)
+    → is_some (caller_beside o running) ≡ true → cpu.pending ≡ None
+    → (registers_beside o cpu).pending ≡ None
+clear_beside None running cpu called clear = clear
+clear_beside (Some handler) running cpu called clear = absurd (cc called)
 
 -- threads keep what is steady where the waits of several end
 woken_steady : (ids : List ℕ) (t : ThreadTable) (word : ℕ) → AreSteady t
@@ -96,7 +103,8 @@ module _ (s : System) where
 
   -- what holds in the end, and what has become of the caller
   pub record Went (after : After) (left : System) (pieces : List Piece) : Type 0 where
-    pub alone : IsPlaced table → Alone now → Alone left.core
+    -- behind a `syscall` nothing is pending
+    pub alone : IsPlaced table → now.cpu.pending ≡ None → Alone now → Alone left.core
     pub answers : after ≡ Resume → HasAnswer now.cpu left.core.cpu
     pub numbers : left.core.kernel.timers.next ≤ now.kernel.timers.next + 1
     pub follows : (id : ℕ) → IsPlaced table → caller now ≡ Some id → Follows after s id left pieces
@@ -120,7 +128,7 @@ module _ (s : System) where
   -- and nothing where the `syscall` faults
   pub faulted : (kind : GuestFault) → Went (Fault kind) s []
   faulted kind = record {
-    alone = λ placed h. h;
+    alone = λ placed clear h. h;
     answers = λ resumes. absurd (cc resumes);
     numbers = omega arith;
     follows = λ id placed is. (refl, refl);
@@ -169,7 +177,8 @@ module _ (s : System) where
   requeueing_goes c thread priority other h = h
 
   -- the thread that called has left the processor
-  pub leaves : (d : System) → Called → (IsPlaced table → Alone now → Alone d.core)
+  pub leaves : (d : System) → Called
+      → (IsPlaced table → now.cpu.pending ≡ None → Alone now → Alone d.core)
       → d.core.kernel.timers.next ≤ now.kernel.timers.next + 1
       → (IsPlaced table → d.core.kernel.threads.running ≡ None)
       → ((id : ℕ) → IsPlaced table → caller now ≡ Some id
@@ -183,16 +192,24 @@ module _ (s : System) where
     handler_follows = λ handler is. absurd (cc (called, no_caller now handler is));
   }
 
-  -- it waits, where another may run
+  -- who calls is the same
+  caller_is : (c : Core) → Goes c → c.kernel.threads ≡ table → caller c ≡ caller now
+  caller_is c g same =
+      ap (λ o. caller_beside o c.kernel.threads.running) g.handler
+      ∙ ap (λ (t : ThreadTable). caller_beside now.kernel.handler t.running) same
+
+  -- it waits, where another may run: nothing is pending behind its `syscall`
   pub waits_go : (c : Core) (wait : Wait) → Goes c → c.kernel.threads ≡ table
       → may_switch c.kernel ≡ true → Called
       → Went Switch (record s { core = (waits c wait).state }) []
   waits_go c wait g same may called =
       let registers = running_registers c in
-      leaves _ called (λ placed h. let alone = g.alone placed h in
+      let calls = ap is_some (caller_is c g same) ∙ called in
+      let pending = ap (λ (cpu : Cpu). cpu.pending) g.processor in
+      leaves _ called (λ placed clear h. let alone = g.alone placed h in
       with_them c alone (threads.blocks c.kernel.threads wait registers)
-      ((keeps_steady c.kernel.threads alone.threads).blocks wait registers
-      (running_steady c alone) tt)
+      ((keeps_steady c.kernel.threads alone.threads).blocks wait registers (running_steady c alone)
+      (clear_beside c.kernel.handler c.kernel.threads.running c.cpu calls (pending ∙ clear)))
       (λ none. would_switch c.kernel.interrupts c.kernel.dispatching c.kernel.handler may))
       g.numbers
       (λ placed. ((moves_waits c.kernel.threads (subst IsPlaced (sym same) placed)).blocks wait

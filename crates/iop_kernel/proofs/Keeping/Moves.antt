@@ -16,7 +16,7 @@ use Rattle.iop_thread.specs.ThreadTable.{ThreadTable, is_it}
 use Rattle.iop_thread.specs.Waits.{is_live}
 use Rattle.iop_thread.specs.declared.thread.TheConstants.{LOADER}
 use Rattle.iop_thread.specs.declared.wait.Wait.TheVariants.{Sleep, Delay, Object}
-use Rattle.iop_thread.proofs.KeptRegisters.{keeps_steady}
+use Rattle.iop_thread.proofs.KeptSteadily.{keeps_steady}
 use Rattle.iop_thread.proofs.Placed.{keeps_places}
 use Rattle.iop_thread.proofs.Waits.{moves_waits}
 use Rattle.iop_time.specs.Timers.{Timers, is_alarm_of, sets_alarm, cancels}
@@ -89,7 +89,7 @@ module _ (s : System) (active : is_active s.core.kernel ≡ true) where
       begins = still s;
       stores = λ d given place bytes inside h. h;
       goes_on = λ d given word h. record {
-        alone = λ placed alone. answered_alone d.core word (h.alone placed alone);
+        alone = λ placed clear alone. answered_alone d.core word (h.alone placed alone);
         answers = λ resumes. (word, ap (λ (cpu : Cpu). with_reg cpu 2 word) h.processor);
         numbers = h.numbers;
         follows = λ id placed is. h.runs id placed is ∙ caller_runs now id is;
@@ -150,13 +150,13 @@ module _ (s : System) (active : is_active s.core.kernel ≡ true) where
       starts = λ id argument. threads_go s _ (λ h. (keeps_steady table h).starts id argument)
           (λ h. ((moves_waits table h).starts id argument).running);
       ends = λ id is other leave.
-          leaves s _ (is_there _ id is) (λ placed. ended_alone now) (omega arith)
+          leaves s _ (is_there _ id is) (λ placed clear. ended_alone now) (omega arith)
           (λ h. (moves_waits table h).ends_running.running)
           (λ at h calls. ends (no_loader at id is calls other)
           (ended_dormant table h at (caller_runs now at calls)));
       ends_deleted = λ id stack left is other did leave.
           let ended_table = (ended now).kernel.threads in
-          leaves s _ (is_there _ id is) (λ placed h. let alone = ended_alone now h in
+          leaves s _ (is_there _ id is) (λ placed clear h. let alone = ended_alone now h in
           with_them (ended now) alone left (subst AreSteady (ap (λ r. r.1) did)
           ((keeps_steady ended_table alone.threads).deletes id)) (λ none. (refl, λ outside. refl)))
           (omega arith)
@@ -170,7 +170,7 @@ module _ (s : System) (active : is_active s.core.kernel ≡ true) where
           goes (no_loader at id is calls other)
           (subst (λ (n : ℕ). is_live left n ≡ false) same gone));
       returns = λ id word is loader leave. record {
-        alone = λ placed h. record {
+        alone = λ placed clear h. record {
           awake = λ none. (refl, λ outside. refl);
           steady = h.steady;
           threads = h.threads;
@@ -224,7 +224,7 @@ module _ (s : System) (active : is_active s.core.kernel ≡ true) where
         runs = λ at placed calls. absurd (cc (is, calls));
       };
       rotates_own = λ priority id own may is leave.
-          leaves s _ (is_there _ id is) (λ placed h.
+          leaves s _ (is_there _ id is) (λ placed clear h.
           answered_alone (with_threads now (rotated s priority)) 0
           (rotated_alone s priority h (λ none. would_switch _ _ _ may)))
           (omega arith) (λ placed. none_rotates table placed priority _ own)
@@ -280,7 +280,7 @@ module _ (s : System) (active : is_active s.core.kernel ≡ true) where
     no_service = faulted s Service;
     handler = λ handler is. let gives = gives_to now.kernel handler.cause (reg now.cpu 2) in
         record {
-          alone = λ placed h. returned_alone now _ handler.kept gives
+          alone = λ placed clear h. returned_alone now _ handler.kept gives
               (kept_steady now.kernel.handler handler h.handler is) h;
           answers = λ resumes. absurd (cc resumes);
           numbers = omega (arith, gives.next);

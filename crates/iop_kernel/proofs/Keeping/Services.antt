@@ -30,9 +30,11 @@ services_keep s code active =
       handler_follows = h.handler_follows;
       answers = h.answers;
       numbers = h.numbers;
-      core = λ core.
+      placed = services_place s code;
+      overdue = services_overdue s code;
+      core = λ clear core.
           holds_whole (services_place s code core.placed) (services_overdue s code core.overdue)
-          (h.alone core.placed.threads (alone_of core));
+          (h.alone core.placed.threads clear (alone_of core));
       clock = stored.clock;
       memory = has_written s _ _ stored;
       blocks = stored.blocks;

@@ -9,7 +9,7 @@ use Rattle.iop_intr.specs.declared.handler.Handler.{Handler}
 use Rattle.iop_thread.specs.Laws.{KeepsSteady}
 use Rattle.iop_thread.specs.Waits.{MovesWaits}
 use Rattle.iop_thread.specs.declared.kind.Kind.TheVariants as kinds
-use Rattle.iop_thread.proofs.KeptRegisters.{keeps_steady, operations_keep_steady, begun_steady}
+use Rattle.iop_thread.proofs.KeptSteadily.{keeps_steady, operations_keep_steady, begun_steady}
 use Rattle.iop_thread.proofs.Sleepers.{operations_keep_sleepers}
 use Rattle.iop_thread.proofs.Strict.{dispatched_is}
 use Rattle.iop_thread.proofs.Waits.{moves_waits}

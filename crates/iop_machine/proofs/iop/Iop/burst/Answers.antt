@@ -1,4 +1,4 @@
-use Rattle.std.proofs.Common.{◌+◌, refl, sym, ◌∙◌, arith}
+use Rattle.std.proofs.Common.{◌+◌, sym, ◌∙◌, arith}
 use Rattle.iop_exec.specs.Processors.{cpu_of}
 use Rattle.iop_exec.specs.Row.{row}
 use Rattle.iop_machine.proofs.Bursting.{stands_after, size_kept, number_kept, length-performed, bursts_first, burst_runs, turn_of, plain_advances, plain_goes_on, conclude_advances}
@@ -97,5 +97,5 @@ returns-in_default-clause-advances g c = λ s h r.
           (λ t k. c.take_over-in_default.ensures _
           (stands_after c.instructions.self.cpu c.perform.new.guest
           c.instructions.self.kernel.clock k))
-          c.instructions.position c.in_default.not-Plain refl c.conclude.ensures,
+          c.in_default.not-Plain c.conclude.ensures,
     )

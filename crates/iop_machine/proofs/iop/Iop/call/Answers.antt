@@ -16,30 +16,27 @@ service-after-requires g c = record {
 
 pub tick-requires : goal.tick-requires
 tick-requires g c =
-    let h = served c.args.self.now c.args.code c.service-after.ensures in
-    let runs = c.requires.runs in
-    let clock = clock_left h c.args.before runs.0 runs.1 runs.2 in
+    let h = served c.args.self.now _ c.args.code c.move_on.ensures c.service-after.ensures in
+    let clock = clock_left h _ c.requires.runs.1 c.requires.runs.2 in
     record {
-      sound = (_, (serves_takes h c.args.before runs.0 runs.1).state);
+      sound = (_, (serves_takes h _ c.requires.runs.1).state);
       time = omega (arith, clock, c.requires.time);
     }
 
 pub return_module-requires : goal.return_module-requires
 return_module-requires g c =
-    let h = served c.args.self.now c.args.code c.service-after.ensures in
-    let runs = c.requires.runs in
+    let h = served c.args.self.now _ c.args.code c.move_on.ensures c.service-after.ensures in
     record {
-      sound = (_, (serves_takes h c.args.before runs.0 runs.1).state);
-      same_size = size_left h c.args.before runs.0 runs.1 runs.2 c.requires.same_size;
+      sound = (_, (serves_takes h _ c.requires.runs.1).state);
+      same_size = size_left h _ c.requires.runs.1 c.requires.runs.2 c.requires.same_size;
     }
 
 pub tick-requires-in-ModuleReturned : goal.tick-requires-in-ModuleReturned
 tick-requires-in-ModuleReturned g c =
-    let h = served c.args.self.now c.args.code c.service-after.ensures in
-    let runs = c.requires.runs in
-    let left = (serves_takes h c.args.before runs.0 runs.1).state in
+    let h = served c.args.self.now _ c.args.code c.move_on.ensures c.service-after.ensures in
+    let left = (serves_takes h _ c.requires.runs.1).state in
     let returned = c.return_module.ensures _ left in
-    let clock = clock_left h c.args.before runs.0 runs.1 runs.2 in
+    let clock = clock_left h _ c.requires.runs.1 c.requires.runs.2 in
     let same = clock_returned c.in-ModuleReturned.value _ left returned in
     record {
       sound = (_, returned.state);
@@ -48,25 +45,23 @@ tick-requires-in-ModuleReturned g c =
 
 pub returns-in-Resume : goal.returns-in-Resume
 returns-in-Resume g c s stands =
-    let h = served c.args.self.now c.args.code c.service-after.ensures in
-    let taken = takes_with (serves_takes h c.args.before s stands) Stands later _
-    (c.tick.ensures _) in
+    let h = served c.args.self.now _ c.args.code c.move_on.ensures c.service-after.ensures in
+    let taken = takes_with (serves_takes h s stands) Stands later _ (c.tick.ensures _) in
     elim c.in-Resume.is [
-      | inl resumes ↦ calls_takes h c.args.before Resume resumes s stands taken
-      | inr switches ↦ calls_takes h c.args.before Switch switches s stands taken
+      | inl resumes ↦ calls_takes h Resume resumes s stands taken
+      | inr switches ↦ calls_takes h Switch switches s stands taken
     ]
 
 pub returns-in-ModuleReturned : goal.returns-in-ModuleReturned
 returns-in-ModuleReturned g c s stands =
-    let h = served c.args.self.now c.args.code c.service-after.ensures in
+    let h = served c.args.self.now _ c.args.code c.move_on.ensures c.service-after.ensures in
     let value = c.in-ModuleReturned.value in
-    let taken = serves_takes h c.args.before s stands in
-    calls_takes h c.args.before (ModuleReturned value) c.in-ModuleReturned.is s stands
+    let taken = serves_takes h s stands in
+    calls_takes h (ModuleReturned value) c.in-ModuleReturned.is s stands
     (takes_with (takes_then taken (λ v. returns_by v v.begun value)
     (c.return_module.ensures _ taken.state)) Stands later _ (c.tick-in-ModuleReturned.ensures _))
 
 pub returns-in-Fault : goal.returns-in-Fault
 returns-in-Fault g c =
-    let h = served c.args.self.now c.args.code c.service-after.ensures in
-    faults_takes h c.args.before c.in-Fault.kind c.in-Fault.is c.restore.new.cpu c.restore.ensures _
-    c.fault.ensures
+    let h = served c.args.self.now _ c.args.code c.move_on.ensures c.service-after.ensures in
+    faults_takes h c.in-Fault.kind c.in-Fault.is _ c.fault.ensures
