@@ -34,7 +34,7 @@ import sys
 from generated import generated
 from inputs import Refused, read_file
 from machine import Machine
-from script import read_script
+from script import Script, read_script
 from words import read_words
 
 UNKNOWN = 70
@@ -51,11 +51,11 @@ def outcome(words):
     """The console's bytes, the lines of the trace and the status."""
     try:
         options = read_words(words)
-        events, handed = ([], {}) if options.script is None else read_script(read_file(options.script))
+        script = Script() if options.script is None else read_script(read_file(options.script))
         files = module_files(options)
     except Refused as refused:
         return b"", [f"iop: {refused.text}"], refused.status
-    machine = Machine(files, events, handed)
+    machine = Machine(files, script, options.size)
     status = machine.run(options.budget)
     dump = machine.dump(*options.dump) if options.dump else []
     return machine.console, machine.lines + dump, status

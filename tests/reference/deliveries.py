@@ -26,6 +26,12 @@ class Deliveries:
         number, self.next_number = self.next_number, self.next_number + 1
         return number
 
+    def take_events(self):
+        """Takes the events that are due, one after the other: each raises its line or lowers it."""
+        while self.events and self.events[0].tick <= self.clock:
+            event = self.events.pop(0)
+            self.irqs[event.line].raised = event.raises
+
     def deliver(self):
         """Delivers what comes first, and tells whether something did."""
         if not self.interrupts or self.handler or self.running is not None and self.cpu.slot:
@@ -74,7 +80,7 @@ class Deliveries:
         """The least tick or moment that comes."""
         moments = [alarm.moment for alarm in self.alarms]
         moments += [thread.delay[0] for thread in self.threads.values() if thread.delay]
-        moments += [tick for tick, _ in self.events[:1]]
+        moments += [event.tick for event in self.events[:1]]
         return min((moment for moment in moments if moment < NEVER), default=None)
 
     def time_service(self, number, a, b, c):

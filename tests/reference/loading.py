@@ -4,7 +4,6 @@ import struct
 from itertools import takewhile
 
 from irx import HI16, LO16, read_module
-from memory import SIZE
 from processor import Registers
 
 MOST_STUBS = 65536
@@ -76,7 +75,7 @@ class Loading:
 
     def functions(self, table):
         """The functions of an export table."""
-        places = range(table + 20, min(table + 20 + 4 * 1024, SIZE - 3), 4)
+        places = range(table + 20, min(table + 20 + 4 * 1024, self.memory.size - 3), 4)
         return list(takewhile(lambda function: function, map(self.memory.word, places)))
 
     def link(self, base, text):
@@ -108,7 +107,7 @@ class Loading:
                 continue
             base, length, entry, gp = result
             self.trace(f"load {number} ok {base:08x} {length:08x}")
-            words = [name.encode()] + self.words.get(number, [])
+            words = [name.encode()] + self.script.words(number, name.encode())
             places, texts = b"", b""
             for word in words:
                 places += struct.pack("<I", 0x2000 + 4 * len(words) + 4 + len(texts))

@@ -15,11 +15,11 @@ from threads import Thread, Threads
 class Machine(Loading, Threads, Objects, Deliveries, Services, Formatting, Processor):
     """What the parts share, and the order in which they have their turn."""
 
-    def __init__(self, files, events, words):
+    def __init__(self, files, script, size):
         self.clock = 0
-        self.events, self.words = events, words  # (tick, line) in order; the words of a module by its number
+        self.script, self.events = script, list(script.events)  # of the events those that are still to come
         self.lines, self.console = [], b""
-        self.memory, self.blocks = Memory(self), Blocks()
+        self.memory, self.blocks = Memory(self, size), Blocks(size)
         self.registry = []
         self.files = files
         self.module = None
@@ -62,19 +62,13 @@ class Machine(Loading, Threads, Objects, Deliveries, Services, Formatting, Proce
             self.make_ready(self.threads[1])
         executed = 0
         while True:
-            due = [number for tick, number in self.events if tick <= self.clock]
-            fresh = [number for number in due if not self.irqs[number].raised]
-            for number in fresh:
-                self.irqs[number].raised = True
-            left = self.events[len(due):]
+            # Of a step that the budget keeps from beginning they would not be taken, but nothing shows it.
+            self.take_events()
             if self.deliver() or self.dispatch():
-                self.events = left
-            elif self.handler or self.running is not None:
+                continue
+            if self.handler or self.running is not None:
                 if executed == budget:
-                    for number in fresh:
-                        self.irqs[number].raised = False
                     return self.end("budget", 10)
-                self.events = left
                 try:
                     self.step()
                 except Fault as fault:
@@ -82,7 +76,6 @@ class Machine(Loading, Threads, Objects, Deliveries, Services, Formatting, Proce
                 self.clock += 1
                 executed += 1
             else:
-                self.events = left
                 moment = self.next_moment()
                 if moment is None:
                     return self.end("quiet", 0)

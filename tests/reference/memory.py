@@ -1,28 +1,30 @@
 """Memory: RAM with its live stubs, and the blocks that are taken from it."""
 
-SIZE = 0x200000
+from functools import partial
+
+MIB = 0x100000
 
 
 class Fault(Exception):
     """A guest fault, by its word in the trace."""
 
 
-def place_of(at, length, width=1):
-    """The place in RAM of a range, or None where it is not wholly there or `at` is not a multiple of the width."""
-    if at % width or at >> 29 not in (0, 4, 5) or at % 0x20000000 >= SIZE:
+def place_of(size, at, length, width=1):
+    """The place of a range in RAM of a size, or None where it is not wholly there or `at` is not a multiple of the
+    width."""
+    if at % width or at >> 29 not in (0, 4, 5) or at % 0x20000000 >= size:
         return None
     place = at % 0x20000000
-    return place if place + length <= SIZE else None
+    return place if place + length <= size else None
 
 
 class Memory:
     """RAM, with the live stubs."""
 
-    place = staticmethod(place_of)
-
-    def __init__(self, machine):
-        self.machine = machine
-        self.ram = bytearray(SIZE)
+    def __init__(self, machine, size):
+        self.machine, self.size = machine, size
+        self.place = partial(place_of, size)
+        self.ram = bytearray(size)
         self.live = {}  # place -> (name, major)
 
     def load(self, at, width):
@@ -49,17 +51,19 @@ class Memory:
 
 
 class Blocks:
-    def __init__(self):
-        self.used = {0: 0x10000}
+    """The blocks of RAM, which ends at a place."""
+
+    def __init__(self, end):
+        self.end, self.used = end, {0: 0x10000}
 
     def alloc(self, mode, size, at):
         size = (size + 255) // 256 * 256
-        if mode > 2 or not 0 < size <= SIZE:
+        if mode > 2 or not 0 < size <= self.end:
             return 0
-        starts = range(0, SIZE - size + 1, 256)
+        starts = range(0, self.end - size + 1, 256)
         if mode == 2:
-            ok = at >> 29 in (0, 4, 5) and at % 0x20000000 < SIZE and at % 256 == 0
-            starts = [at % 0x20000000] if ok and at % 0x20000000 + size <= SIZE else []
+            place = place_of(self.end, at, size, 256)
+            starts = [] if place is None else [place]
         for start in reversed(starts) if mode == 1 else starts:
             if all(start + size <= s or s + n <= start for s, n in self.used.items()):
                 self.used[start] = size
@@ -68,15 +72,15 @@ class Blocks:
 
     def holder(self, at):
         """The start and the size of the block that holds an address; both are 2^32 - 1 where none does."""
-        place = place_of(at, 1)
+        place = place_of(self.end, at, 1)
         held = ((s, n) for s, n in self.used.items() if place is not None and s <= place < s + n)
         return next(held, (2**32 - 1, 2**32 - 1))
 
     def all_free(self):
-        return SIZE - sum(self.used.values())
+        return self.end - sum(self.used.values())
 
     def most_free(self):
-        edges = sorted(self.used.items()) + [(SIZE, 0)]
+        edges = sorted(self.used.items()) + [(self.end, 0)]
         return max(b[0] - (a[0] + a[1]) for a, b in zip(edges, edges[1:]))
 
     def free(self, at):

@@ -2,7 +2,7 @@
 
 import struct
 
-from memory import SIZE, Fault
+from memory import Fault
 
 LIBRARIES = ["loadcore", "sysmem", "intrman", "thbase", "thsemap", "thevent", "thmsgbx", "stdio"]
 
@@ -71,7 +71,7 @@ class Services:
             return self.blocks.holder(a)[number - 9]
         if number == 14:
             return self.print_formatted()
-        return {6: SIZE, 7: self.blocks.most_free(), 8: self.blocks.all_free()}[number]
+        return {6: self.memory.size, 7: self.blocks.most_free(), 8: self.blocks.all_free()}[number]
 
     def library_service(self, number):
         """A service of loadcore."""

@@ -4,18 +4,22 @@ import re
 from typing import NamedTuple
 
 from inputs import Refused
-from memory import place_of
+from memory import MIB, place_of
 
+OPTIONS = ("--budget", "--script", "--dump", "--ram", "--generate")
 MOST_MODULES = 64
 MOST_NAME = 255
 MOST_DUMP = 0x10000
 MOST_THREADS = 250
 MOST_BUDGET = 1_000_000_000_000
+SIZES = {"2": 2 * MIB, "8": 8 * MIB}
 
 
 class Options(NamedTuple):
-    """What good words ask for: instructions, a script's name, a place and its length, threads, names of modules."""
+    """What good words ask for: instructions, bytes of RAM, a script's name, a place and its length, threads, names of
+    modules."""
     budget: int
+    size: int
     script: str | None
     dump: tuple[int, int] | None
     generate: int | None
@@ -35,10 +39,12 @@ def read_words(words):
     """What words of the command line ask for, which are bytes."""
     try:
         values, modules = sort_words([word.decode() for word in words])
+        size = ram_size(values.get("--ram", "2"))
         options = Options(
             number(values.get("--budget", "10000000"), 0, MOST_BUDGET),
+            size,
             values.get("--script"),
-            dump_range(values["--dump"]) if "--dump" in values else None,
+            dump_range(values["--dump"], size) if "--dump" in values else None,
             number(values["--generate"], 1, MOST_THREADS) if "--generate" in values else None,
             modules)
         need(all(1 <= len(name.encode()) <= MOST_NAME for name in modules))
@@ -60,7 +66,7 @@ def sort_words(words):
             if not equals:
                 need(left and not is_dashed(left[0]))
                 value = left.pop(0)
-            need(name in ("--budget", "--script", "--dump", "--generate") and name not in values and value)
+            need(name in OPTIONS and name not in values and value)
             values[name] = value
         else:
             modules.append(word)
@@ -79,10 +85,16 @@ def number(text, least, most):
     return int(digits)
 
 
-def dump_range(text):
-    """A place and a length in hexadecimal digits."""
+def ram_size(text):
+    """How many bytes RAM has, of the text of the mebibytes."""
+    need(text in SIZES)
+    return SIZES[text]
+
+
+def dump_range(text, size):
+    """A place and a length in hexadecimal digits, in RAM of a size."""
     found = re.fullmatch("([0-9A-Fa-f]{1,8}):([0-9A-Fa-f]{1,8})", text)
     need(found)
     at, length = int(found[1], 16), int(found[2], 16)
-    need(1 <= length <= MOST_DUMP and place_of(at, length) is not None)
+    need(1 <= length <= MOST_DUMP and place_of(size, at, length) is not None)
     return at, length

@@ -1,6 +1,6 @@
 -- What a row leaves of a processor: what lasts over the writing of registers, and holds where the
 -- processor has moved on.
-use Rattle.std.proofs.Common.{◌≡◌, ℕ, ◌==◌, Bool, true, false, cond, Option, Some, None, List, refl, ◌∙◌, arith}
+use Rattle.std.proofs.Common.{◌≡◌, ℕ, ◌==◌, Bool, true, false, cond, Option, Some, None, List, refl, subst, ◌∙◌, arith}
 use Rattle.std.specs.Prelude.{⊤, slice_set}
 use Rattle.std.proofs.lemmas.Bool.{cond_both}
 use Rattle.std.proofs.lemmas.Bool.Decides.{nat_tests}
@@ -9,13 +9,14 @@ use Rattle.iop_base.specs.Places.{load_at}
 use Rattle.iop_base.specs.declared.guest_fault.GuestFault.TheVariants.{BranchInSlot}
 use Rattle.iop_base.specs.declared.width.Width.TheVariants.{Word}
 use Rattle.iop_isa.specs.declared.instruction.Inst.{Inst}
-use Rattle.iop_isa.specs.declared.instruction.Inst.TheVariants.{Sll, Srl, Sra, Sllv, Srlv, Srav, Jr, Jalr, Syscall, Break, Mfhi, Mthi, Mflo, Mtlo, Mult, Multu, Div, Divu, Add, Addu, Sub, Subu, And, Or, Xor, Nor, Slt, Sltu, Bltz, Bgez, Bltzal, Bgezal, J, Jal, Beq, Bne, Blez, Bgtz, Addi, Addiu, Slti, Sltiu, Andi, Ori, Xori, Lui, Lb, Lh, Lwl, Lw, Lbu, Lhu, Lwr, Sb, Sh, Swl, Sw, Swr}
 use Rattle.iop_isa.specs.Instructions.{inst_of}
 use Rattle.iop_exec.specs.declared.cpu.Cpu.{Cpu}
 use Rattle.iop_exec.specs.declared.cpu.Pending.{Pending}
 use Rattle.iop_exec.specs.Laws.{Leaves, IsSteady, RowsGoToNext, RowsStayStraight, RowsStaySteady, cpu_after}
 use Rattle.iop_exec.specs.Processors.{IsStraight}
-use Rattle.iop_exec.specs.Row.{Row, Goes, Serves, Faults, Storing, at_next, after_jump, with_reg, with_pending, writes_back, after_write_back, results, sums, loads, pairs, jumps, jumps_linked, place, word_round, stores_as, stores_made, effect_of, inst_row, word_row, row_of, row}
+use Rattle.iop_exec.proofs.RowPairs.{holding, gone_on, RowPairs, effect_pair}
+use Rattle.iop_exec.proofs.WritingBack.{after_write_back-regs}
+use Rattle.iop_exec.specs.Row.{behind_syscall, Row, Goes, Serves, Faults, at_next, after_jump, with_reg, with_pending, writes_back, after_write_back, effect_of, inst_row, word_row, row_of, row}
 
 -- P lasts while registers are written, and Q holds once the processor has moved on
 pub record RowKeeps (P Q : Cpu → Type 0) : Type 0 where
@@ -49,100 +50,31 @@ back_by h c (Some load) has = h.drops _ (written h c load.reg load.value has)
 pub back : {P Q : Cpu → Type 0} → RowKeeps P Q → (c : Cpu) → P c → P (after_write_back c)
 back h c has = back_by h c c.pending has
 
+-- and what holds once the processor has gone on
+gone : {P Q : Cpu → Type 0} → RowKeeps P Q → (to : Option ℕ) (c : Cpu) → P c → Q (gone_on to c)
+gone h None c has = h.moves c has
+gone h (Some target) c has = h.jumps c target has
+
+-- so it does where the registers are those of now, whatever the instruction does then
+leaving : {P Q : Cpu → Type 0} → RowKeeps P Q → (c : Cpu) (now : List ℕ) → P (holding now c)
+    → Q (behind_syscall c) → RowPairs c now (λ written brought r s. Leaves Q c r)
+leaving h c now has behind = record {
+  moves = λ to storing. gone h to _ has;
+  pairs = λ hi lo. h.moves _ (h.pairs _ hi lo has);
+  writes = λ to n value. gone h to _ (written h _ n value has);
+  brings = λ n value other. h.moves _ (pended h _ n value has);
+  serves = λ code. behind;
+  faults = λ written brought fault. tt;
+}
+
 module _ {P Q : Cpu → Type 0} (h : RowKeeps P Q) (memory : List ℕ) (c : Cpu) (has : P c) where
   had : P (after_write_back c)
   had = back h c has
 
-  results_leave : (n value : ℕ) → Leaves Q c (results c n value)
-  results_leave n value = h.moves _ (written h _ n value had)
-
-  sums_leave : (n : ℕ) (sum : Option ℕ) → Leaves Q c (sums c n sum)
-  sums_leave n None = tt
-  sums_leave n (Some sum) = results_leave n sum
-
-  loads_leave : (n : ℕ) (number : Option ℕ) → Leaves Q c (loads c n number)
-  loads_leave n None = tt
-  loads_leave n (Some number) = h.moves _ (pended h _ n number had)
-
-  pairs_leave : (hi lo : ℕ) → Leaves Q c (pairs c hi lo)
-  pairs_leave hi lo = h.moves _ (h.pairs _ hi lo had)
-
-  jumps_leave : (target : ℕ) → Leaves Q c (jumps c target)
-  jumps_leave target = h.jumps _ target had
-
-  links_leave : (n target : ℕ) → Leaves Q c (jumps_linked c n target)
-  links_leave n target = h.jumps _ target (written h _ n _ had)
-
-  stores_leave : (after : Option (List ℕ)) (storing : Storing)
-      → Leaves Q c (stores_as after c storing)
-  stores_leave None storing = tt
-  stores_leave (Some after) storing = h.moves _ had
-
-  parts_leave : (word : Option ℕ) (at : ℕ) (made : ℕ → ℕ)
-      → Leaves Q c (stores_made word c memory at made)
-  parts_leave None at made = tt
-  parts_leave (Some word) at made = stores_leave _ _
-
   effect_leaves : (inst : Inst) → Leaves Q c (effect_of inst memory c)
-  unfolding effect_of
-  effect_leaves (Sll rd rt sa) = results_leave rd _
-  effect_leaves (Srl rd rt sa) = results_leave rd _
-  effect_leaves (Sra rd rt sa) = results_leave rd _
-  effect_leaves (Sllv rd rt rs) = results_leave rd _
-  effect_leaves (Srlv rd rt rs) = results_leave rd _
-  effect_leaves (Srav rd rt rs) = results_leave rd _
-  effect_leaves (Jr rs) = jumps_leave _
-  effect_leaves (Jalr rd rs) = links_leave rd _
-  effect_leaves (Syscall n) = h.moves _ had
-  effect_leaves (Break n) = tt
-  effect_leaves (Mfhi rd) = results_leave rd _
-  effect_leaves (Mthi rs) = pairs_leave _ _
-  effect_leaves (Mflo rd) = results_leave rd _
-  effect_leaves (Mtlo rs) = pairs_leave _ _
-  effect_leaves (Mult rs rt) = pairs_leave _ _
-  effect_leaves (Multu rs rt) = pairs_leave _ _
-  effect_leaves (Div rs rt) = pairs_leave _ _
-  effect_leaves (Divu rs rt) = pairs_leave _ _
-  effect_leaves (Add rd rs rt) = sums_leave rd _
-  effect_leaves (Addu rd rs rt) = results_leave rd _
-  effect_leaves (Sub rd rs rt) = sums_leave rd _
-  effect_leaves (Subu rd rs rt) = results_leave rd _
-  effect_leaves (And rd rs rt) = results_leave rd _
-  effect_leaves (Or rd rs rt) = results_leave rd _
-  effect_leaves (Xor rd rs rt) = results_leave rd _
-  effect_leaves (Nor rd rs rt) = results_leave rd _
-  effect_leaves (Slt rd rs rt) = results_leave rd _
-  effect_leaves (Sltu rd rs rt) = results_leave rd _
-  effect_leaves (Bltz rs imm) = jumps_leave _
-  effect_leaves (Bgez rs imm) = jumps_leave _
-  effect_leaves (Bltzal rs imm) = links_leave 31 _
-  effect_leaves (Bgezal rs imm) = links_leave 31 _
-  effect_leaves (J target) = jumps_leave _
-  effect_leaves (Jal target) = links_leave 31 _
-  effect_leaves (Beq rs rt imm) = jumps_leave _
-  effect_leaves (Bne rs rt imm) = jumps_leave _
-  effect_leaves (Blez rs imm) = jumps_leave _
-  effect_leaves (Bgtz rs imm) = jumps_leave _
-  effect_leaves (Addi rt rs imm) = sums_leave rt _
-  effect_leaves (Addiu rt rs imm) = results_leave rt _
-  effect_leaves (Slti rt rs imm) = results_leave rt _
-  effect_leaves (Sltiu rt rs imm) = results_leave rt _
-  effect_leaves (Andi rt rs imm) = results_leave rt _
-  effect_leaves (Ori rt rs imm) = results_leave rt _
-  effect_leaves (Xori rt rs imm) = results_leave rt _
-  effect_leaves (Lui rt imm) = results_leave rt _
-  effect_leaves (Lb rt imm rs) = loads_leave rt _
-  effect_leaves (Lh rt imm rs) = loads_leave rt _
-  effect_leaves (Lwl rt imm rs) = loads_leave rt _
-  effect_leaves (Lw rt imm rs) = loads_leave rt _
-  effect_leaves (Lbu rt imm rs) = loads_leave rt _
-  effect_leaves (Lhu rt imm rs) = loads_leave rt _
-  effect_leaves (Lwr rt imm rs) = loads_leave rt _
-  effect_leaves (Sb rt imm rs) = stores_leave _ _
-  effect_leaves (Sh rt imm rs) = stores_leave _ _
-  effect_leaves (Swl rt imm rs) = parts_leave (word_round memory (place c rs imm)) _ _
-  effect_leaves (Sw rt imm rs) = stores_leave _ _
-  effect_leaves (Swr rt imm rs) = parts_leave (word_round memory (place c rs imm)) _ _
+  effect_leaves inst =
+      effect_pair (leaving h c _ (subst P (after_write_back-regs c) had) (h.moves _ had))
+      (after_write_back-regs c) memory inst
 
   fault_or : (b : Bool) (r : Row) → Leaves Q c r → Leaves Q c (cond b (Faults BranchInSlot) r)
   fault_or true r leaves = tt

@@ -27,3 +27,16 @@ pending-after_write_back c = clear_by c.pending c refl
 -- where nothing is, nothing changes
 pub after_write_back-none : (c : Cpu) → c.pending ≡ None → after_write_back c ≡ c
 after_write_back-none c none = ap (λ o. writes_back o c) none
+
+regs_by : (o : Option Pending) (c : Cpu) → c.pending ≡ o
+    → writes_back o c ≡ record c { regs = (writes_back o c).regs; pending = None }
+regs_by None c is = ap (λ o. record c { pending = o }) is
+regs_by (Some load) c is =
+    cond_both (load.reg == 0) c _
+    (λ (d : Cpu). record d { pending = None } ≡ record c { regs = d.regs; pending = None })
+    (λ zero. refl) (λ other. refl)
+
+-- but for that only registers change
+pub after_write_back-regs : (c : Cpu)
+    → after_write_back c ≡ record c { regs = (after_write_back c).regs; pending = None }
+after_write_back-regs c = regs_by c.pending c refl

@@ -7,7 +7,7 @@ use Rattle.iop_machine.specs.Modules.{NamedFile}
 use Rattle.iop_modload.specs.declared.limits.TheConstants.{LONGEST_FILE}
 use Rattle.iop_options.specs.Commands.{Command}
 use Rattle.iop_ports.specs.Sinks.{SinkTold, Sends}
-use Rattle.iop_script.specs.Reading.{empty_script, script_of}
+use Rattle.iop_script.specs.Reading.{BadLine, empty_script, script_of}
 use Rattle.iop_script.specs.Scripts.{Script}
 use Rattle.iop_trace.specs.Outs.{Leaves, output_with}
 use Rattle.iop_front.specs.Answers.{Answers, HasReadFiles, Outside, HasNoCommand, bad_words, no_memory_for_words, cannot_read, no_memory, from_files}
@@ -54,11 +54,12 @@ record IsLongInput (command : Command) (name : Option (List ℕ)) (files : List 
 
 -- behind a script that is not too long, by what it reads as
 long_behind : (command : Command) (name : List ℕ) (script : NamedFile) (modules : List NamedFile)
-    (long : NamedFile) (read : Result Script ℕ) → nat_lt LONGEST_FILE (length script.file) ≡ false
+    (long : NamedFile) (read : Result Script BadLine)
+    → nat_lt LONGEST_FILE (length script.file) ≡ false
     → first_too_long modules ≡ Some long → GoesOn AsScript (script ∷ modules)
     → script_of script.file ≡ read → IsLongInput command (Some name) (script ∷ modules) long
 long_behind command name script [] long read short e on is = absurd (cc)
-long_behind command name script (first ∷ rest) long (Err number) short e on is =
+long_behind command name script (first ∷ rest) long (Err found) short e on is =
     let bad : false ≡ true = sym (ap is_ok is) ∙ on in absurd (cc)
 long_behind command name script (first ∷ rest) long (Ok says) short e on is = record {
   script = Some script;
@@ -176,7 +177,7 @@ module _ {command : Command} {status : Status} {old new : Seen} {sinks after : O
       → IsAnswer command status old new sinks after
   answers_bad number h e line =
       let short = h.short in
-      let says = from_short h.file (Err number) (grind (arith, nat_tests, short)) h.bad in
+      let says = from_short h.file (Err h.found) (grind (arith, nat_tests, short)) h.bad in
       from_files (h.file.name ∷ []) h.left (Some h.file) [] (record {
         are_names = h.are_names;
         has_script = script_named command.script h.as_script;
@@ -184,7 +185,8 @@ module _ {command : Command} {status : Status} {old new : Seen} {sinks after : O
       }) (inr (inl (ap is_err says)))
       (refusal_meets status BadScript (bad_script_line number)
       (outcome_of_inputs command (Some h.file) []) sinks after
-      (ap (λ r. outcome_behind command r []) says) e line)
+      (ap (λ r. outcome_behind command r []) says
+      ∙ ap (λ n. refusal BadScript (bad_script_line n)) h.is_number) e line)
 
   pub answers_inputs : (script : Script) (modules : List NamedFile)
       → HasInputs command script modules old new → All IsShort modules

@@ -1,5 +1,5 @@
 -- The lines of a dump, one after the other, and its range.
-use Rattle.std.proofs.Common.{◌≡◌, ℕ, ◌+◌, ◌-◌, ◌*◌, ◌/◌, ◌%◌, ◌^◌, ◌<◌, ◌≤◌, nat_le, nat_lt, Bool, true, false, cond, ◌&&◌, Option, Some, None, option_map, option_and_then, is_some, List, [], ◌∷◌, ◌++◌, map, length, take, drop, refl, ap, sym, ◌∙◌, subst, arith}
+use Rattle.std.proofs.Common.{◌≡◌, ℕ, ◌+◌, ◌-◌, ◌*◌, ◌/◌, ◌%◌, ◌^◌, ◌<◌, ◌≤◌, nat_le, nat_lt, Bool, true, false, cond, ◌&&◌, Option, Some, None, option_map, option_and_then, is_some, List, [], ◌∷◌, ◌++◌, map, length, take, drop, refl, ap, sym, ◌∙◌, subst, leb-true, arith, inl, inr}
 use Rattle.std.specs.List.{range_with_len}
 use Rattle.std.proofs.lemmas.List.{length-drop, map-append, take-append-drop, drop-drop, length-take}
 use Rattle.std.proofs.lemmas.List.FromFn.{take-map-range_with_len, map-range_with_len_more}
@@ -7,8 +7,7 @@ use Rattle.std.proofs.lemmas.Bool.{and_parts}
 use Rattle.std.proofs.lemmas.Bool.Decides.{nat_tests}
 use Rattle.iop_base.specs.Piece.{Traced}
 use Rattle.iop_base.proofs.Giving.{adds_none, stops_before}
-use Rattle.iop_base.specs.Places.{is_mapped, range_at}
-use Rattle.iop_options.specs.declared.limits.TheConstants.{MEMORY_SIZE}
+use Rattle.iop_base.specs.Places.{IsRamSize, is_mapped, range_at}
 use Rattle.iop_options.specs.Values.{DumpRange}
 use Rattle.iop_ports.specs.Sinks.{SinkTold, Sends}
 use Rattle.iop_ram.specs.Windows.{window_of}
@@ -129,15 +128,16 @@ short_by memory bytes len (Some p) e =
     let is : take len (drop p memory) ≡ bytes = cc in
     subst (λ b. length b ≤ len) is (omega (arith, length-take len (drop p memory)))
 
--- a range has no more bytes than it says
-pub window_short : (memory bytes : List ℕ) (at len : ℕ) → window_of memory at len ≡ Some bytes
-    → length bytes ≤ len
-window_short memory bytes at len e = short_by memory bytes len (range_at (length memory) at len) e
+-- and it has a place
+placed_by : (memory bytes : List ℕ) (len : ℕ) (place : Option ℕ)
+    → option_map (λ p. take len (drop p memory)) place ≡ Some bytes → is_some place ≡ true
+placed_by memory bytes len None e = absurd (cc)
+placed_by memory bytes len (Some p) e = refl
 
 -- the tests of a range that is inside
-record IsInside (test : Bool) (place len : ℕ) : Type 0 where
+record IsInside (size : ℕ) (test : Bool) (place len : ℕ) : Type 0 where
   mapped : test ≡ true
-  inside : nat_le (place + len) MEMORY_SIZE ≡ true
+  inside : nat_le (place + len) size ≡ true
 
 -- where an option is there only if a test passes, it has passed
 inside_by : (b : Bool) (p : ℕ) → is_some (cond b (Some p) None) ≡ true → b ≡ true
@@ -145,24 +145,35 @@ inside_by true p e = refl
 inside_by false p e = absurd (cc)
 
 -- a range that has a place passes them
-is_inside : (b : Bool) (p len : ℕ)
-    → is_some (option_and_then (λ place. cond (nat_le (place + len) MEMORY_SIZE) (Some place) None)
-    (cond b (Some p) None)) ≡ true → IsInside b p len
-is_inside true p len e =
-    record { mapped = refl; inside = inside_by (nat_le (p + len) MEMORY_SIZE) p e }
-is_inside false p len e = absurd (cc)
+is_inside : (size : ℕ) (b : Bool) (p len : ℕ)
+    → is_some (option_and_then (λ place. cond (nat_le (place + len) size) (Some place) None)
+    (cond b (Some p) None)) ≡ true → IsInside size b p len
+is_inside size true p len e =
+    record { mapped = refl; inside = inside_by (nat_le (p + len) size) p e }
+is_inside size false p len e = absurd (cc)
 
 -- so its last address is below 2^32
-pub range_low : (at len : ℕ) → is_some (range_at MEMORY_SIZE at len) ≡ true → at + len < 2 ^ 32
-range_low at len e =
+range_low : (size at len : ℕ) → IsRamSize size → is_some (range_at size at len) ≡ true
+    → at + len < 2 ^ 32
+range_low size at len sized e =
     let segment = at / 0x20000000 in
     let place = at % 0x20000000 in
-    let is = is_inside (is_mapped segment && nat_lt place MEMORY_SIZE) place len e in
-    let mapped = (and_parts (is_mapped segment) (nat_lt place MEMORY_SIZE) is.mapped).0 in
+    let is = is_inside size (is_mapped segment && nat_lt place size) place len e in
+    let mapped = (and_parts (is_mapped segment) (nat_lt place size) is.mapped).0 in
     let low : segment ≤ 5 = grind (arith, nat_tests, mapped) in
-    let inside = is.inside in
-    let fits : place + len ≤ MEMORY_SIZE = grind (arith, nat_tests, inside) in
-    omega (arith, low, fits)
+    let fits : place + len ≤ size = leb-true (place + len) size is.inside in
+    let most : size ≤ 0x800000 =
+    elim sized [ inl e ↦ omega (arith, e) | inr e ↦ omega (arith, e) ] in
+    omega (arith, low, fits, most)
+
+-- and so are those of the bytes of a range of RAM, which are no more than it says
+pub window_low : (memory bytes : List ℕ) (at len : ℕ) → IsRamSize (length memory)
+    → window_of memory at len ≡ Some bytes → at + length bytes < 2 ^ 32
+window_low memory bytes at len sized e =
+    let place = range_at (length memory) at len in
+    let short = short_by memory bytes len place e in
+    let low = range_low (length memory) at len sized (placed_by memory bytes len place e) in
+    omega (arith, short, low)
 
 -- a range that is not inside has no lines
 pub nothing_dumped : (ram : List ℕ) (dump : Option DumpRange) (range : DumpRange)

@@ -1,5 +1,5 @@
 -- The ways in which files that were read are answered, and what each shows.
-use Rattle.std.proofs.Common.{◌≡◌, ◌≢◌, ◌⊎◌, ℕ, ◌<◌, nat_lt, Bool, true, false, cond, Option, Some, None, option_to_list, Result, Ok, Err, is_err, List, ◌++◌, length, refl, ap, sym, ◌∙◌, subst, arith, inl, inr}
+use Rattle.std.proofs.Common.{◌≡◌, ◌≢◌, ◌⊎◌, ◌<◌, nat_lt, Bool, true, false, cond, Option, Some, None, option_to_list, Result, Ok, Err, is_err, List, ◌++◌, length, refl, ap, sym, ◌∙◌, subst, arith, inl, inr}
 use Rattle.iop_base.specs.Counts.{HasCause}
 use Rattle.iop_base.specs.Piece.{Piece, Traced, Told}
 use Rattle.iop_base.specs.Output.{Output, HasNoFault, StopsShort, FailsAt}
@@ -10,8 +10,8 @@ use Rattle.iop_machine.specs.Stepping.{run_of}
 use Rattle.iop_machine.specs.World.{beginning}
 use Rattle.iop_modload.specs.declared.limits.TheConstants.{LONGEST_FILE}
 use Rattle.iop_options.specs.Commands.{Command}
-use Rattle.iop_options.specs.declared.limits.TheConstants.{MEMORY_SIZE}
-use Rattle.iop_script.specs.Reading.{empty_script, script_of}
+use Rattle.iop_options.specs.Values.{ram_bytes}
+use Rattle.iop_script.specs.Reading.{BadLine, empty_script, script_of}
 use Rattle.iop_script.specs.Scripts.{Script}
 use Rattle.iop_trace.specs.Outs.{Leaves}
 use Rattle.iop_front.specs.declared.status.Status.{Status}
@@ -22,10 +22,11 @@ use Rattle.iop_front.proofs.SendingLemmas.{ConsoleSame, refusal_console}
 use Rattle.iop_front.proofs.OutcomeLemmas.{from_short}
 
 -- the script's file is not too long, and has a bad line
-pub record IsBadScript (script : Option NamedFile) (named : NamedFile) (number : ℕ) : Type 0 where
+pub record IsBadScript (script : Option NamedFile) (named : NamedFile) (found : BadLine)
+    : Type 0 where
   pub is_named : script ≡ Some named
   pub short : nat_lt LONGEST_FILE (length named.file) ≡ false
-  pub bad : script_of named.file ≡ Err number
+  pub bad : script_of named.file ≡ Err found
 
 -- the first file of all that is too long; a script's bad line, where its file is not too long; the
 -- run, where no file is too long and the script is good; or a run that was cut
@@ -35,8 +36,8 @@ pub data Ended (script : Option NamedFile) (files : List NamedFile) (status : St
   as_too_long : (long : NamedFile) → first_too_long (option_to_list script ++ files) ≡ Some long
       → status ≡ TooLong → Refuses (too_long_line long.name) old new
       → Ended script files status old new
-  as_bad_script : (named : NamedFile) (number : ℕ) → IsBadScript script named number
-      → status ≡ BadScript → Refuses (bad_script_line number) old new
+  as_bad_script : (named : NamedFile) (found : BadLine) → IsBadScript script named found
+      → status ≡ BadScript → Refuses (bad_script_line found.number) old new
       → Ended script files status old new
   by_run : first_too_long files ≡ None → is_err (script_by script) ≡ false → (stop : Stop)
       → status ≡ status_of stop → HasNoFault old new → Ended script files status old new
@@ -75,13 +76,14 @@ module _ (command : Command) (files : List NamedFile) (status : Status) (old new
   ended_modules script says (Some long) is same good h =
       as_too_long long (same ∙ is) (h.0 ∙ either_way failed TooLong) (failed, h.1)
   ended_modules script says None is same good h =
-      let run = run_of command.budget (beginning MEMORY_SIZE
-      (modules_from says.args 1 (modules_to_load command.generate files)) says.events) in
+      let run = run_of command.budget (beginning (ram_bytes command.ram)
+      (modules_from says.args says.named 1 (modules_to_load command.generate files))
+      says.events) in
       ended_run script files status old new (outcome_of_modules command says files).pieces run.stop
       failed is good h.0 h.1
 
   -- by what a script's file that is not too long reads as
-  ended_script : (named : NamedFile) (read : Result Script ℕ)
+  ended_script : (named : NamedFile) (read : Result Script BadLine)
       → nat_lt LONGEST_FILE (length named.file) ≡ false → script_of named.file ≡ read
       → Came (outcome_behind command (script_read read) files)
       → Ended (Some named) files status old new
@@ -89,8 +91,8 @@ module _ (command : Command) (files : List NamedFile) (status : Status) (old new
       ended_modules (Some named) says (first_too_long files) refl
       (ap (λ b. cond b (Some named) (first_too_long files)) short)
       (ap is_err (from_short named (Ok says) short is)) h
-  ended_script named (Err number) short is h =
-      as_bad_script named number (record { is_named = refl; short = short; bad = is })
+  ended_script named (Err found) short is h =
+      as_bad_script named found (record { is_named = refl; short = short; bad = is })
       (h.0 ∙ either_way failed BadScript) (failed, h.1)
 
   -- by whether it is too long
@@ -148,9 +150,9 @@ pub record IsLong (script : Option NamedFile) (files : List NamedFile) (old new 
 -- the script's bad line
 pub record IsBad (script : Option NamedFile) (old new : Output) : Type 0 where
   pub named : NamedFile
-  pub number : ℕ
-  pub is_bad : IsBadScript script named number
-  pub line : Refuses (bad_script_line number) old new
+  pub found : BadLine
+  pub is_bad : IsBadScript script named found
+  pub line : Refuses (bad_script_line found.number) old new
 
 -- a count of a sink's
 failed_sink : (piece : Piece) (old new : Output) → FailsAt piece old new
@@ -212,14 +214,14 @@ shows {status = status} {old = old} {new = new} (as_too_long long is e h) =
       console = λ r. same;
       memory = λ s. absurd (omega (arith, s, code));
     }
-shows {status = status} {old = old} {new = new} (as_bad_script named number is e h) =
+shows {status = status} {old = old} {new = new} (as_bad_script named found is e h) =
     let code : status_code status ≡ 21 = ap status_code e in
-    let same = refusal_console (bad_script_line number) old new h in
+    let same = refusal_console (bad_script_line found.number) old new h in
     record {
       exit = inr (inl (inr (inl code)));
       others = (λ s. omega (arith, s, code), λ s. omega (arith, s, code));
       ran = λ r. absurd (grind (arith, code));
-      bad = λ s. record { named = named; number = number; is_bad = is; line = h };
+      bad = λ s. record { named = named; found = found; is_bad = is; line = h };
       too_long = λ s. absurd (omega (arith, s, code));
       cut = λ s. absurd (omega (arith, s, code));
       cut_shows = λ other. inr (inr (inl code));

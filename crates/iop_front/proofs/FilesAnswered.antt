@@ -7,7 +7,7 @@ use Rattle.iop_machine.specs.Modules.{NamedFile}
 use Rattle.iop_modload.specs.declared.limits.TheConstants.{LONGEST_FILE}
 use Rattle.iop_options.specs.Commands.{Command}
 use Rattle.iop_ports.specs.Files.{FilesTold}
-use Rattle.iop_script.specs.Reading.{script_of}
+use Rattle.iop_script.specs.Reading.{BadLine, script_of}
 use Rattle.iop_front.specs.Answers.{Outside, AreFilesOf, AreGoodFiles, EndsReading, FilesRead, HasReadInputs, HasRun, HasBadScript, IsTooLong, IsNameAsked}
 use Rattle.iop_front.specs.Named.{first_kind, files_of, AsScript, kind_by}
 use Rattle.iop_front.specs.Outcome.{Meets, outcome_of_inputs, OpensInOrder, none, more, read_limit}
@@ -18,45 +18,46 @@ use Rattle.iop_front.proofs.Endings.{IsRun, Shows, ended, shows, IsBadScript}
 use Rattle.iop_front.proofs.OpeningLemmas.{is_named, long_read, names_of, name_asked, short_whole, whole_front}
 
 -- behind a bad script no file was opened
-alone : {faults : ℕ} {name : List ℕ} {names : List (List ℕ)} {old new : FilesTold} (number : ℕ)
+alone : {faults : ℕ} {name : List ℕ} {names : List (List ℕ)} {old new : FilesTold} (found : BadLine)
     → OpensInOrder faults AsScript (name ∷ names) old new
-    → script_of (file_named old name) ≡ Err number
+    → script_of (file_named old name) ≡ Err found
     → OpensInOrder faults AsScript (name ∷ []) old new
-alone number (more first on none) bad = more first tt none
-alone number (more first on (more second later rest)) bad =
+alone found (more first on none) bad = more first tt none
+alone found (more first on (more second later rest)) bad =
     let never : true ≡ false = sym on.1 ∙ ap is_ok bad in absurd (cc)
 
 -- the script's file, where the files tell and where they do not
-record IsBadIn (name : List ℕ) (number faults : ℕ) (old new : Option FilesTold) : Type 0 where
+record IsBadIn (name : List ℕ) (found : BadLine) (faults : ℕ) (old new : Option FilesTold)
+    : Type 0 where
   read : FilesRead AsScript (name ∷ []) faults old new
-  bad : IfSome old (λ files. script_of (file_named files name) ≡ Err number)
+  bad : IfSome old (λ files. script_of (file_named files name) ≡ Err found)
   short : IfSome old (λ files. length (file_named files name) ≤ LONGEST_FILE)
 
 -- of the first file that was read
-bad_in : (named : NamedFile) (number : ℕ) (names : List (List ℕ)) (files : List NamedFile)
+bad_in : (named : NamedFile) (found : BadLine) (names : List (List ℕ)) (files : List NamedFile)
     (faults : ℕ) (old new : Option FilesTold) → length named.file ≤ LONGEST_FILE
-    → script_of named.file ≡ Err number → AreFilesOf (named.name ∷ names) (named ∷ files) old
+    → script_of named.file ≡ Err found → AreFilesOf (named.name ∷ names) (named ∷ files) old
     → FilesRead AsScript (named.name ∷ names) faults old new
-    → IsBadIn named.name number faults old new
-bad_in named number names files faults None new short bad are read =
+    → IsBadIn named.name found faults old new
+bad_in named found names files faults None new short bad are read =
     record { read = read; bad = tt; short = tt }
-bad_in named number names files faults (Some told) None short bad are read = absurd read
-bad_in named number names files faults (Some told) (Some after) short bad are read =
+bad_in named found names files faults (Some told) None short bad are read = absurd read
+bad_in named found names files faults (Some told) (Some after) short bad are read =
     let file = file_named told named.name in
     let front : named ≡ record { name = named.name; file = take read_limit file } = cc in
     let same : named.file ≡ take read_limit file = ap (λ (f : NamedFile). f.file) front in
     let fits = subst (λ t. length t ≤ LONGEST_FILE) same short in
     let whole : named.file ≡ file = same ∙ whole_front file fits in
-    let is : script_of file ≡ Err number = sym (ap script_of whole) ∙ bad in
-    record { read = alone number read is; bad = is; short = short_whole file fits }
+    let is : script_of file ≡ Err found = sym (ap script_of whole) ∙ bad in
+    record { read = alone found read is; bad = is; short = short_whole file fits }
 
 -- what 21 tells
-pub record IsBadOf (command : Command) (name : List ℕ) (number faults : ℕ)
+pub record IsBadOf (command : Command) (name : List ℕ) (found : BadLine) (faults : ℕ)
     (old new : Option FilesTold) : Type 0 where
   pub named : command.script ≡ Some name
   pub read : FilesRead AsScript (name ∷ []) faults old new
   pub asked : IfSome new (IsNameAsked name faults)
-  pub bad : IfSome old (λ files. script_of (file_named files name) ≡ Err number)
+  pub bad : IfSome old (λ files. script_of (file_named files name) ≡ Err found)
   pub short : IfSome old (λ files. length (file_named files name) ≤ LONGEST_FILE)
 
 -- the first of the names is the script's
@@ -73,16 +74,16 @@ kind_named (Some name) e = refl
 
 -- of the first file of a command
 bad_first : (command : Command) (names left : List (List ℕ)) (files : List NamedFile)
-    (named : NamedFile) (number faults : ℕ) (old new : Option FilesTold)
-    → length named.file ≤ LONGEST_FILE → script_of named.file ≡ Err number
+    (named : NamedFile) (found : BadLine) (faults : ℕ) (old new : Option FilesTold)
+    → length named.file ≤ LONGEST_FILE → script_of named.file ≡ Err found
     → files_of command ≡ names ++ left → is_some command.script ≡ true
     → AreFilesOf names (named ∷ files) old → FilesRead AsScript names faults old new
-    → IsBadOf command named.name number faults old new
-bad_first command names left files named number faults old new short bad are_names is are read =
+    → IsBadOf command named.name found faults old new
+bad_first command names left files named found faults old new short bad are_names is are read =
     let same : named.name ∷ map (λ (f : NamedFile). f.name) files ≡ names =
     names_of names (named ∷ files) old are in
     let rest = map (λ (f : NamedFile). f.name) files in
-    let h = bad_in named number rest files faults old new short bad
+    let h = bad_in named found rest files faults old new short bad
     (subst (λ (ns : List (List ℕ)). AreFilesOf ns (named ∷ files) old) (sym same) are)
     (subst (λ (ns : List (List ℕ)). FilesRead AsScript ns faults old new) (sym same) read) in
     record {
@@ -96,16 +97,17 @@ bad_first command names left files named number faults old new short bad are_nam
 
 -- of the script of a command
 bad_read : (command : Command) (names left : List (List ℕ)) (script : Option NamedFile)
-    (files : List NamedFile) (named : NamedFile) (number faults : ℕ) (old new : Option FilesTold)
-    → IsBadScript script named number → files_of command ≡ names ++ left
+    (files : List NamedFile) (named : NamedFile) (found : BadLine) (faults : ℕ)
+    (old new : Option FilesTold)
+    → IsBadScript script named found → files_of command ≡ names ++ left
     → is_some script ≡ is_some command.script
     → AreFilesOf names (option_to_list script ++ files) old
     → FilesRead (first_kind command) names faults old new
-    → IsBadOf command named.name number faults old new
-bad_read command names left script files named number faults old new bad are_names is are read =
+    → IsBadOf command named.name found faults old new
+bad_read command names left script files named found faults old new bad are_names is are read =
     let test = bad.short in
     let has : is_some command.script ≡ true = sym is ∙ ap is_some bad.is_named in
-    bad_first command names left files named number faults old new
+    bad_first command names left files named found faults old new
     (grind (arith, nat_tests, test)) bad.bad are_names has
     (subst (λ (s : Option NamedFile). AreFilesOf names (option_to_list s ++ files) old)
     bad.is_named are)
@@ -168,12 +170,12 @@ module _ {command : Command} {names left : List (List ℕ)} {script : Option Nam
   pub bad_script : status_code status ≡ 21 → HasBadScript command old new
   bad_script s =
       let is = shown.bad s in
-      let bad = bad_read command names left script files is.named is.number old.faults old.told
+      let bad = bad_read command names left script files is.named is.found old.faults old.told
       new.told is.is_bad was.are_names was.has_script was.read.are_files was.read.read in
       record {
         name = is.named.name;
         named = bad.named;
-        number = is.number;
+        found = is.found;
         line = is.line;
         read = bad.read;
         asked = bad.asked;
@@ -205,7 +207,7 @@ module _ {command : Command} {names left : List (List ℕ)} {script : Option Nam
     not_bad_script e =
         let is = bad_script e in
         let bad = subst
-        (λ o. IfSome o (λ files. script_of (file_named files is.name) ≡ Err is.number))
+        (λ o. IfSome o (λ files. script_of (file_named files is.name) ≡ Err is.found))
         has is.bad in
         let ok = subst (λ o. IfSome o (λ name. is_ok (script_of (file_named told name)) ≡ true))
         is.named good.script in

@@ -11,7 +11,7 @@ use Rattle.iop_machine.specs.Modules.{NamedFile}
 use Rattle.iop_modload.specs.declared.limits.TheConstants.{LONGEST_FILE}
 use Rattle.iop_options.specs.Commands.{Command}
 use Rattle.iop_ports.specs.Files.{FilesTold}
-use Rattle.iop_script.specs.Reading.{empty_script, script_of}
+use Rattle.iop_script.specs.Reading.{BadLine, empty_script, script_of}
 use Rattle.iop_script.specs.Scripts.{Script}
 use Rattle.iop_front.specs.Answers.{EndsReading}
 use Rattle.iop_front.specs.Outcome.{Outcome, Meets, first_too_long, script_by, outcome_behind, outcome_of_files, outcome_of_inputs, outcome_named, read_limit}
@@ -138,11 +138,11 @@ module _ (command : Command) (told : FilesTold) where
         ≡ outcome_of_inputs command (Some (whole name)) (map whole (names ++ left))
 
     -- by what the script's file reads as, if it is not too long
-    script_same : (read : Result Script ℕ)
+    script_same : (read : Result Script BadLine)
         → nat_lt LONGEST_FILE (length (file_named told name)) ≡ false
         → script_of (file_named told name) ≡ read → IsSame
-    script_same (Err number) short is =
-        let says = from_short (whole name) (Err number) short is in
+    script_same (Err bad) short is =
+        let says = from_short (whole name) (Err bad) short is in
         let same = ap (λ (f : NamedFile). script_by (Some f)) (short_front name short) in
         ap (λ r. outcome_behind command r (map front names)) (same ∙ says)
         ∙ sym (ap (λ r. outcome_behind command r (map whole (names ++ left))) says)

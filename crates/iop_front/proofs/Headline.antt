@@ -1,9 +1,9 @@
 -- The headline, by the laws of the machine.
-use Rattle.std.proofs.Common.{◌≡◌, ℕ, zero, suc, ◌≤◌, nat_lt, Bool, true, false, Option, Some, None, IfSome, is_ok, option_map, option_to_list, Result, Ok, Err, List, [], ◌++◌, All, length, map, refl, ap, ◌∙◌, subst, arith, inl, inr}
+use Rattle.std.proofs.Common.{◌≡◌, ℕ, zero, suc, ◌≤◌, nat_lt, Bool, true, false, Option, Some, None, IfSome, is_ok, option_map, option_to_list, Result, Ok, Err, List, [], ◌++◌, All, length, map, refl, ap, ◌∙◌, subst, arith, inr}
 use Rattle.std.proofs.lemmas.Bool.Decides.{nat_tests}
 use Rattle.std.proofs.lemmas.List.Elements.{All-head, All-tail, All-map}
 use Rattle.iop_base.specs.Places.{IsRamSize}
-use Rattle.iop_machine.specs.EventLaws.{EventsRaiseTheirLines, NextComingIsLeast, StepsTakeTheirEvents}
+use Rattle.iop_machine.specs.EventLaws.{EventsChangeTheirLines, NextComingIsLeast, StepsTakeTheirEvents}
 use Rattle.iop_machine.specs.Laws.{IsAwake, IsStrict, RunsAreAwake, RunsAreComputed, RunsAreCounted, RunsAreDelivered, RunsAreOnTime, RunsAreStrict, RunsBeginAsMachines, RunsEnd, RunsKeepEvents, RunsStayMachines, RunsStaySound}
 use Rattle.iop_machine.specs.ObjectLaws.{StepsKeepObjects}
 use Rattle.iop_machine.specs.StubLaws.{RunsTellStubs, StubsAreFollowed, StubsLeaveWithTheirLine}
@@ -15,10 +15,11 @@ use Rattle.iop_machine.specs.Stepping.{Ran, steps}
 use Rattle.iop_machine.specs.World.{World, beginning}
 use Rattle.iop_modload.specs.declared.limits.TheConstants.{LONGEST_FILE}
 use Rattle.iop_options.specs.Commands.{Command, command_of}
-use Rattle.iop_options.specs.declared.limits.TheConstants.{MEMORY_SIZE}
+use Rattle.iop_options.specs.Values.{ram_bytes}
+use Rattle.iop_options.proofs.ValueLemmas.{ram_sized}
 use Rattle.iop_ports.specs.Files.{FilesTold}
 use Rattle.iop_script.proofs.ScriptLaws.{script_of-can_run}
-use Rattle.iop_script.specs.Reading.{empty_script, script_of}
+use Rattle.iop_script.specs.Reading.{BadLine, empty_script, script_of}
 use Rattle.iop_script.specs.Scripts.{Script}
 use Rattle.iop_script.specs.declared.raise.Raise.{Raise}
 use Rattle.iop_front.specs.Answers.{AreGoodFiles}
@@ -36,7 +37,7 @@ use Rattle.iop_front.proofs.TakingLemmas.{none_too_long}
 
 -- the laws of runs
 pub record RunLaws : Type 0 where
-  pub events_raise_their_lines : EventsRaiseTheirLines
+  pub events_change_their_lines : EventsChangeTheirLines
   pub next_coming_is_least : NextComingIsLeast
   pub running_threads_were_taken : RunningThreadsWereTaken
   pub runs_are_awake : RunsAreAwake
@@ -57,64 +58,64 @@ pub record RunLaws : Type 0 where
   pub stubs_are_followed : StubsAreFollowed
   pub stubs_leave_with_their_line : StubsLeaveWithTheirLine
 
--- a machine of the command's size, whose events can come
-module _ (laws : RunLaws) (modules : List Module) (events : List Raise) (come : CanCome events)
-  where
-    abbrev first_world : World
-    first_world = beginning MEMORY_SIZE modules events
+-- a machine whose events can come
+module _ (laws : RunLaws) (size : ℕ) (sized : IsRamSize size) (modules : List Module)
+    (events : List Raise) (come : CanCome events) where
+  abbrev first_world : World
+  first_world = beginning size modules events
 
-    sized : IsRamSize MEMORY_SIZE
-    sized = inl refl
+  -- behind its first step
+  strict_after : (k : ℕ) → (steps k first_world).state.is_new ≡ false
+      → (steps k first_world).state.iop.over ≡ None → IsStrict (steps k first_world).state
+  unfolding steps
+  strict_after zero old over = absurd (cc)
+  strict_after (suc k) old over = laws.runs_are_strict size modules events k sized over
 
-    -- behind its first step
-    strict_after : (k : ℕ) → (steps k first_world).state.is_new ≡ false
-        → (steps k first_world).state.iop.over ≡ None → IsStrict (steps k first_world).state
-    unfolding steps
-    strict_after zero old over = absurd (cc)
-    strict_after (suc k) old over = laws.runs_are_strict MEMORY_SIZE modules events k sized over
+  awake_after : (k : ℕ) → (steps k first_world).state.is_new ≡ false
+      → (steps k first_world).state.iop.over ≡ None
+      → IsAwake (steps k first_world).state (takes_events (steps k first_world).state.iop)
+  unfolding steps
+  awake_after zero old over = absurd (cc)
+  awake_after (suc k) old over = laws.runs_are_awake size modules events k sized come over
 
-    awake_after : (k : ℕ) → (steps k first_world).state.is_new ≡ false
-        → (steps k first_world).state.iop.over ≡ None
-        → IsAwake (steps k first_world).state (takes_events (steps k first_world).state.iop)
-    unfolding steps
-    awake_after zero old over = absurd (cc)
-    awake_after (suc k) old over = laws.runs_are_awake MEMORY_SIZE modules events k sized come over
-
-    -- in each state, and in the step from there
-    holds_after : (k : ℕ) → HoldsAfter first_world events k
-    holds_after k =
-        let begins = laws.runs_begin_as_machines MEMORY_SIZE modules events sized come in
-        let machine = laws.runs_stay_machines first_world k begins in
-        let w = (steps k first_world).state in
-        record {
-          sound = laws.runs_stay_sound MEMORY_SIZE modules events k sized;
-          loads = λ m s h. (loads_exactly s m, loads_in_tell w h);
-          modules = leaves_modules w;
-          bound = λ stub. (is_bound_in w stub, all_bound w stub);
-          stubs = λ stub. laws.stubs_are_followed MEMORY_SIZE modules events k stub sized;
-          reported = λ stub bound. laws.runs_tell_stubs first_world k stub begins (inr bound);
-          leaves = λ stub. laws.stubs_leave_with_their_line w stub machine;
-          switches = laws.runs_switch_by_dispatch MEMORY_SIZE modules events k sized;
-          strict = strict_after k;
-          taken = λ id. laws.running_threads_were_taken MEMORY_SIZE modules events k id sized;
-          counted = laws.runs_are_counted MEMORY_SIZE modules events k sized;
-          delivered = laws.runs_are_delivered MEMORY_SIZE modules events k sized;
-          objects = λ kind. laws.steps_keep_objects w kind machine;
-          on_time = laws.runs_are_on_time w;
-          awake = awake_after k;
-          next = laws.next_coming_is_least w.iop;
-          events = laws.runs_keep_events MEMORY_SIZE modules events k;
-          due = laws.steps_take_their_events w;
-          raised = laws.events_raise_their_lines w.iop;
-        }
+  -- in each state, and in the step from there
+  holds_after : (k : ℕ) → HoldsAfter first_world events k
+  holds_after k =
+      let begins = laws.runs_begin_as_machines size modules events sized come in
+      let machine = laws.runs_stay_machines first_world k begins in
+      let w = (steps k first_world).state in
+      record {
+        sound = laws.runs_stay_sound size modules events k sized;
+        loads = λ m s h. (loads_exactly s m, loads_in_tell w h);
+        modules = leaves_modules w;
+        bound = λ stub. (is_bound_in w stub, all_bound w stub);
+        stubs = λ stub. laws.stubs_are_followed size modules events k stub sized;
+        reported = λ stub bound. laws.runs_tell_stubs first_world k stub begins (inr bound);
+        leaves = λ stub. laws.stubs_leave_with_their_line w stub machine;
+        switches = laws.runs_switch_by_dispatch size modules events k sized;
+        strict = strict_after k;
+        taken = λ id. laws.running_threads_were_taken size modules events k id sized;
+        counted = laws.runs_are_counted size modules events k sized;
+        delivered = laws.runs_are_delivered size modules events k sized;
+        objects = λ kind. laws.steps_keep_objects w kind machine;
+        on_time = laws.runs_are_on_time w;
+        awake = awake_after k;
+        next = laws.next_coming_is_least w.iop;
+        events = laws.runs_keep_events size modules events k;
+        due = laws.steps_take_their_events w;
+        changed = laws.events_change_their_lines w.iop;
+      }
 
 -- the run of a command by a script whose events can come
 pub holds_of_run : RunLaws → (command : Command) (script : Script) (files : List NamedFile)
     → CanCome script.events → HoldsOfRun command script files
 holds_of_run laws command script files come =
-    let modules = modules_from script.args 1 (modules_to_load command.generate files) in
+    let size = ram_bytes command.ram in
+    let sized = ram_sized command.ram in
+    let modules =
+    modules_from script.args script.named 1 (modules_to_load command.generate files) in
     let first = machine_of command script files in
-    let begins = laws.runs_begin_as_machines MEMORY_SIZE modules script.events (inl refl) come in
+    let begins = laws.runs_begin_as_machines size modules script.events sized come in
     let run = laws.runs_end first command.budget begins in
     record {
       steps_taken = run.0;
@@ -123,7 +124,7 @@ holds_of_run laws command script files come =
       ends = run.3;
       outcome = ap (λ (r : Ran). outcome_of_run command.dump r)
           (laws.runs_are_computed first command.budget run.0 run.1 begins run.3);
-      states = holds_after laws modules script.events come;
+      states = holds_after laws size sized modules script.events come;
     }
 
 -- what a good script's file says, and its events, which can come
@@ -143,7 +144,7 @@ module _ (told : FilesTold) where
   abbrev IsShortFile : List ℕ → Type 0
   IsShortFile name = length (file_named told name) ≤ LONGEST_FILE
 
-  read_by : (name : List ℕ) (r : Result Script ℕ)
+  read_by : (name : List ℕ) (r : Result Script BadLine)
       → nat_lt LONGEST_FILE (length (file_named told name)) ≡ false
       → script_of (file_named told name) ≡ r → is_ok r ≡ true → IsRead told (Some name)
   read_by name (Ok script) short e good =
@@ -153,7 +154,7 @@ module _ (told : FilesTold) where
         is = from_short (named_file told name) (Ok script) short e;
         come = record { order = runs.order; ticks = runs.ticks; lines = runs.lines };
       }
-  read_by name (Err number) short e good = absurd (cc)
+  read_by name (Err bad) short e good = absurd (cc)
 
   is_read : (name : Option (List ℕ)) (names : List (List ℕ))
       → All IsShortFile (option_to_list name ++ names)
@@ -188,12 +189,12 @@ holds_of_words laws words told command is good =
     }
 
 -- the events of a script's file, if there is one, can come
-come_by : (named : NamedFile) (long : Bool) (r : Result Script ℕ) (script : Script)
+come_by : (named : NamedFile) (long : Bool) (r : Result Script BadLine) (script : Script)
     → nat_lt LONGEST_FILE (length named.file) ≡ long → script_of named.file ≡ r
     → script_by (Some named) ≡ Ok script → CanCome script.events
 come_by named true r script fits e is = let refused = from_long named fits in absurd (cc)
-come_by named false (Err number) script fits e is =
-    let refused = from_short named (Err number) fits e in absurd (cc)
+come_by named false (Err bad) script fits e is =
+    let refused = from_short named (Err bad) fits e in absurd (cc)
 come_by named false (Ok one) script fits e is =
     let read = from_short named (Ok one) fits e in
     let same : one ≡ script = cc in

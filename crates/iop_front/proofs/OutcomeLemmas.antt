@@ -1,9 +1,9 @@
 -- What the script's file and those of modules say of the outcome.
-use Rattle.std.proofs.Common.{◌≡◌, ℕ, nat_lt, true, false, cond, Option, Some, Result, Err, List, length, ap, ◌∙◌}
+use Rattle.std.proofs.Common.{◌≡◌, nat_lt, true, false, cond, Option, Some, Result, Err, List, length, ap, ◌∙◌}
 use Rattle.iop_machine.specs.Modules.{NamedFile}
 use Rattle.iop_modload.specs.declared.limits.TheConstants.{LONGEST_FILE}
 use Rattle.iop_options.specs.Commands.{Command}
-use Rattle.iop_script.specs.Reading.{script_of}
+use Rattle.iop_script.specs.Reading.{BadLine, script_of}
 use Rattle.iop_script.specs.Scripts.{Script}
 use Rattle.iop_front.specs.Outcome.{refusal, first_too_long, outcome_by, outcome_of_files, script_by, script_read, too_long_line}
 use Rattle.iop_front.specs.declared.status.Status.TheVariants.{TooLong}
@@ -23,7 +23,7 @@ from_long named long =
     (script_read (script_of named.file))) long
 
 -- and of one that is not, by what it reads as
-pub from_short : (named : NamedFile) (read : Result Script ℕ)
+pub from_short : (named : NamedFile) (read : Result Script BadLine)
     → nat_lt LONGEST_FILE (length named.file) ≡ false → script_of named.file ≡ read
     → script_by (Some named) ≡ script_read read
 from_short named read short is =

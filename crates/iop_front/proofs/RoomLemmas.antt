@@ -1,13 +1,15 @@
 -- The modules that a command names are few and short, and those that were read have room in the
 -- machine, each with its words of the script.
-use Rattle.std.proofs.Common.{◌≡◌, ℕ, suc, ◌+◌, ◌<◌, ◌≤◌, ◌==◌, Bool, true, false, cond, Option, Some, None, option_map, unwrap_or, MatchOption, List, [], ◌∷◌, All, map, find, length, sum_by, refl, sym, subst, arith}
+use Rattle.std.proofs.Common.{◌≡◌, ℕ, suc, ◌+◌, ◌<◌, ◌≤◌, ◌==◌, bytes_eq, Bool, true, false, cond, Option, Some, None, IfSome, option_map, unwrap_or, MatchOption, List, [], ◌∷◌, All, map, find, length, refl, sym, subst, arith}
 use Rattle.std.proofs.lemmas.List.{length-append, length-map}
 use Rattle.std.proofs.lemmas.List.Elements.{All-nil, All-cons, All-head, All-tail}
 use Rattle.std.proofs.lemmas.List.Sums.{sum_by-cons}
+use Rattle.std.specs.Option.{option_or}
 use Rattle.iop_machine.specs.Modules.{NamedFile, HasRoom, modules_from, strings}
 use Rattle.iop_options.specs.Commands.{AreModules}
 use Rattle.iop_options.specs.declared.limits.TheConstants.{LONGEST_WORD}
-use Rattle.iop_script.specs.Scripts.{Args, words_for}
+use Rattle.iop_script.specs.Laws.{CanRun, bytes_of_words}
+use Rattle.iop_script.specs.Scripts.{Args, Named, Script, words_of_number, words_of_name, words_for}
 use Rattle.iop_script.specs.declared.statements.TheConstants.{MOST_MODULES}
 use Rattle.iop_front.specs.Inputs.{IsShort}
 
@@ -51,15 +53,14 @@ words_short bytes generate words h =
 -- the words that a script has for a module have room behind the module's own
 record AreShort (words : List (List ℕ)) : Type 0 where
   count : length words ≤ 15
-  bytes : sum_by (λ word. length word + 1) words < 2048
+  bytes : bytes_of_words words < 2048
 
 -- where it has none, nothing is there
 none_short : AreShort []
 none_short = record { count = omega arith; bytes = omega arith }
 
 -- each word is ended by a zero byte
-strings_length : (words : List (List ℕ))
-    → length (strings words) ≡ sum_by (λ word. length word + 1) words
+strings_length : (words : List (List ℕ)) → length (strings words) ≡ bytes_of_words words
 strings_length [] = refl
 strings_length (word ∷ words) =
     omega (
@@ -69,27 +70,34 @@ strings_length (word ∷ words) =
       sum_by-cons (λ (w : List ℕ). length w + 1) word words,
     )
 
--- those of the first that is found, or of another
-found_by : (b : Bool) (first : Args) (args : List Args) (number : ℕ)
-    → length first.words ≤ 15 → sum_by (λ word. length word + 1) first.words < 2048
-    → AreShort (words_for args number)
-    → AreShort (unwrap_or (option_map (λ (a : Args). a.words)
-    (cond b (Some first) (find (λ (a : Args). a.number == number) args))) [])
-found_by true first args number count bytes h = record { count = count; bytes = bytes }
-found_by false first args number count bytes h = h
+-- entries of a script, each with words, and a test that one may meet
+module _ {S : Type 0} (words : S → List (List ℕ)) (test : S → Bool) where
+  -- what is found is the first, or another
+  found_by : (b : Bool) (first : S) (rest : List S) → AreShort (words first)
+      → IfSome (option_map words (find test rest)) AreShort
+      → IfSome (option_map words (cond b (Some first) (find test rest))) AreShort
+  found_by true first rest short later = short
+  found_by false first rest short later = later
 
--- and so are those for each number
-found_short : (args : List Args) (number : ℕ)
-    → All (λ a. length a.words ≤ 15) args
-    → All (λ a. sum_by (λ word. length word + 1) a.words < 2048) args
-    → AreShort (words_for args number)
-found_short [] number counts bytes = none_short
-found_short (first ∷ args) number counts bytes =
-    let short : (a : Args) → Type 0 = λ a. length a.words ≤ 15 in
-    let few : (a : Args) → Type 0 = λ a. sum_by (λ word. length word + 1) a.words < 2048 in
-    found_by (first.number == number) first args number (All-head short first args counts)
-    (All-head few first args bytes)
-    (found_short args number (All-tail short first args counts) (All-tail few first args bytes))
+  -- the words of the one that is found are short, where those of each are
+  found_short : (entries : List S) → All (λ x. length (words x) ≤ 15) entries
+      → All (λ x. bytes_of_words (words x) < 2048) entries
+      → IfSome (option_map words (find test entries)) AreShort
+  found_short [] counts bytes = tt
+  found_short (first ∷ rest) counts bytes =
+      let few : S → Type 0 = λ x. length (words x) ≤ 15 in
+      let small : S → Type 0 = λ x. bytes_of_words (words x) < 2048 in
+      found_by (test first) first rest (record {
+        count = All-head few first rest counts;
+        bytes = All-head small first rest bytes;
+      }) (found_short rest (All-tail few first rest counts) (All-tail small first rest bytes))
+
+-- those of a number, else those of a name, else none
+either_short : (one other : Option (List (List ℕ))) → IfSome one AreShort → IfSome other AreShort
+    → AreShort (unwrap_or (option_or one other) [])
+either_short None None h k = none_short
+either_short None (Some words) h k = k
+either_short (Some words) other h k = h
 
 -- a module has room with them
 has_room : (number : ℕ) (named : NamedFile) (words : List (List ℕ)) → IsShort named → AreShort words
@@ -102,18 +110,28 @@ has_room number named words h short = record {
       omega (arith, all, h.name, strings_length words, short.bytes);
 }
 
--- they have room where each list of words is short
-module _ (args : List Args) (counts : All (λ a. length a.words ≤ 15) args)
-    (bytes : All (λ a. sum_by (λ word. length word + 1) a.words < 2048) args) where
+-- of a script that can run
+module _ (script : Script) (runs : CanRun script) where
+  -- the words for each module are short
+  handed_short : (number : ℕ) (name : List ℕ)
+      → AreShort (words_for script.args script.named number name)
+  handed_short number name =
+      either_short (words_of_number script.args number) (words_of_name script.named name)
+      (found_short (λ (a : Args). a.words) (λ (a : Args). a.number == number) script.args
+      runs.counts runs.bytes)
+      (found_short (λ (n : Named). n.words) (λ (n : Named). bytes_eq n.name name) script.named
+      runs.named_counts runs.named_bytes)
+
+  -- so each module has room
   pub have_room : (number : ℕ) (files : List NamedFile) → All IsShort files
-      → All HasRoom (modules_from args number files)
+      → All HasRoom (modules_from script.args script.named number files)
   have_room number [] h = All-nil HasRoom
   have_room number (named ∷ files) h =
       All-cons HasRoom (record {
         number = number;
-        words = named.name ∷ words_for args number;
+        words = named.name ∷ words_for script.args script.named number named.name;
         file = named.file;
-      }) (modules_from args (suc number) files)
-      (has_room number named (words_for args number) (All-head IsShort named files h)
-      (found_short args number counts bytes))
+      }) (modules_from script.args script.named (suc number) files)
+      (has_room number named (words_for script.args script.named number named.name)
+      (All-head IsShort named files h) (handed_short number named.name))
       (have_room (suc number) files (All-tail IsShort named files h))

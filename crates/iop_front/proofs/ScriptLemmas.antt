@@ -5,7 +5,7 @@ use Rattle.iop_machine.specs.Modules.{NamedFile}
 use Rattle.iop_modload.specs.declared.limits.TheConstants.{LONGEST_FILE}
 use Rattle.iop_options.specs.Commands.{Command}
 use Rattle.iop_script.specs.Answers.{Gives}
-use Rattle.iop_script.specs.Reading.{empty_script, script_of}
+use Rattle.iop_script.specs.Reading.{empty_script, bad_line, script_of}
 use Rattle.iop_script.specs.Scripts.{Script}
 use Rattle.iop_script.specs.declared.fault.ScriptFault.{ScriptFault}
 use Rattle.iop_script.specs.declared.fault.ScriptFault.TheVariants.{Line, Memory}
@@ -21,7 +21,8 @@ module _ (name file : List ℕ) (old new : Seen) (short : length file ≤ LONGES
   -- a file was read that is no script, or there was no memory for it
   pub stops_by_fault : (fault : ScriptFault) → Gives (Err fault) (script_of file)
       → HasStopped AsScript (name ∷ []) (unread_of fault) old new
-  stops_by_fault (Line number) bad = stops_bad name file number old new short bad taken
+  stops_by_fault (Line number rule) bad =
+      stops_bad name file (bad_line number rule) old new short bad taken
   stops_by_fault Memory h =
       stops_short AsScript (name ∷ []) (name ∷ []) [] (record { name = name; file = file } ∷ []) old
       new refl taken

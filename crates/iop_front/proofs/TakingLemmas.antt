@@ -12,7 +12,7 @@ use Rattle.iop_machine.specs.Modules.{NamedFile}
 use Rattle.iop_modload.specs.declared.limits.TheConstants.{LONGEST_FILE}
 use Rattle.iop_ports.specs.Files.{FilesTold}
 use Rattle.iop_ports.specs.declared.ports.Failed.{Failed}
-use Rattle.iop_script.specs.Reading.{script_of}
+use Rattle.iop_script.specs.Reading.{BadLine, script_of}
 use Rattle.iop_front.specs.Answers.{FilesRead, AreFilesOf}
 use Rattle.iop_front.specs.Inputs.{Seen, GoesOn, HasTaken, HasStopped, HasStoppedUnread, HasStoppedTooLong, HasStoppedBad, IsShort}
 use Rattle.iop_front.specs.Outcome.{IsGoodFile, OpensAndReads, none, more, read_limit, first_too_long}
@@ -170,6 +170,8 @@ module _ (kind : FileKind) (names more : List (List ℕ)) (old new : Seen) where
     are_names = ap (λ t. t ++ more) h.are_names;
     taken = h.taken;
     short = h.short;
+    found = h.found;
+    is_number = h.is_number;
     bad = h.bad;
   }
   stops_before NoMemory h = record {
@@ -257,17 +259,19 @@ stops_too_long kind name file old new long h = record {
 }
 
 -- a script has a bad line
-pub stops_bad : (name file : List ℕ) (number : ℕ) (old new : Seen) → length file ≤ LONGEST_FILE
-    → script_of file ≡ Err number
+pub stops_bad : (name file : List ℕ) (found : BadLine) (old new : Seen)
+    → length file ≤ LONGEST_FILE → script_of file ≡ Err found
     → HasTaken AsScript (name ∷ []) (record { name = name; file = file } ∷ []) old new
-    → HasStoppedBad AsScript (name ∷ []) number old new
-stops_bad name file number old new short bad h = record {
+    → HasStoppedBad AsScript (name ∷ []) found.number old new
+stops_bad name file found old new short bad h = record {
   as_script = refl;
   file = record { name = name; file = file };
   left = [];
   are_names = refl;
   taken = h;
   short = short;
+  found = found;
+  is_number = refl;
   bad = bad;
 }
 

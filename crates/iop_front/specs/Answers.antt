@@ -6,7 +6,7 @@ use Rattle.iop_machine.specs.Modules.{NamedFile}
 use Rattle.iop_modload.specs.declared.limits.TheConstants.{LONGEST_FILE}
 use Rattle.iop_ports.specs.Files.{FilesTold, IsAskedName}
 use Rattle.iop_ports.specs.Sinks.{SinkTold}
-use Rattle.iop_script.specs.Reading.{script_of}
+use Rattle.iop_script.specs.Reading.{BadLine, script_of}
 use Rattle.iop_trace.specs.Outs.{sinks}
 use Rattle.iop_front.specs.declared.status.Status.{Status}
 use Rattle.iop_front.specs.declared.status.Status.TheVariants.{BadWords, CannotRead, NoMemory}
@@ -123,11 +123,11 @@ pub record HasRun (command : Command) (code : ℕ) (before after : Outside) : Ty
 pub record HasBadScript (command : Command) (before after : Outside) : Type 0 where
   pub name : List ℕ
   pub named : command.script ≡ Some name
-  pub number : ℕ
-  pub line : Refuses (bad_script_line number) before.sinks after.sinks
+  pub found : BadLine
+  pub line : Refuses (bad_script_line found.number) before.sinks after.sinks
   pub read : FilesRead AsScript (name ∷ []) before.faults before.told after.told
   pub asked : IfSome after.told (IsNameAsked name before.faults)
-  pub bad : IfSome before.told (λ files. script_of (file_named files name) ≡ Err number)
+  pub bad : IfSome before.told (λ files. script_of (file_named files name) ≡ Err found)
   pub short : IfSome before.told (λ files. length (file_named files name) ≤ LONGEST_FILE)
 
 -- 22: a file that is named was not read. Its line was written, and where the files tell, its name is

@@ -6,7 +6,7 @@ use Rattle.iop_base.specs.declared.stop.Stop.{Stop}
 use Rattle.iop_kernel.specs.CodeLaws.{calls_kind, KeepsObjects}
 use Rattle.iop_kernel.specs.Histories.{AreCounted, AreDelivered}
 use Rattle.iop_kernel.specs.Kinds.{table}
-use Rattle.iop_machine.specs.EventLaws.{TakesItsEvents, RaisesLines, IsNextComing, NothingComes}
+use Rattle.iop_machine.specs.EventLaws.{TakesItsEvents, ChangesLines, IsNextComing, NothingComes}
 use Rattle.iop_machine.specs.Histories.{call_in, calls_in}
 use Rattle.iop_machine.specs.Laws.{IsAwake, IsOnTime, IsStrict, KeepsEvents, StaysSound}
 use Rattle.iop_machine.specs.Looking.{takes_events, next_coming}
@@ -18,7 +18,7 @@ use Rattle.iop_machine.specs.SwitchLaws.{RunsSince, SwitchesByDispatch, running_
 use Rattle.iop_machine.specs.World.{World, beginning}
 use Rattle.iop_machine.specs.Iop.{Iop}
 use Rattle.iop_options.specs.Commands.{Command, command_of}
-use Rattle.iop_options.specs.declared.limits.TheConstants.{MEMORY_SIZE}
+use Rattle.iop_options.specs.Values.{ram_bytes}
 use Rattle.iop_ports.specs.Files.{FilesTold}
 use Rattle.iop_script.specs.Scripts.{Script}
 use Rattle.iop_script.specs.declared.raise.Raise.{Raise}
@@ -97,15 +97,16 @@ module _ (first : World) (coming : List Raise) (k : ℕ) where
     pub events : KeepsEvents coming reached.iop
     -- The step takes those that are due, and no others.
     pub due : reached.is_new ≡ false → reached.iop.over ≡ None → TakesItsEvents reached
-    -- They raise their interrupt lines, and change nothing else.
-    pub raised : RaisesLines reached.iop
+    -- They raise or lower their interrupt lines, as the last of each says, and change nothing else.
+    pub changed : ChangesLines reached.iop
 
--- the machine before the first step of a command's run: it has 2 MiB of zeros, is to load these
--- modules, in order, or the generated one, each with its words of the script, and the script's
--- events are to come
+-- the machine before the first step of a command's run: its memory has the command's size and is
+-- zeros, it is to load these modules, in order, or the generated one, each with its words of the
+-- script, and the script's events are to come
 abbrev pub machine_of : Command → Script → List NamedFile → World
 machine_of command script files =
-    beginning MEMORY_SIZE (modules_from script.args 1 (modules_to_load command.generate files))
+    beginning (ram_bytes command.ram)
+    (modules_from script.args script.named 1 (modules_to_load command.generate files))
     script.events
 
 -- of the run of a command by what its script says, and these files

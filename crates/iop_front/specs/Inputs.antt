@@ -12,14 +12,14 @@ use Rattle.iop_front.specs.declared.unread.Unread.{Unread}
 use Rattle.iop_front.specs.declared.unread.Unread.TheVariants.{Unreadable, TooLong, BadScript, NoMemory}
 use Rattle.iop_options.specs.Commands.{Command}
 use Rattle.iop_front.specs.Named.{FileKind, AsScript, kind_by, first_kind, files_of}
-use Rattle.iop_script.specs.Reading.{empty_script, script_of}
+use Rattle.iop_script.specs.Reading.{BadLine, empty_script, script_of}
 use Rattle.iop_script.specs.Scripts.{Script}
 use Rattle.iop_script.specs.declared.fault.ScriptFault.{ScriptFault}
 use Rattle.iop_script.specs.declared.fault.ScriptFault.TheVariants.{Line, Memory}
 
 -- why a script's text with this fault is not read
 abbrev pub unread_of : ScriptFault → Unread
-unread_of (Line number) = BadScript number
+unread_of (Line number rule) = BadScript number
 unread_of Memory = NoMemory
 
 -- what can be seen of the files: what they tell, and how often they have failed
@@ -71,7 +71,7 @@ pub record HasStoppedTooLong (kind : FileKind) (names : List (List ℕ)) (name :
   pub taken : HasTaken kind opened files old new
   pub decides : first_too_long files ≡ Some (record { name = name; file = file })
 
--- the file of this name, the first, is a script with a bad line, and none behind it was opened
+-- the first file is a script whose first bad line has this number, and none behind it was opened
 pub record HasStoppedBad (kind : FileKind) (names : List (List ℕ)) (number : ℕ)
     (old new : Seen) : Type 0 where
   pub as_script : kind ≡ AsScript
@@ -80,7 +80,9 @@ pub record HasStoppedBad (kind : FileKind) (names : List (List ℕ)) (number : �
   pub are_names : names ≡ file.name ∷ left
   pub taken : HasTaken kind (file.name ∷ []) (file ∷ []) old new
   pub short : length file.file ≤ LONGEST_FILE
-  pub bad : script_of file.file ≡ Err number
+  pub found : BadLine
+  pub is_number : found.number ≡ number
+  pub bad : script_of file.file ≡ Err found
 
 -- there was no memory, and no further file was opened
 pub record HasStoppedShort (kind : FileKind) (names : List (List ℕ)) (old new : Seen)

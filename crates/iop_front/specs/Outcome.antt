@@ -13,14 +13,13 @@ use Rattle.iop_machine.specs.World.{World, beginning}
 use Rattle.iop_modload.specs.declared.limits.TheConstants.{LONGEST_FILE}
 use Rattle.iop_ports.specs.Files.{FilesTold}
 use Rattle.iop_ports.specs.Sinks.{SinkTold}
-use Rattle.iop_script.specs.Reading.{empty_script, script_of}
+use Rattle.iop_script.specs.Reading.{BadLine, empty_script, script_of}
 use Rattle.iop_script.specs.Scripts.{Script}
 use Rattle.iop_trace.specs.Dumps.{dump_lines}
 use Rattle.iop_trace.specs.Outs.{Leaves, output_with}
 use Rattle.iop_ram.specs.Windows.{window_of}
 use Rattle.iop_generator.specs.Sources.{source, file_of_source}
-use Rattle.iop_options.specs.declared.limits.TheConstants.{MEMORY_SIZE}
-use Rattle.iop_options.specs.Values.{DumpRange}
+use Rattle.iop_options.specs.Values.{DumpRange, ram_bytes}
 use Rattle.iop_front.specs.declared.status.Status.{Status}
 use Rattle.iop_front.specs.declared.status.Status.TheVariants.{BadWords, BadScript, TooLong, SinkFault, NoMemory}
 use Rattle.iop_options.specs.Commands.{Command}
@@ -86,7 +85,8 @@ modules_to_load (Some workers) files = generated_module workers ∷ []
 -- the run of the machine that loads the modules, one after the other, as the command and the script say
 abbrev pub outcome_of_modules : Command → Script → List NamedFile → Outcome
 outcome_of_modules command script files = outcome_of_run command.dump (run_of command.budget
-    (beginning MEMORY_SIZE (modules_from script.args 1 (modules_to_load command.generate files))
+    (beginning (ram_bytes command.ram)
+    (modules_from script.args script.named 1 (modules_to_load command.generate files))
     script.events))
 
 -- the first file that is too long
@@ -103,9 +103,9 @@ abbrev pub outcome_of_files : Command → Script → List NamedFile → Outcome
 outcome_of_files command script files = outcome_by command (first_too_long files) script files
 
 -- a script, or the refusal of its first bad line
-abbrev pub script_read : Result Script ℕ → Result Script Outcome
+abbrev pub script_read : Result Script BadLine → Result Script Outcome
 script_read (Ok script) = Ok script
-script_read (Err number) = Err (refusal BadScript (bad_script_line number))
+script_read (Err bad) = Err (refusal BadScript (bad_script_line bad.number))
 
 -- the script of a file, or the refusal of the file: it is too long, or has a bad line
 abbrev pub script_from : NamedFile → Result Script Outcome

@@ -16,7 +16,7 @@ use crate::running::run_to_end;
 use crate::status::Status;
 use crate::unread::Unread;
 use iop_machine::Machine;
-use iop_options::{MEMORY_SIZE, Options, WordFault, parse_options};
+use iop_options::{Options, WordFault, parse_options};
 use iop_ports::{Files, Sink};
 use std::alloc::Global;
 
@@ -39,7 +39,7 @@ fn run_modules<C: Sink, T: Sink>(
     let Ok(modules) = modules_to_load(alloc, options.generate, modules) else {
         return Status::NoMemory;
     };
-    match Machine::new(alloc, MEMORY_SIZE, modules, script) {
+    match Machine::new(alloc, options.ram.bytes(), modules, script) {
         Ok(mut machine) => run_to_end(&mut machine, options, console, trace),
         Err(_) => Status::NoMemory,
     }

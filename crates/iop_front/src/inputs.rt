@@ -33,6 +33,7 @@ fn no_script(alloc: Global) -> Script
     Script {
         events: Vec::new(alloc),
         args: Vec::new(alloc),
+        named: Vec::new(alloc),
     }
 }
 

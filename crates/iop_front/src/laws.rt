@@ -16,7 +16,7 @@ use iop_machine::laws;
 pub fn headline()
     ensures { Headline }
 {
-    laws::events_raise_their_lines();
+    laws::events_change_their_lines();
     laws::next_coming_is_least();
     laws::running_threads_were_taken();
     laws::runs_are_awake();

@@ -33,7 +33,7 @@ impl<'a> From<ScriptFault> for Unread<'a> {
 
     fn from(fault: ScriptFault) -> Self {
         match fault {
-            ScriptFault::Line(number) => Unread::BadScript(number),
+            ScriptFault::Line { number, .. } => Unread::BadScript(number),
             ScriptFault::Memory => Unread::NoMemory,
         }
     }

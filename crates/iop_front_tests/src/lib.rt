@@ -9,9 +9,13 @@ mod faults;
 #[cfg(test)]
 mod options;
 #[cfg(test)]
+mod scripts;
+#[cfg(test)]
 mod several_files;
 #[cfg(test)]
 mod single_files;
+#[cfg(test)]
+mod sizes;
 #[cfg(test)]
 mod sources;
 #[cfg(test)]

@@ -116,7 +116,7 @@ fn budgets(rt: HostRuntime) -> Result<(), Fail> {
 }
 
 /// Commands that call no file.
-const WITHOUT_FILES: [Run; 6] = [
+const WITHOUT_FILES: [Run; 7] = [
     Run {
         words: "--generate 1",
         files: &[],
@@ -147,6 +147,13 @@ const WITHOUT_FILES: [Run; 6] = [
     },
     Run {
         words: "--generate 0",
+        files: &[],
+        status: Status::BadWords,
+        text: "",
+        trace: Some("iop: bad words\n"),
+    },
+    Run {
+        words: "--ram 4 a.irx",
         files: &[],
         status: Status::BadWords,
         text: "",

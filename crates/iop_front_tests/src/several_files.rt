@@ -1,9 +1,8 @@
-//! Commands that name several files, a script among them.
+//! Commands that name several files.
 
 use crate::commands::{Calls, Content, NO_FAULTS, Run, answer_all, answers, calls_of};
 use crate::sources::{
-    FREES_ITSELF, HANDLES_LINE_5, IMPORTS_MISSING, IMPORTS_SHOUT, PLAIN, PUTS_IN_A_FUNCTION,
-    TAKES_ITSELF_AGAIN,
+    FREES_ITSELF, IMPORTS_MISSING, IMPORTS_SHOUT, PLAIN, PUTS_IN_A_FUNCTION, TAKES_ITSELF_AGAIN,
 };
 use iop_front::Status;
 use std::test::Fail;
@@ -179,42 +178,6 @@ const LINKED: [Run; 4] = [
 #[test]
 fn libraries_of_modules(rt: HostRuntime) -> Result<(), Fail> {
     answer_all(&rt, rt.alloc(), &LINKED)
-}
-
-/// A module that handles line 5, under a script.
-const SCRIPTED: [Run; 2] = [
-    Run {
-        words: "--script script a.irx",
-        files: &[
-            ("script", Content::Text("script 1\nat 100 line 5\n")),
-            ("a.irx", Content::Module(HANDLES_LINE_5)),
-        ],
-        status: Status::Quiet,
-        text: "",
-        trace: Some(
-            "0 load 1 ok 00010000 00000058
-0 run 1
-19 result 1 0 resident
-100 line 5
-103 end quiet
-",
-        ),
-    },
-    Run {
-        words: "--script script a.irx",
-        files: &[
-            ("script", Content::Text("script 1\nat 100 line 64\n")),
-            ("a.irx", Content::Module(HANDLES_LINE_5)),
-        ],
-        status: Status::BadScript,
-        text: "",
-        trace: Some("iop: script line 2\n"),
-    },
-];
-
-#[test]
-fn lines_of_a_script(rt: HostRuntime) -> Result<(), Fail> {
-    answer_all(&rt, rt.alloc(), &SCRIPTED)
 }
 
 /// The second of three files decides: it is not there, or too long. How often the files are called,

@@ -8,7 +8,7 @@ use Rattle.std.proofs.lemmas.Bool.{lt-ltb, le-ltb, eq-eqb, ne_eqb, and_parts}
 use Rattle.iop_base.specs.Bits.{has, ChangesOnly}
 use Rattle.iop_base.specs.declared.code.Code.{Code}
 use Rattle.iop_base.specs.declared.code.TheConstants.Code.{OK, ILLEGAL_INTERRUPT, LINE_DISABLED, HANDLER_FOUND, HANDLER_NOT_FOUND}
-use Rattle.iop_intr.specs.InterruptLines.{IrqLine, line_of, on_line, is_ready, is_deliverable, register_line, release_line, enable_line, disable_line, registering, releasing, enabling, disabling, raising, delivering, finished, finishing}
+use Rattle.iop_intr.specs.InterruptLines.{IrqLine, line_of, on_line, is_deliverable, register_line, release_line, enable_line, disable_line, registering, releasing, enabling, disabling, raising, lowering, delivering, finished, finishing}
 use Rattle.iop_intr.specs.LineViews.{line_in, lines_in}
 use Rattle.iop_intr.specs.declared.handler.Handler.{Handler}
 use Rattle.iop_intr.specs.declared.irqs.TheConstants.{IRQ_LINES}
@@ -71,9 +71,11 @@ module _ (a : Inside) {lines : List IrqLine} (view : lines_in a ≡ lines) (n : 
       here : line_in a n ≡ line_of lines n
       here = sym (line_is a view n below)
 
-  pub raises : (raised : ℕ) → ChangesOnly a.raised raised n true →
-      lines_in (record a { raised = raised }) ≡ raising lines n
-  raises raised change =
+  -- one that changes the set of those that are raised
+  with_raised : (raised : ℕ) (is_in : Bool) → ChangesOnly a.raised raised n is_in →
+      lines_in (record a { raised = raised })
+      ≡ set lines n (record (line_of lines n) { raised = is_in })
+  with_raised raised is_in change =
       set_is a view n below (record a { raised = raised }) _
       (same_line _ _ _ _ _ _ change.changed (ap (λ (l : IrqLine). l.enabled) here)
       (ap (λ (l : IrqLine). l.handler) here))
@@ -81,6 +83,14 @@ module _ (a : Inside) {lines : List IrqLine} (view : lines_in a ≡ lines) (n : 
     where
       here : line_in a n ≡ line_of lines n
       here = sym (line_is a view n below)
+
+  pub raises : (raised : ℕ) → ChangesOnly a.raised raised n true →
+      lines_in (record a { raised = raised }) ≡ raising lines n
+  raises raised = with_raised raised true
+
+  pub lowers : (raised : ℕ) → ChangesOnly a.raised raised n false →
+      lines_in (record a { raised = raised }) ≡ lowering lines n
+  lowers raised = with_raised raised false
 
   pub delivers : (raised enabled : ℕ) → ChangesOnly a.raised raised n false →
       ChangesOnly a.enabled enabled n false →
@@ -135,10 +145,6 @@ module _ (a : Inside) {lines : List IrqLine} (view : lines_in a ≡ lines) (n : 
     pub is_deliverable_is :
         is_deliverable (line_of lines n) ≡ (has a.raised n && has a.enabled n && has a.handled n)
     is_deliverable_is = rw (is_handled, line_is a view n below) refl
-
-    -- whether it can be delivered once it is raised, by two of them
-    pub is_ready_is : is_ready (line_of lines n) ≡ (has a.enabled n && has a.handled n)
-    is_ready_is = rw (is_handled, line_is a view n below) refl
 
     pub its_handler_is : is_deliverable (line_of lines n) ≡ true → (d : Handler) →
         (line_of lines n).handler ≡ Some (get_or a.handlers n d)

@@ -5,7 +5,7 @@ use Rattle.std.proofs.lemmas.Bool.{cases_lt, lt-ltb, ne_eqb}
 use mathlib.Core.Logic.{◌⊎◌, inl, inr}
 use Rattle.iop_base.specs.declared.code.Code.{Code}
 use Rattle.iop_base.specs.declared.code.TheConstants.Code.{OK, ILLEGAL_INTERRUPT, HANDLER_FOUND, HANDLER_NOT_FOUND}
-use Rattle.iop_intr.specs.InterruptLines.{IrqLine, idle, line_of, on_line, changed, register_line, release_line, enable_line, disable_line, finished}
+use Rattle.iop_intr.specs.InterruptLines.{IrqLine, idle, line_of, on_line, changed, lowered, register_line, release_line, enable_line, disable_line, finished}
 use Rattle.iop_intr.specs.Laws.{ChangesOneLine, line_with, ResultsEnableOrDisable, LeavesOneLine, EachCallChangesOneLine}
 use Rattle.iop_intr.specs.declared.handler.Handler.{Handler}
 use Rattle.iop_intr.specs.declared.irqs.TheConstants.{IRQ_LINES}
@@ -81,4 +81,5 @@ calls lines n size = record {
   enable = leaves enable_line lines n _ size (λ ok. refl);
   disable = leaves disable_line lines n _ size (disable_makes (line_of lines n) _ refl);
   raise = λ below. changes (λ l. record l { raised = true }) lines n _ (omega (arith, size)) refl;
+  lower = λ below. changes lowered lines n _ (omega (arith, size)) refl;
 }

@@ -1,5 +1,5 @@
 -- The laws of the interrupt lines.
-use Rattle.std.proofs.Common.{◌≡◌, ℕ, ◌<◌, ◌≤◌, true, false, ◌&&◌, Option, None, Some, is_some, nat_lt, MatchOption, length, refl, sym, ap, ◌∙◌, arith}
+use Rattle.std.proofs.Common.{◌≡◌, ℕ, ◌<◌, ◌≤◌, Bool, true, false, ◌&&◌, Option, None, Some, is_some, nat_lt, MatchOption, length, refl, sym, ap, ◌∙◌, arith}
 use Rattle.std.specs.List.{position_or_len}
 use Rattle.std.proofs.Math.ListN.{set, length-set, get_or-eq_default}
 use Rattle.std.proofs.lemmas.List.{get_or-set_same, get_or-set_other, set-get_or}
@@ -8,7 +8,7 @@ use Rattle.std.proofs.lemmas.Bool.{true≢false, and_parts, and_from, cases_Bool
 use Rattle.std.proofs.lemmas.List.Sums.{fails_before_first}
 use mathlib.Core.Logic.{◌⊎◌, inl, inr}
 use Rattle.iop_intr.specs.InterruptLines.{IrqLine, idle, line_of, is_deliverable, deliverable, delivering, finishing}
-use Rattle.iop_intr.specs.Laws.{CanBeDelivered, IsLowest, DeliverableIsLowest, RaisedStaysRaised, DeliveryChangesOneLine, ZeroDisables}
+use Rattle.iop_intr.specs.Laws.{CanBeDelivered, IsLowest, DeliverableIsLowest, RaisedStaysRaised, LoweredStaysLowered, DeliveryChangesOneLine, ZeroDisables}
 
 can_be : (l : IrqLine) → is_deliverable l ≡ true → CanBeDelivered l
 can_be l is =
@@ -51,12 +51,19 @@ deliverable-lowest lines = at (deliverable lines) refl
           lower = λ k h. can_not_be (line_of lines k) (found.2 k h);
         }
 
+-- a line that is raised, or lowered, as it is
+same_line : (l : IrqLine) (up : Bool) → l.raised ≡ up → record l { raised = up } ≡ l
+same_line l up is = rw (sym is) refl
+
 pub raised-raising : RaisedStaysRaised
 raised-raising lines n raised =
-    ap (λ (l : IrqLine). set lines n l) same ∙ set-get_or lines n idle
-  where
-    same : (◌≡◌ {A = IrqLine} (record (line_of lines n) { raised = true }) (line_of lines n))
-    same = rw (sym raised) refl
+    ap (λ (l : IrqLine). set lines n l) (same_line (line_of lines n) true raised)
+    ∙ set-get_or lines n idle
+
+pub lowered-lowering : LoweredStaysLowered
+lowered-lowering lines n lowered =
+    ap (λ (l : IrqLine). set lines n l) (same_line (line_of lines n) false lowered)
+    ∙ set-get_or lines n idle
 
 pub delivering-lines : DeliveryChangesOneLine
 delivering-lines lines n within = record {

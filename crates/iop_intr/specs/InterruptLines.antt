@@ -62,14 +62,16 @@ enabling = on_line enable_line
 abbrev pub disabling : List IrqLine → ℕ → Code × List IrqLine
 disabling = on_line disable_line
 
--- raising and delivery
+-- raising, lowering and delivery
 
 abbrev pub raising : List IrqLine → ℕ → List IrqLine
 raising = changed (λ l. record l { raised = true })
 
--- whether a line can be delivered once it is raised
-abbrev pub is_ready : IrqLine → Bool
-is_ready l = l.enabled && is_some l.handler
+abbrev pub lowered : IrqLine → IrqLine
+lowered l = record l { raised = false }
+
+abbrev pub lowering : List IrqLine → ℕ → List IrqLine
+lowering = changed lowered
 
 abbrev pub is_deliverable : IrqLine → Bool
 is_deliverable l = l.raised && l.enabled && is_some l.handler
@@ -85,7 +87,7 @@ pub record IsDeliverable (lines : List IrqLine) (n : ℕ) : Type 0 where
 
 -- a line is delivered
 abbrev pub delivering : List IrqLine → ℕ → List IrqLine
-delivering = changed (λ l. record l { raised = false; enabled = false })
+delivering = changed (λ l. record (lowered l) { enabled = false })
 
 -- a line whose handler gave this value: 0 disables it, another enables it where it has a handler
 abbrev pub finished : ℕ → IrqLine → IrqLine

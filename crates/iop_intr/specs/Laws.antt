@@ -2,7 +2,7 @@
 use Rattle.std.specs.Prelude.{◌≡◌, ◌≢◌, ℕ, ◌<◌, Bool, true, false, Option, Some, None, IsSome, MatchOption, List, length}
 use Rattle.iop_base.specs.declared.code.Code.{Code}
 use Rattle.iop_base.specs.declared.code.TheConstants.Code.{OK}
-use Rattle.iop_intr.specs.InterruptLines.{IrqLine, line_of, registering, releasing, enabling, disabling, raising, deliverable, delivering, finishing}
+use Rattle.iop_intr.specs.InterruptLines.{IrqLine, line_of, registering, releasing, enabling, disabling, raising, lowering, deliverable, delivering, finishing}
 use Rattle.iop_intr.specs.declared.handler.Handler.{Handler}
 use Rattle.iop_intr.specs.declared.irqs.TheConstants.{IRQ_LINES}
 
@@ -26,6 +26,10 @@ DeliverableIsLowest = (lines : List IrqLine)
 abbrev pub RaisedStaysRaised : Type 0
 RaisedStaysRaised = (lines : List IrqLine) (n : ℕ)
     → (line_of lines n).raised ≡ true → raising lines n ≡ lines
+
+abbrev pub LoweredStaysLowered : Type 0
+LoweredStaysLowered = (lines : List IrqLine) (n : ℕ)
+    → (line_of lines n).raised ≡ false → lowering lines n ≡ lines
 
 -- what a delivery leaves of the line, and of the others
 pub record IsDelivered (old new : List IrqLine) (n : ℕ) : Type 0 where
@@ -78,6 +82,8 @@ pub record CallsChangeOneLine (lines : List IrqLine) (n : ℕ) (was : IrqLine) :
       (line_with was.raised false was.handler)
   pub raise : n < IRQ_LINES
       → ChangesOneLine lines (raising lines n) n (line_with true was.enabled was.handler)
+  pub lower : n < IRQ_LINES
+      → ChangesOneLine lines (lowering lines n) n (line_with false was.enabled was.handler)
 
 abbrev pub EachCallChangesOneLine : Type 0
 EachCallChangesOneLine = (lines : List IrqLine) (n : ℕ)

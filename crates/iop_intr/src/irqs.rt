@@ -1,5 +1,5 @@
 ghost use Rattle.std.specs.Prelude.{◌≡◌, ◌<◌, IfSome, Some, replicate};
-ghost use Rattle.iop_intr.specs.InterruptLines.{idle, line_of, is_ready, IsDeliverable, handler_of, registering, releasing, enabling, disabling, raising, deliverable, delivering, finishing};
+ghost use Rattle.iop_intr.specs.InterruptLines.{idle, line_of, IsDeliverable, handler_of, registering, releasing, enabling, disabling, raising, lowering, deliverable, delivering, finishing};
 ghost use Rattle.iop_intr.specs.declared.irqs.TheConstants.{IRQ_LINES};
 
 use crate::handler::Handler;
@@ -52,6 +52,18 @@ impl Irqs {
             enabled: LineSet::new(),
             handled: LineSet::new(),
             handlers: [nowhere; IRQ_LINES],
+        }
+    }
+
+    /// Makes lines that are as these are.
+    pub fn copied(&self) -> Self
+        ensures { result ≡ self.now }
+    {
+        Irqs {
+            raised: self.raised,
+            enabled: self.enabled,
+            handled: self.handled,
+            handlers: self.handlers,
         }
     }
 
@@ -132,13 +144,12 @@ impl Irqs {
         self.raised.insert(line as u32);
     }
 
-    /// Says whether a line below `IRQ_LINES` is enabled and has a handler, so that it can be
-    /// delivered once it is raised.
-    pub fn is_ready(&self, line: u8) -> bool
+    /// Lowers a line below `IRQ_LINES`. It stays enabled or not.
+    pub fn lower(&mut self, line: u8)
         requires { line < IRQ_LINES }
-        ensures { result ≡ is_ready (line_of self.now line) }
+        ensures { self.new ≡ lowering self.old line }
     {
-        self.enabled.has(line as u32) && self.handled.has(line as u32)
+        self.raised.remove(line as u32);
     }
 
     /// Finds the lowest line that is raised, enabled and has a handler. None exactly where there is
@@ -159,8 +170,9 @@ impl Irqs {
         ensures handler { (line_of self.old line).handler ≡ Some result }
         ensures lines { self.new ≡ delivering self.old line }
     {
-        self.raised.remove(line as u32);
-        self.enabled.remove(line as u32);
+        let line = line as u32;
+        self.raised.remove(line);
+        self.enabled.remove(line);
         self.handlers[line as usize]
     }
 

@@ -1,7 +1,7 @@
 //! Facts about the definitions that no call computes. Each is the contract of a function that does
 //! nothing.
 
-ghost use Rattle.iop_intr.specs.Laws.{DeliverableIsLowest, RaisedStaysRaised, DeliveryChangesOneLine, ZeroDisables, ResultsEnableOrDisable, EachCallChangesOneLine};
+ghost use Rattle.iop_intr.specs.Laws.{DeliverableIsLowest, RaisedStaysRaised, LoweredStaysLowered, DeliveryChangesOneLine, ZeroDisables, ResultsEnableOrDisable, EachCallChangesOneLine};
 
 /// The line that is deliverable is raised, is enabled and has a handler, and no lower line is so.
 /// None is deliverable only where no line is so.
@@ -12,6 +12,11 @@ pub fn deliverable_is_lowest()
 /// To raise a line that is raised changes nothing.
 pub fn raised_stays_raised()
     ensures { RaisedStaysRaised }
+{}
+
+/// To lower a line that is lowered changes nothing.
+pub fn lowered_stays_lowered()
+    ensures { LoweredStaysLowered }
 {}
 
 /// A line that was delivered is lowered and disabled, and keeps its handler. All other lines are as
@@ -34,7 +39,7 @@ pub fn results_enable_or_disable()
 
 /// A call that answers `OK` changes its line alone, and only in what it is for: `register` gives it
 /// the handler, `release` takes it away and disables the line, `enable` and `disable` do that. So
-/// does `raise`, which raises its line.
+/// do `raise` and `lower`, of which one raises its line and the other lowers it.
 pub fn each_call_changes_one_line()
     ensures { EachCallChangesOneLine }
 {}

@@ -73,5 +73,11 @@ fn deliveries(rt: HostRuntime) -> Result<(), Fail> {
     assert_eq!(rt; irqs.deliverable(), None);
     irqs.raise(3);
     assert_eq!(rt; irqs.deliverable(), Some(3));
+    let raised = irqs.copied();
+    irqs.lower(3);
+    assert_eq!(rt; irqs.deliverable(), None);
+    assert_eq!(rt; raised.deliverable(), Some(3));
+    irqs.raise(3);
+    assert_eq!(rt; irqs.deliverable(), Some(3));
     Ok(())
 }

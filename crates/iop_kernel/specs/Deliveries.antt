@@ -5,7 +5,7 @@ use Rattle.iop_base.specs.Piece.{Piece, Traced}
 use Rattle.iop_base.specs.Text.{line_bytes}
 use Rattle.iop_base.specs.declared.code.TheConstants.Code.{OK}
 use Rattle.iop_base.specs.declared.line.Line.TheVariants as lines
-use Rattle.iop_intr.specs.InterruptLines.{line_of, raising, deliverable, delivering}
+use Rattle.iop_intr.specs.InterruptLines.{line_of, raising, lowering, deliverable, delivering}
 use Rattle.iop_intr.specs.declared.handler.Handler.{Handler}
 use Rattle.iop_time.specs.Taking.{takes_due}
 use Rattle.iop_time.specs.Timers.{Timers}
@@ -20,6 +20,10 @@ use Rattle.iop_kernel.specs.declared.active_handler.Cause.TheVariants as causes
 -- an interrupt line is raised
 abbrev pub raises : Kernel → (line : ℕ) → Kernel
 raises k line = record k { irqs = raising k.irqs line }
+
+-- an interrupt line is lowered
+abbrev pub lowers : Kernel → (line : ℕ) → Kernel
+lowers k line = record k { irqs = lowering k.irqs line }
 
 -- what a delivery leaves, and its line
 pub record Delivered : Type 0 where

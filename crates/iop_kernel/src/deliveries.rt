@@ -2,17 +2,16 @@
 
 ghost use Rattle.std.specs.Prelude.{◌≡◌, ◌-◌, ◌^◌, ◌<◌, is_some};
 ghost use Rattle.iop_intr.specs.InterruptLines.{IsDeliverable, line_of};
-ghost use Rattle.iop_intr.specs.declared.irqs.TheConstants.{IRQ_LINES};
 ghost use Rattle.iop_time.specs.Taking.{takes_due};
-ghost use Rattle.iop_kernel.specs.Deliveries.{raises, is_in_slot, may_deliver, delivers_line, delivers_due, delivers, next_look};
+ghost use Rattle.iop_kernel.specs.Deliveries.{is_in_slot, may_deliver, delivers_line, delivers_due, delivers, next_look};
 ghost use Rattle.iop_kernel.specs.Standing.{Stands, IsSound, Delivers, core};
-ghost use Rattle.iop_kernel.specs.System.{Kernel as State};
+ghost use Rattle.iop_kernel.specs.System.{Kernel as State, with_irqs};
 
 use crate::active_handler::Cause;
 use crate::kernel::Kernel;
 use iop_base::{Code, Line, Lines};
 use iop_exec::Cpu;
-use iop_intr::Handler;
+use iop_intr::{Handler, Irqs};
 use iop_ready::Ready;
 use iop_time::Due;
 
@@ -37,17 +36,16 @@ impl<R: Ready> Kernel<R> {
         ensures { (k : State) → Stands R.stands self.now k
             → result ≡ is_some (delivers (core k cpu.now)) }
     {
-        self.may_deliver(cpu)
-            && (self.irqs.deliverable().is_some() || self.timers.due(self.clock).is_some())
+        self.would_deliver_with(cpu, &self.irqs)
     }
 
-    /// Says whether `deliver` would deliver something once a line below `IRQ_LINES` were raised.
-    pub fn would_deliver_raised(&self, cpu: &Cpu, line: u8) -> bool
-        requires { line < IRQ_LINES }
+    /// Says whether `deliver` would deliver something if these were the interrupt lines.
+    pub fn would_deliver_with(&self, cpu: &Cpu, irqs: &Irqs) -> bool
         ensures { (k : State) → Stands R.stands self.now k
-            → result ≡ is_some (delivers (core (raises k line) cpu.now)) }
+            → result ≡ is_some (delivers (with_irqs (core k cpu.now) irqs.now)) }
     {
-        self.would_deliver(cpu) || self.irqs.is_ready(line) && self.may_deliver(cpu)
+        self.may_deliver(cpu)
+            && (irqs.deliverable().is_some() || self.timers.due(self.clock).is_some())
     }
 
     /// Tells, where nothing is delivered now, the next moment at which something may be, in ticks,

@@ -4,7 +4,7 @@ ghost use Rattle.iop_thread.specs.Operations.{begins, ends_running};
 ghost use Rattle.iop_thread.specs.Standing.{Lends};
 ghost use Rattle.iop_time.specs.Turns.{next_moment};
 ghost use Rattle.iop_kernel.specs.System.{Kernel as State, beginning, is_active};
-ghost use Rattle.iop_kernel.specs.Deliveries.{raises};
+ghost use Rattle.iop_kernel.specs.Deliveries.{raises, lowers};
 ghost use Rattle.iop_kernel.specs.Dispatching.{dispatches};
 ghost use Rattle.iop_kernel.specs.Standing.{Stands, IsSound, Dispatches, core};
 
@@ -94,6 +94,23 @@ impl<R: Ready> Kernel<R> {
             → Stands R.stands self.new (raises k line) }
     {
         self.irqs.raise(line);
+    }
+
+    /// Lowers an interrupt line below `IRQ_LINES`, which stays enabled or not. Nothing changes
+    /// where it is lowered.
+    pub fn lower(&mut self, line: u8)
+        requires { line < IRQ_LINES }
+        ensures { (k : State) → Stands R.stands self.old k
+            → Stands R.stands self.new (lowers k line) }
+    {
+        self.irqs.lower(line);
+    }
+
+    /// Lends the interrupt lines.
+    pub fn irqs(&self) -> &Irqs
+        ensures { (k : State) → Stands R.stands self.now k → result.now ≡ k.irqs }
+    {
+        &self.irqs
     }
 
     /// Lends the list of the ready threads, each by its slot and with its priority.

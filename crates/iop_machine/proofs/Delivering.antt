@@ -21,7 +21,7 @@ use Rattle.iop_machine.proofs.LookingLemmas.{delivers_later, taken_irqs, dispatc
 use Rattle.iop_machine.proofs.Reaching.{one_step}
 use Rattle.iop_machine.proofs.StandingLemmas.{stands_with}
 use Rattle.iop_machine.proofs.Stepping.{next_delivers, next_dispatches}
-use Rattle.iop_machine.proofs.Raising.{dispatched_with}
+use Rattle.iop_machine.proofs.LinesAside.{dispatched_with}
 
 -- as the program looked for it
 pub delivers_nothing : (m : Program) (did : Bool) → did ≡ false

@@ -1,6 +1,6 @@
 -- The script's events, as they are taken one by one in the order of their ticks.
 use Rattle.std.proofs.Common.{◌≡◌, ℕ, zero, suc, ◌+◌, ◌^◌, ◌<◌, ◌≤◌, min, Bool, true, false, cond, not, Some, List, [], ◌∷◌, length, drop, refl, ap, sym, ◌∙◌, subst, arith, inl, inr}
-use Rattle.std.specs.Prelude.{◌⊎◌, MatchOption, All, Contains, filter, map, fold}
+use Rattle.std.specs.Prelude.{◌⊎◌, MatchOption, All, Contains, fold}
 use Rattle.std.specs.List.{slice_get, list_any}
 use Rattle.std.proofs.lemmas.Bool.{cases_lt}
 use Rattle.std.proofs.lemmas.Bool.Decides.{nat_tests}
@@ -12,7 +12,7 @@ use Rattle.std.proofs.lemmas.List.Kept.{AllPairs-filter}
 use Rattle.iop_base.proofs.Lists.{filter-none_passes, filter-none_fails}
 use Rattle.iop_base.proofs.Searching.{AllPairs-head, AllPairs-tail}
 use Rattle.iop_script.specs.declared.raise.Raise.{Raise}
-use Rattle.iop_machine.specs.Events.{CanCome, is_due, due_lines, left_events, earlier_with, next_tick, events_of, TakesDue}
+use Rattle.iop_machine.specs.Events.{CanCome, is_due, due_events, left_events, earlier_with, next_tick, events_of, TakesDue}
 use Rattle.iop_machine.specs.declared.events.Events.TheInside.{Inside}
 
 -- events none of which is due at a moment
@@ -35,12 +35,11 @@ none_is_due moment (event ∷ rest) later =
     let first = not_due moment event (All-head (λ (e : Raise). moment < e.at) event rest later) in
     rw first (none_is_due moment rest (All-tail (λ (e : Raise). moment < e.at) event rest later))
 
--- so no line is raised
-pub later_lines : (moment : ℕ) (events : List Raise) → AreLater moment events
-    → due_lines moment events ≡ []
-later_lines moment events later =
-    ap (map (λ (e : Raise). e.line))
-    (filter-none_passes (is_due moment) events (none_is_due moment events later))
+-- so none is taken
+pub later_due : (moment : ℕ) (events : List Raise) → AreLater moment events
+    → due_events moment events ≡ []
+later_due moment events later =
+    filter-none_passes (is_due moment) events (none_is_due moment events later)
 
 -- and all of them stay
 pub later_left : (moment : ℕ) (events : List Raise) → AreLater moment events
@@ -65,27 +64,27 @@ left_later moment (event ∷ rest) =
     (left_later moment rest)
 
 -- by whether the first is due
-no_lines_by : (moment : ℕ) (event : Raise) (rest come : List Raise) (b : Bool)
-    → is_due moment event ≡ b → map (λ (e : Raise). e.line) (cond b (event ∷ come) come) ≡ []
-    → (map (λ (e : Raise). e.line) come ≡ [] → AreLater moment rest)
+none_due_by : (moment : ℕ) (event : Raise) (rest come : List Raise) (b : Bool)
+    → is_due moment event ≡ b → cond b (event ∷ come) come ≡ []
+    → (come ≡ [] → AreLater moment rest)
     → AreLater moment (event ∷ rest)
-no_lines_by moment event rest come true is none later = absurd (cc none)
-no_lines_by moment event rest come false is none later =
+none_due_by moment event rest come true is none later = absurd (cc none)
+none_due_by moment event rest come false is none later =
     let first : moment < event.at = grind (arith, nat_tests) in
     All-cons (λ (e : Raise). moment < e.at) event rest first (later none)
 
--- where no line is raised all events are later
-pub no_lines : (moment : ℕ) (events : List Raise) → due_lines moment events ≡ []
+-- where none is due all events are later
+pub none_due : (moment : ℕ) (events : List Raise) → due_events moment events ≡ []
     → AreLater moment events
-no_lines moment [] none = All-nil (λ (e : Raise). moment < e.at)
-no_lines moment (event ∷ rest) none =
-    no_lines_by moment event rest (filter (is_due moment) rest) (is_due moment event) refl none
-    (no_lines moment rest)
+none_due moment [] none = All-nil (λ (e : Raise). moment < e.at)
+none_due moment (event ∷ rest) none =
+    none_due_by moment event rest (due_events moment rest) (is_due moment event) refl none
+    (none_due moment rest)
 
--- an event that is due comes first, and its line is raised
-pub first_line : (moment : ℕ) (event : Raise) (rest : List Raise) → event.at ≤ moment
-    → due_lines moment (event ∷ rest) ≡ event.line ∷ due_lines moment rest
-first_line moment event rest come = rw (due moment event come) refl
+-- an event that is due comes first
+pub first_due : (moment : ℕ) (event : Raise) (rest : List Raise) → event.at ≤ moment
+    → due_events moment (event ∷ rest) ≡ event ∷ due_events moment rest
+first_due moment event rest come = rw (due moment event come) refl
 
 -- it is not among those that are left
 first_left : (moment : ℕ) (event : Raise) (rest : List Raise) → event.at ≤ moment
@@ -101,7 +100,7 @@ all_later moment event rest come later =
     (λ k d below. let other = behind k d below in omega arith)
 
 -- events of which the first was taken can come
-rest_comes : (event : Raise) (rest : List Raise) → CanCome (event ∷ rest) → CanCome rest
+pub rest_comes : (event : Raise) (rest : List Raise) → CanCome (event ∷ rest) → CanCome rest
 rest_comes event rest come = record {
   order = AllPairs-tail (λ (x y : Raise). x.at ≤ y.at) event rest come.order;
   ticks = All-tail (λ (e : Raise). e.at < 2 ^ 63) event rest come.ticks;
@@ -274,17 +273,17 @@ module _ (e : Inside) (event : Raise) (at : slice_get e.events.items e.taken ≡
     behind_comes = rest_comes event rest come_first
 
     -- where it is not due, none is
-    pub not_taken : (moment : ℕ) → moment < event.at → due_lines moment (events_of e) ≡ []
+    pub not_taken : (moment : ℕ) → moment < event.at → due_events moment (events_of e) ≡ []
     not_taken moment later =
-        ap (due_lines moment) first_event
-        ∙ later_lines moment (event ∷ rest) (all_later moment event rest come_first later)
+        ap (due_events moment) first_event
+        ∙ later_due moment (event ∷ rest) (all_later moment event rest come_first later)
 
     -- where it is, it was taken
     pub one_taken : (moment : ℕ) → event.at ≤ moment
-        → TakesDue (Some event.line) moment (events_of e) rest
+        → TakesDue (Some event) moment (events_of e) rest
     one_taken moment due = (
       All-head (λ (x : Raise). x.line < 64) event rest come_first.lines,
-      ap (due_lines moment) first_event ∙ first_line moment event rest due,
+      ap (due_events moment) first_event ∙ first_due moment event rest due,
       ap (left_events moment) first_event ∙ first_left moment event rest due,
       let long = ap length first_event in omega (arith, long),
     )

@@ -1,6 +1,7 @@
 mod Elements
 mod EventLemmas
-mod Raising
+mod DueEvents
+mod LinesAside
 mod LookingLemmas
 mod Coming
 mod StandingLemmas
@@ -24,6 +25,7 @@ mod Settling
 mod Acting
 mod Progressing
 mod ModulesTaken
+mod WordsOfModules
 mod ServiceLemmas
 mod Performing
 mod Storing
@@ -36,7 +38,7 @@ mod ObjectSteps
 mod PlacesKept
 mod ObjectsLeft
 mod EventsTaken
-mod EventsRaised
+mod EventsChange
 mod Histories
 mod Area
 mod AreaReading

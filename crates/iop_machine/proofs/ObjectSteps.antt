@@ -27,7 +27,7 @@ use Rattle.iop_machine.specs.World.{World}
 use Rattle.iop_machine.proofs.LoadingLands.{boots_leave, returns_leave}
 use Rattle.iop_machine.proofs.LookingLemmas.{taken_kernel}
 use Rattle.iop_machine.proofs.Moving.{moves_with, takes_core}
-use Rattle.iop_machine.proofs.Raising.{dispatch_kernel}
+use Rattle.iop_machine.proofs.LinesAside.{dispatch_kernel}
 use Rattle.iop_machine.proofs.Stepping.{IsTurn, stopped, unbooted, delivery, dispatch, execution, waiting, turn_is}
 
 -- the objects of all kinds

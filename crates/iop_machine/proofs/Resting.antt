@@ -27,7 +27,7 @@ use Rattle.iop_machine.proofs.LoadingLands.{performs_events, boots_leave}
 use Rattle.iop_machine.proofs.KeepingMachine.{keeps_machine}
 use Rattle.iop_machine.proofs.LookingLemmas.{taken_irqs, taken_kernel, taken_active, taken_later, taken_core, dispatches_taken}
 use Rattle.iop_machine.proofs.Moving.{takes_core}
-use Rattle.iop_machine.proofs.Raising.{dispatched_with}
+use Rattle.iop_machine.proofs.LinesAside.{dispatched_with}
 use Rattle.iop_machine.proofs.Rests.{turns_by, turns_delivered, turns_dispatched, turns_are, behind, behind_is, rest, rest_is, rest_over, rest_booted, rest_later, rest_bounded, HasFewDelays, few_delays, taken_deliveries}
 use Rattle.iop_machine.proofs.Stepping.{IsTurn, stopped, unbooted, delivery, dispatch, execution, waiting, turn_is}
 

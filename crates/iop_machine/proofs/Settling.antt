@@ -22,7 +22,7 @@ use Rattle.iop_machine.proofs.CallsLeft.{calls_left, calls_are, few_turns, is_le
 use Rattle.iop_machine.proofs.Elements.{there}
 use Rattle.iop_machine.proofs.EventLemmas.{AreLater}
 use Rattle.iop_machine.proofs.LookingLemmas.{taken_kernel, taken_later, takes_none}
-use Rattle.iop_machine.proofs.Raising.{dispatch_kernel}
+use Rattle.iop_machine.proofs.LinesAside.{dispatch_kernel}
 use Rattle.iop_machine.proofs.Reaching.{reached_none, reached_more}
 use Rattle.iop_machine.proofs.Stepping.{next_delivers, next_dispatches}
 

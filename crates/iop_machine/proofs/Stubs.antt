@@ -35,7 +35,7 @@ use Rattle.iop_machine.specs.StubLaws.{StubsReachTheirFunctions, stub_row, stub_
 use Rattle.iop_machine.specs.World.{World, booted, beginning}
 use Rattle.iop_machine.proofs.Landing.{runs_stay_sound}
 use Rattle.iop_machine.proofs.LookingLemmas.{taken_irqs, taken_active, taken_core, dispatches_taken}
-use Rattle.iop_machine.proofs.Raising.{dispatched_with}
+use Rattle.iop_machine.proofs.LinesAside.{dispatched_with}
 use Rattle.iop_machine.proofs.Stepping.{IsToExecute, executes_so, executes_booted, next_performs}
 
 -- an option that is there only if a test passes has no other value

@@ -1,5 +1,5 @@
 -- What the laws of the script's events say, and of what comes next where nothing executes.
-use Rattle.std.specs.Prelude.{◌≡◌, ◌≢◌, ℕ, ◌<◌, ◌≤◌, true, false, None, ◌⊎◌, MatchOption, [], length, All, Contains}
+use Rattle.std.specs.Prelude.{◌≡◌, ◌≢◌, ℕ, ◌<◌, ◌≤◌, false, None, ◌⊎◌, MatchOption, List, [], ◌∷◌, ◌++◌, length, All, Contains}
 use Rattle.iop_intr.specs.InterruptLines.{line_of}
 use Rattle.iop_script.specs.declared.raise.Raise.{Raise}
 use Rattle.iop_time.specs.Laws.{Stands}
@@ -23,11 +23,17 @@ pub record TakesItsEvents (w : World) : Type 0 where
 abbrev pub StepsTakeTheirEvents : Type 0
 StepsTakeTheirEvents = (w : World) → w.is_new ≡ false → w.iop.over ≡ None → TakesItsEvents w
 
--- the interrupt lines of the events that are due are raised, and nothing else changes
-pub record RaisesLines (s : Iop) : Type 0 where
-  pub raised : (event : Raise) → Contains s.events event → event.at ≤ s.kernel.clock
-      → event.line < length s.kernel.irqs
-      → (line_of (takes_events s).kernel.irqs event.line).raised ≡ true
+-- an event of a line is due, and none behind it is
+abbrev pub IsLastDue : (clock : ℕ) → Raise → (behind : List Raise) → Type 0
+IsLastDue clock event behind =
+    (event.at ≤ clock) × All (λ e. e.at ≤ clock → e.line ≢ event.line) behind
+
+-- the interrupt lines of the events that are due are raised or lowered, and nothing else changes
+pub record ChangesLines (s : Iop) : Type 0 where
+  -- the last event of a line says which
+  pub last : (before behind : List Raise) (event : Raise) → s.events ≡ before ++ event ∷ behind
+      → IsLastDue s.kernel.clock event behind → event.line < length s.kernel.irqs
+      → (line_of (takes_events s).kernel.irqs event.line).raised ≡ event.up
   -- of none is it changed whether it is enabled, and its handler
   pub lines : (n : ℕ) → let old = line_of s.kernel.irqs n in
       line_of (takes_events s).kernel.irqs n
@@ -38,8 +44,8 @@ pub record RaisesLines (s : Iop) : Type 0 where
       → line_of (takes_events s).kernel.irqs n ≡ line_of s.kernel.irqs n
   pub rest : (takes_events s).kernel ≡ record s.kernel { irqs = (takes_events s).kernel.irqs }
 
-abbrev pub EventsRaiseTheirLines : Type 0
-EventsRaiseTheirLines = (s : Iop) → RaisesLines s
+abbrev pub EventsChangeTheirLines : Type 0
+EventsChangeTheirLines = (s : Iop) → ChangesLines s
 
 -- an event, an alarm or a delay comes at this moment, and none earlier
 pub record IsNextComing (s : Iop) (moment : ℕ) : Type 0 where

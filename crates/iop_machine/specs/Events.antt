@@ -1,6 +1,6 @@
--- The script's events that are still to come: interrupt lines, each of which is raised at its tick.
--- That those that are due are all taken together is this project's own profile.
-use Rattle.std.specs.Prelude.{◌≡◌, ℕ, ◌<◌, ◌≤◌, min, nat_le, not, Bool, Option, Some, None, List, ◌∷◌, [], map, filter, fold, length, drop, All, AllPairs}
+-- The script's events that are still to come: interrupt lines, each of which is raised or lowered
+-- at its tick. That those that are due are all taken together is this project's own profile.
+use Rattle.std.specs.Prelude.{◌≡◌, ℕ, ◌<◌, ◌≤◌, min, nat_le, not, Bool, Option, Some, None, List, ◌∷◌, [], filter, fold, length, drop, All, AllPairs}
 use Rattle.iop_intr.specs.declared.irqs.TheConstants.{IRQ_LINES}
 use Rattle.iop_script.specs.declared.raise.Raise.{Raise}
 use Rattle.iop_time.specs.declared.ticks.TheConstants.{NEVER}
@@ -16,9 +16,9 @@ pub record CanCome (events : List Raise) : Type 0 where
 abbrev pub is_due : ℕ → Raise → Bool
 is_due moment event = nat_le event.at moment
 
--- the lines of all events that are due at a moment
-abbrev pub due_lines : ℕ → List Raise → List ℕ
-due_lines moment events = map (λ e. e.line) (filter (is_due moment) events)
+-- the events that are due at a moment
+abbrev pub due_events : ℕ → List Raise → List Raise
+due_events moment events = filter (is_due moment) events
 
 -- the events that are left once these are taken
 abbrev pub left_events : ℕ → List Raise → List Raise
@@ -42,11 +42,11 @@ next_tick events = fold earlier_with None events
 abbrev pub events_of : Inside → List Raise
 events_of e = drop e.taken e.events.items
 
--- the next event was taken, whose line this is, or none was due
-abbrev pub TakesDue : Option ℕ → (moment : ℕ) → (old new : List Raise) → Type 0
-TakesDue None moment old new = (new ≡ old) × (due_lines moment old ≡ [])
-TakesDue (Some line) moment old new =
-    (line < IRQ_LINES)
-    × (due_lines moment old ≡ line ∷ due_lines moment new)
+-- this is the next event, which was taken, or none was due
+abbrev pub TakesDue : Option Raise → (moment : ℕ) → (old new : List Raise) → Type 0
+TakesDue None moment old new = (new ≡ old) × (due_events moment old ≡ [])
+TakesDue (Some event) moment old new =
+    (event.line < IRQ_LINES)
+    × (due_events moment old ≡ event ∷ due_events moment new)
     × (left_events moment old ≡ left_events moment new)
     × (length new < length old)

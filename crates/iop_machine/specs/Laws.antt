@@ -1,5 +1,5 @@
 -- What the laws on runs say.
-use Rattle.std.specs.Prelude.{◌≡◌, ℕ, suc, ◌+◌, ◌<◌, ◌≤◌, true, false, Some, None, List, [], ◌∷◌, ◌++◌, All, Contains}
+use Rattle.std.specs.Prelude.{◌≡◌, ◌⊎◌, ℕ, suc, ◌+◌, ◌<◌, ◌≤◌, nat_lt, true, false, filter, Some, None, List, [], ◌∷◌, ◌++◌, All, Contains}
 use Rattle.iop_base.specs.Piece.{Piece}
 use Rattle.iop_base.specs.Places.{IsRamSize}
 use Rattle.iop_base.specs.declared.stop.Stop.{Stop}
@@ -187,6 +187,9 @@ pub record KeepsEvents (events : List Raise) (s : Iop) : Type 0 where
       → Contains s.events event
   -- and none is new
   pub stood : (event : Raise) → Contains s.events event → Contains events event
+  -- they stand as in the script: all of them, or those that are later than some moment
+  pub order : (s.events ≡ events)
+      ⊎ ((moment : ℕ) × (s.events ≡ filter (λ e. nat_lt moment e.at) events))
 
 abbrev pub RunsKeepEvents : Type 0
 RunsKeepEvents =

@@ -1,21 +1,33 @@
 -- What is looked at before an instruction: the script's events that are due, and what comes next
 -- where nothing is to be executed. It is this project's own profile.
-use Rattle.std.specs.Prelude.{ℕ, ◌+◌, ◌<◌, ◌≤◌, Option, IfSome, List, fold}
+use Rattle.std.specs.Prelude.{ℕ, ◌+◌, ◌<◌, ◌≤◌, if◌then◌else◌, Option, IfSome, List, fold}
 use Rattle.iop_exec.specs.declared.cpu.Cpu.{Cpu}
-use Rattle.iop_kernel.specs.Deliveries.{raises}
+use Rattle.iop_intr.specs.InterruptLines.{IrqLine, raising, lowering}
 use Rattle.iop_kernel.specs.System.{Kernel}
+use Rattle.iop_script.specs.declared.raise.Raise.{Raise}
 use Rattle.iop_time.specs.Turns.{next_moment}
-use Rattle.iop_machine.specs.Events.{due_lines, left_events, earlier, next_tick}
+use Rattle.iop_machine.specs.Events.{due_events, left_events, earlier, next_tick}
 use Rattle.iop_machine.specs.Iop.{Iop}
 
--- these lines are raised
-abbrev pub raises_all : Kernel → (lines : List ℕ) → Kernel
-raises_all k lines = fold raises k lines
+-- an event raises its line, or lowers it
+abbrev pub after_event : List IrqLine → Raise → List IrqLine
+after_event irqs event =
+    if event.up then raising irqs event.line else lowering irqs event.line
 
--- each event that is due is taken, and raises its line
+-- the kernel after it
+abbrev pub takes_event : Kernel → Raise → Kernel
+takes_event k event = record k { irqs = after_event k.irqs event }
+
+-- the interrupt lines after these events, one after the other
+abbrev pub after_events : List IrqLine → List Raise → List IrqLine
+after_events irqs events = fold after_event irqs events
+
+-- each event that is due is taken, in the script's order, and raises or lowers its line
 abbrev pub takes_events : Iop → Iop
 takes_events s = record s {
-  kernel = raises_all s.kernel (due_lines s.kernel.clock s.events);
+  kernel = record s.kernel {
+    irqs = after_events s.kernel.irqs (due_events s.kernel.clock s.events);
+  };
   events = left_events s.kernel.clock s.events;
 }
 

@@ -7,7 +7,7 @@ use Rattle.iop_exec.specs.Row.{with_reg}
 use Rattle.iop_thread.specs.States.{zeroed_at}
 use Rattle.iop_modload.specs.declared.limits.TheConstants.{LONGEST_FILE}
 use Rattle.iop_modload.specs.declared.loaded.Loaded.{Loaded}
-use Rattle.iop_script.specs.Scripts.{Args, words_for}
+use Rattle.iop_script.specs.Scripts.{Args, Named, words_for}
 use Rattle.iop_machine.specs.declared.arguments.TheConstants.{ARGUMENTS, LOADER_STACK_TOP, MODULE_RETURN, MOST_WORDS, MOST_WORD_BYTES}
 
 -- a module as the command names it
@@ -27,11 +27,15 @@ pub record Module : Type 0 where
   pub file : List ℕ
 
 -- the modules of these files, numbered from a number on
-abbrev pub modules_from : List Args → ℕ → List NamedFile → List Module
-modules_from args number [] = []
-modules_from args number (first ∷ rest) =
-    record { number = number; words = first.name ∷ words_for args number; file = first.file }
-    ∷ modules_from args (suc number) rest
+abbrev pub modules_from : List Args → List Named → ℕ → List NamedFile → List Module
+modules_from args named number [] = []
+modules_from args named number (first ∷ rest) =
+    record {
+      number = number;
+      words = first.name ∷ words_for args named number first.name;
+      file = first.file;
+    }
+    ∷ modules_from args named (suc number) rest
 
 -- the address of each word, the words standing one after the other from an address on
 abbrev pub addresses : ℕ → List (List ℕ) → List ℕ

@@ -12,4 +12,5 @@ module_of next = record {
 }
 
 abbrev pub modules_left : Inside → List Module
-modules_left w = modules_from w.args.items (suc w.taken) (drop w.taken w.modules.items)
+modules_left w =
+    modules_from w.args.items w.named.items (suc w.taken) (drop w.taken w.modules.items)

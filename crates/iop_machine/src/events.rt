@@ -1,6 +1,7 @@
-ghost use Rattle.std.specs.Prelude.{◌≡◌, ◌<◌, IfSome};
+ghost use Rattle.std.specs.Prelude.{◌≡◌, ◌<◌, nat_lt, IfSome, All, position};
+ghost use Rattle.iop_intr.specs.declared.irqs.TheConstants.{IRQ_LINES};
 ghost use Rattle.iop_time.specs.declared.ticks.TheConstants.{NEVER};
-ghost use Rattle.iop_machine.specs.Events.{CanCome, TakesDue, next_tick};
+ghost use Rattle.iop_machine.specs.Events.{CanCome, TakesDue, due_events, next_tick};
 
 use iop_script::Raise;
 use std::marker::Model;
@@ -25,6 +26,13 @@ impl Model for Events {
     ghost invariant = { λ e. CanCome (events_of e) × (e.taken ≤ length e.events.items) };
 }
 
+/// Finds the first event that is later than a moment.
+fn first_later(events: &[Raise], moment: u64) -> Option<usize>
+    ensures { result ≡ position (λ e. nat_lt moment e.at) events.now }
+{
+    events.iter().position(|event| event.at > moment)
+}
+
 impl Events {
     /// Makes them of the events of a script: in the order of their ticks, which are below 2^63, and
     /// of lines below 64.
@@ -36,11 +44,23 @@ impl Events {
     }
 
     /// Lends those that were not taken yet.
-    pub(crate) fn left(&self) -> &[Raise]
+    fn left(&self) -> &[Raise]
         ensures left { result.now ≡ self.now }
         ensures come { CanCome result.now }
     {
         &self.events[self.taken..]
+    }
+
+    /// Lends those that are due at a moment.
+    pub(crate) fn due(&self, moment: u64) -> &[Raise]
+        ensures due { result.now ≡ due_events moment self.now }
+        ensures lines { All (λ e. e.line < IRQ_LINES) result.now }
+    {
+        let left = self.left();
+        match first_later(left, moment) {
+            Some(count) => &left[..count],
+            None => left,
+        }
     }
 
     /// Tells the tick of the next one. None exactly where none is left.
@@ -52,9 +72,8 @@ impl Events {
         Some(event.at)
     }
 
-    /// Takes the next one, if it is due at a moment, and tells its line. None exactly where none is
-    /// due.
-    pub(crate) fn take_due(&mut self, moment: u64) -> Option<u8>
+    /// Takes the next one, if it is due at a moment. None exactly where none is due.
+    pub(crate) fn take_due(&mut self, moment: u64) -> Option<Raise>
         ensures { TakesDue result moment self.old self.new }
     {
         let event = *self.events.get(self.taken)?;
@@ -62,6 +81,6 @@ impl Events {
             return None;
         }
         self.taken += 1;
-        Some(event.line)
+        Some(event)
     }
 }

@@ -1,9 +1,9 @@
 //! Facts about the definitions that no call computes. Each is the contract of a function that does
 //! nothing.
 
-ghost use Rattle.iop_machine.specs.ArgumentLaws.{ArgumentsAreRead, ModulesBeginWith};
+ghost use Rattle.iop_machine.specs.ArgumentLaws.{ArgumentsAreRead, ModulesBeginWith, WordsAreOfModules};
 ghost use Rattle.iop_machine.specs.AreaLaws.{KernelAreaIsRead, BootingKeepsKernel};
-ghost use Rattle.iop_machine.specs.EventLaws.{StepsTakeTheirEvents, EventsRaiseTheirLines, NextComingIsLeast};
+ghost use Rattle.iop_machine.specs.EventLaws.{StepsTakeTheirEvents, EventsChangeTheirLines, NextComingIsLeast};
 ghost use Rattle.iop_machine.specs.ObjectLaws.{StepsKeepObjects};
 ghost use Rattle.iop_machine.specs.SwitchLaws.{RunsSwitchByDispatch, RunningThreadsWereTaken};
 ghost use Rattle.iop_machine.specs.Laws.{StepsCompose, RunsCompose, RunsAreDetermined, OverStays, RunsBeginAsMachines, RunsStayMachines, RunsEnd, RunsAreComputed, RunsStaySound, RunsAreStrict, RunsAreOnTime, RunsAreAwake, RunsKeepEvents, RunsAreCounted, RunsAreDelivered};
@@ -76,6 +76,12 @@ pub fn booting_keeps_kernel()
 /// end.
 pub fn arguments_are_read()
     ensures { ArgumentsAreRead }
+{}
+
+/// The words that a script has for a module are those of its number, also where there are none;
+/// else those of its name, else none.
+pub fn words_are_of_modules()
+    ensures { WordsAreOfModules }
 {}
 
 /// A module begins at its entry with the number of its words in `$a0`, where their addresses stand
@@ -165,9 +171,10 @@ pub fn steps_take_their_events()
     ensures { StepsTakeTheirEvents }
 {}
 
-/// The events that are due raise their interrupt lines, and change nothing else.
-pub fn events_raise_their_lines()
-    ensures { EventsRaiseTheirLines }
+/// The events that are due raise or lower their interrupt lines, as the last of each line says, and
+/// change nothing else.
+pub fn events_change_their_lines()
+    ensures { EventsChangeTheirLines }
 {}
 
 /// What comes next, where nothing executes, is the least tick or moment of all that are still to

@@ -1,16 +1,19 @@
 //! What is looked at before instructions are executed: the script's events, what is to be delivered
 //! and dispatched, and how far it is to the next moment at which any of it may have to be done.
 
-ghost use Rattle.std.specs.Prelude.{◌≡◌, ℕ, ◌+◌, ◌*◌, ◌^◌, ◌<◌, ◌≤◌, false, None, is_some};
+ghost use Rattle.std.specs.Prelude.{◌≡◌, ℕ, ◌+◌, ◌*◌, ◌^◌, ◌<◌, ◌≤◌, false, None, is_some, All};
+ghost use Rattle.iop_intr.specs.declared.irqs.TheConstants.{IRQ_LINES};
 ghost use Rattle.std.specs.Bool.{OnTrue};
 ghost use Rattle.iop_trace.specs.Outs.{has_failed, output_of};
+ghost use Rattle.iop_ready.specs.KernelReady.{KernelStands};
 ghost use Rattle.iop_machine.specs.Advancing.{Delivers, Dispatches, Settles, IsLess, calls_by};
 ghost use Rattle.iop_machine.specs.Events.{earlier};
 ghost use Rattle.iop_machine.specs.Iop.{Iop as State, core_of};
 ghost use Rattle.iop_kernel.specs.Deliveries.{delivers};
-ghost use Rattle.iop_kernel.specs.System.{is_active};
+ghost use Rattle.iop_kernel.specs.Standing.{Stands as KernelStandsFor};
+ghost use Rattle.iop_kernel.specs.System.{Kernel as KernelState, is_active};
 ghost use Rattle.iop_machine.specs.Laws.{IsMachine};
-ghost use Rattle.iop_machine.specs.Looking.{IsAhead, takes_events, next_coming};
+ghost use Rattle.iop_machine.specs.Looking.{IsAhead, after_event, takes_event, after_events, takes_events, next_coming};
 ghost use Rattle.iop_machine.specs.Running.{Runs, RunsFor};
 ghost use Rattle.iop_machine.specs.Standing.{Stands, StandsBooted, IsSound};
 ghost use Rattle.iop_machine.specs.Stepping.{waits_by, most_between};
@@ -19,7 +22,11 @@ ghost use Rattle.iop_machine.specs.declared.progress.Progress.TheVariants.{Advan
 
 use crate::iop::Iop;
 use iop_base::Stop;
+use iop_intr::Irqs;
+use iop_kernel::Kernel;
 use iop_ports::Sink;
+use iop_ready::KernelReady;
+use iop_script::Raise;
 use iop_trace::Out;
 
 /// Chooses the earlier of two moments, if there are two.
@@ -45,38 +52,67 @@ fn ticks_ahead(now: u64, moment: Option<u64>, most: u64) -> u64
     }
 }
 
+/// Raises or lowers the line of an event, a line that there is.
+fn change_line(irqs: &mut Irqs, event: Raise)
+    requires { event.line < IRQ_LINES }
+    ensures { irqs.new ≡ after_event irqs.old event }
+{
+    if event.up {
+        irqs.raise(event.line);
+    } else {
+        irqs.lower(event.line);
+    }
+}
+
+/// Makes the interrupt lines that events leave, one after the other, of lines that there are.
+fn after_events(mut irqs: Irqs, events: &[Raise]) -> Irqs
+    requires { All (λ e. e.line < IRQ_LINES) events.now }
+    ensures { result ≡ after_events irqs events.now }
+{
+    for event in events {
+        change_line(&mut irqs, *event);
+    }
+    irqs
+}
+
+/// Raises or lowers the line of an event in the kernel, a line that there is.
+fn take_event(kernel: &mut Kernel<KernelReady>, event: Raise)
+    requires { event.line < IRQ_LINES }
+    ensures { (k : KernelState) → KernelStandsFor KernelStands kernel.old k
+        → KernelStandsFor KernelStands kernel.new (takes_event k event) }
+{
+    if event.up {
+        kernel.raise(event.line);
+    } else {
+        kernel.lower(event.line);
+    }
+}
+
 impl Iop {
-    /// Takes the events of the script that are due. Each raises its line.
+    /// Takes the events of the script that are due, in order. Each raises or lowers its line.
     pub(crate) fn take_events(&mut self)
         requires sound { IsSound self.old }
         ensures { (s : State) → Stands self.old s → Stands self.new (takes_events s) }
     {
         let now = self.kernel.now();
-        while let Some(line) = self.events.take_due(now) {
-            self.kernel.raise(line);
+        while let Some(event) = self.events.take_due(now) {
+            take_event(&mut self.kernel, event);
         }
     }
 
     /// Tells whether anything is to be delivered once the events that are due were taken. They are
     /// not taken for it: where nothing is, the next step may be one that the budget keeps from
-    /// beginning.
+    /// beginning. The lines are copied only where an event is due.
     fn would_deliver(&self) -> bool
         ensures { (s : State) → Stands self.now s
             → result ≡ is_some (delivers (core_of (takes_events s))) }
     {
-        if self.kernel.would_deliver(&self.cpu) {
-            return true;
+        let due = self.events.due(self.kernel.now());
+        if due.is_empty() {
+            return self.kernel.would_deliver(&self.cpu);
         }
-        let now = self.kernel.now();
-        for event in self.events.left() {
-            if event.at > now {
-                return false;
-            }
-            if self.kernel.would_deliver_raised(&self.cpu, event.line) {
-                return true;
-            }
-        }
-        false
+        let irqs = after_events(self.kernel.irqs().copied(), due);
+        self.kernel.would_deliver_with(&self.cpu, &irqs)
     }
 
     /// Delivers a line, an alarm or a delay, if one is to be delivered. Answers whether it did.

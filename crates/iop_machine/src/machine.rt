@@ -41,8 +41,8 @@ impl Machine {
     /// after the other, each handed its word of the command line and the words that the script has
     /// for it. They are at most `MOST_MODULES` of iop_script, no file has more than `LONGEST_FILE`
     /// bytes, and the words of each have room in the argument block: at most `MOST_WORDS`, which
-    /// take `MOST_WORD_BYTES` bytes. The script raises interrupt lines below 64, in the order of
-    /// their ticks, which are below 2^63.
+    /// take `MOST_WORD_BYTES` bytes. The script raises and lowers interrupt lines below 64, in the
+    /// order of their ticks, which are below 2^63.
     pub fn new(
         alloc: Global,
         size: u32,
@@ -51,14 +51,15 @@ impl Machine {
     ) -> Result<Self, AllocError>
         requires sized { IsRamSize size }
         requires few { length modules.items ≤ MOST_MODULES }
-        requires room { All HasRoom (modules_from script.args 1 modules.items) }
+        requires room { All HasRoom (modules_from script.args script.named 1 modules.items) }
         requires events { CanCome script.events }
         ensures stands { IfOk result (λ machine.
             StandsForWorld machine
-            (beginning size (modules_from script.args 1 modules.items) script.events)) }
+            (beginning size (modules_from script.args script.named 1 modules.items)
+            script.events)) }
         ensures sound { IfOk result IsSoundMachine }
     {
-        let left = ModulesLeft::new(modules, script.args);
+        let left = ModulesLeft::new(modules, script.args, script.named);
         let events = Events::new(script.events);
         Ok(Machine {
             is_new: true,

@@ -1,14 +1,14 @@
 //! The modules that were not loaded yet.
 
-ghost use Rattle.std.specs.Prelude.{◌≡◌, ◌≤◌, All, IfSome, option_map, drop, length};
+ghost use Rattle.std.specs.Prelude.{◌≡◌, ◌≤◌, [], All, IfSome, option_map, unwrap_or, drop, length};
 ghost use Rattle.std.specs.List.{slice_get};
-ghost use Rattle.iop_script.specs.Scripts.{words_for};
+ghost use Rattle.iop_script.specs.Scripts.{words_of_number, words_of_name, words_for};
 ghost use Rattle.iop_machine.specs.Modules.{modules_from, HasRoom};
 ghost use Rattle.iop_machine.specs.ModulesLeft.{module_of};
 ghost use Rattle.iop_script.specs.declared.statements.TheConstants.{MOST_MODULES};
 
 use crate::module::Module;
-use iop_script::{Args, Word};
+use iop_script::{Args, Named, Word};
 use std::marker::Model;
 
 /// A module that is to be loaded, with the words that it is handed.
@@ -29,6 +29,7 @@ pub(crate) struct Next<'a> {
 pub(crate) struct ModulesLeft {
     modules: Vec<Module>,
     args: Vec<Args>,
+    named: Vec<Named>,
     /// How many modules were taken.
     taken: usize,
 }
@@ -47,26 +48,46 @@ impl Model for ModulesLeft {
         × (length w.modules.items ≤ MOST_MODULES) };
 }
 
-/// Finds the words that the script has for a module.
-fn words_for(args: &[Args], number: u32) -> &[Word]
-    ensures { result.now ≡ words_for args.now number }
+/// Finds the words that the script has for a module's name: none where it has no line for it.
+fn words_of_name<'a>(named: &'a [Named], name: &[u8]) -> &'a [Word]
+    ensures { result.now ≡ unwrap_or (words_of_name named.now name.now) [] }
 {
-    match args.iter().find(|args| args.module == number) {
-        Some(args) => &args.words,
+    match named.iter().find(|named| named.name.as_slice() == name) {
+        Some(named) => &named.words,
         None => &[],
     }
 }
 
+/// Finds the words that the script has for a module's number: others where it has no line for it.
+fn words_of_number<'a>(args: &'a [Args], number: u32, others: &'a [Word]) -> &'a [Word]
+    ensures { result.now ≡ unwrap_or (words_of_number args.now number) others.now }
+{
+    match args.iter().find(|args| args.module == number) {
+        Some(args) => &args.words,
+        None => others,
+    }
+}
+
+/// Finds the words that the script has for a module: those of its number, else those of its name,
+/// else none.
+fn words_for<'a>(args: &'a [Args], named: &'a [Named], number: u32, name: &[u8]) -> &'a [Word]
+    ensures { result.now ≡ words_for args.now named.now number name.now }
+{
+    words_of_number(args, number, words_of_name(named, name))
+}
+
 impl ModulesLeft {
-    /// Makes them of the modules of a command and the words that the script has for them.
-    pub(crate) fn new(modules: Vec<Module>, args: Vec<Args>) -> Self
-        requires room { All HasRoom (modules_from args.items 1 modules.items) }
+    /// Makes them of the modules of a command and the words that the script has for them, by their
+    /// numbers and by their names.
+    pub(crate) fn new(modules: Vec<Module>, args: Vec<Args>, named: Vec<Named>) -> Self
+        requires room { All HasRoom (modules_from args.items named.items 1 modules.items) }
         requires few { length modules.items ≤ MOST_MODULES }
-        ensures { result ≡ modules_from args.items 1 modules.items }
+        ensures { result ≡ modules_from args.items named.items 1 modules.items }
     {
         ModulesLeft {
             modules,
             args,
+            named,
             taken: 0,
         }
     }
@@ -81,7 +102,7 @@ impl ModulesLeft {
         Some(Next {
             number,
             name: module.name.as_str(),
-            words: words_for(&self.args, number),
+            words: words_for(&self.args, &self.named, number, module.name.as_bytes()),
             file: &module.file,
         })
     }

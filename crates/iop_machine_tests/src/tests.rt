@@ -39,6 +39,7 @@ fn words_for_first(alloc: Global) -> Result<Script, AllocError>
     ensures events { IfOk result (λ script. script.events ≡ []) }
     ensures args { IfOk result (λ script.
         script.args ≡ record { number = 1; words = (97 ∷ []) ∷ (98 ∷ 99 ∷ []) ∷ [] } ∷ []) }
+    ensures named { IfOk result (λ script. script.named ≡ []) }
 {
     let first = Word {
         bytes: b"a".to_vec(alloc)?,
@@ -53,6 +54,7 @@ fn words_for_first(alloc: Global) -> Result<Script, AllocError>
     Ok(Script {
         events: Vec::new(alloc),
         args: vec![in alloc; args]?,
+        named: Vec::new(alloc),
     })
 }
 
@@ -145,6 +147,7 @@ fn loads_it(alloc: Global, file: Vec<u8>) -> Result<Machine, AllocError>
     let script = Script {
         events: Vec::new(alloc),
         args: Vec::new(alloc),
+        named: Vec::new(alloc),
     };
     Machine::new(alloc, 0x20_0000, modules, script)
 }

@@ -11,3 +11,4 @@ pub mod ValueLemmas
 pub mod SoundLemmas
 pub mod KindLemmas
 pub mod WritingLemmas
+pub mod SizeLemmas

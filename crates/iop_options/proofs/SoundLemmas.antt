@@ -1,13 +1,14 @@
 -- What always holds of a command.
-use Rattle.std.proofs.Common.{◌≡◌, ℕ, ◌≤◌, nat_le, Bool, true, false, cond, ◌&&◌, Option, Some, None, IfSome, MatchOption, All, List, [], ◌∷◌, length, refl, subst, leb-true, eqb-true, lit≤, arith}
-use Rattle.std.specs.Option.{option_map}
-use Rattle.std.specs.List.{list_all}
+use Rattle.std.proofs.Common.{◌≡◌, ℕ, ◌≤◌, nat_le, Bool, true, false, cond, ◌&&◌, Option, Some, None, IfSome, MatchOption, is_some, All, List, [], ◌∷◌, length, refl, subst, leb-true, eqb-true, lit≤, arith}
+use Rattle.std.specs.Option.{option_map, option_and_then}
+use Rattle.std.specs.List.{list_all, before_first, after_first}
 use Rattle.std.proofs.lemmas.List.Elements.{All-nil, All-cons}
 use Rattle.clap.proofs.WalkLemmas.{both}
 use Rattle.iop_base.specs.declared.limits.TheConstants.{MOST_WORKERS}
-use Rattle.iop_options.specs.Values.{budget_of, script_of, workers_of}
+use Rattle.iop_base.specs.Places.{range_at}
+use Rattle.iop_options.specs.Values.{DumpRange, IsInside, budget_of, script_of, workers_of, hex_of, range_of, is_colon, dump_of}
 use Rattle.iop_options.specs.Commands.{AreModules, is_module, has_its_modules, if_given}
-use Rattle.iop_options.specs.declared.limits.TheConstants.{MOST_BUDGET, LONGEST_WORD}
+use Rattle.iop_options.specs.declared.limits.TheConstants.{MOST_BUDGET, LONGEST_DUMP, LONGEST_WORD}
 use Rattle.iop_script.specs.declared.statements.TheConstants.{MOST_MODULES}
 use Rattle.iop_options.proofs.NumberLemmas.{number_between}
 
@@ -45,6 +46,32 @@ script_named text script e =
             → IfSome (cond b (Some name) None) (λ n. 1 ≤ length n)
         go true e = leb-true 1 (length name) e
         go false e = tt
+
+module _ (size : ℕ) where
+  range_inside : (from len : ℕ) → IfSome (range_of size from len) (IsInside size)
+  range_inside from len =
+      let fits = nat_le 1 len && nat_le len LONGEST_DUMP in
+      let inside = is_some (range_at size from len) in
+      go (fits && inside) (λ e. (both fits inside e).1)
+    where
+      go : (b : Bool) → (b ≡ true → is_some (range_at size from len) ≡ true)
+          → IfSome (cond b (Some (record { from = from; len = len })) None) (IsInside size)
+      go true holds = holds refl
+      go false holds = tt
+
+  written_inside : (text : List ℕ) → IfSome (dump_of size text) (IsInside size)
+  written_inside text =
+      go (hex_of (before_first is_colon text)) (hex_of (after_first is_colon text))
+    where
+      go : (from len : Option ℕ) → IfSome
+          (option_and_then (λ f. option_and_then (λ l. range_of size f l) len) from) (IsInside size)
+      go None len = tt
+      go (Some f) None = tt
+      go (Some f) (Some l) = range_inside f l
+
+  pub dump_inside : (text : Option (List ℕ)) (dump : Option DumpRange)
+      → if_given (dump_of size) text ≡ Some dump → IfSome dump (IsInside size)
+  dump_inside text dump e = if_given_holds (IsInside size) (dump_of size) written_inside text dump e
 
 pub workers_within : (text : Option (List ℕ)) (workers : Option ℕ)
     → if_given workers_of text ≡ Some workers

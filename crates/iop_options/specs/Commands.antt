@@ -3,8 +3,9 @@ use Rattle.std.specs.Prelude.{◌≡◌, ℕ, ◌≤◌, ◌==◌, nat_le, Bool,
 use Rattle.std.specs.List.{list_all}
 use Rattle.iop_base.specs.declared.limits.TheConstants.{MOST_WORKERS}
 use Rattle.iop_options.specs.Parts.{Part, parts_from, unless_repeated, value_of, files_of}
-use Rattle.iop_options.specs.Values.{DumpRange, budget_of, script_of, workers_of, dump_of}
+use Rattle.iop_options.specs.Values.{DumpRange, budget_of, script_of, workers_of, ram_bytes, ram_of, IsInside, dump_of}
 use Rattle.iop_options.specs.declared.limits.TheConstants.{MOST_BUDGET, LONGEST_WORD}
+use Rattle.iop_options.specs.declared.ram_size.RamSize.{RamSize}
 use Rattle.iop_script.specs.declared.statements.TheConstants.{MOST_MODULES}
 
 pub record Command : Type 0 where
@@ -14,6 +15,8 @@ pub record Command : Type 0 where
   pub script : Option (List ℕ)
   -- what is dumped at the end, if something is
   pub dump : Option DumpRange
+  -- how much memory the machine has
+  pub ram : RamSize
   -- how many workers the generated module has, if one is generated
   pub generate : Option ℕ
   -- the names of the modules' files, in order
@@ -37,31 +40,35 @@ if_given read None = Some None
 if_given read (Some text) = option_map (λ it. Some it) (read text)
 
 -- the command of these values, if none is bad and it has its modules
-abbrev pub command_with : Option ℕ → Option (Option (List ℕ)) → Option (Option DumpRange)
-    → Option (Option ℕ) → List (List ℕ) → Option Command
-command_with (Some budget) (Some script) (Some dump) (Some generate) modules =
+abbrev pub command_with : RamSize → Option ℕ → Option (Option (List ℕ))
+    → Option (Option DumpRange) → Option (Option ℕ) → List (List ℕ) → Option Command
+command_with ram (Some budget) (Some script) (Some dump) (Some generate) modules =
     if has_its_modules generate modules
     then Some (record {
       budget = budget;
       script = script;
       dump = dump;
+      ram = ram;
       generate = generate;
       modules = modules;
     })
     else None
-command_with budget script dump generate modules = None
+command_with ram budget script dump generate modules = None
 
--- the command by the values of its options, as texts, and its files
-abbrev pub command_from : (budget script dump generate : Option (List ℕ)) → List (List ℕ)
+-- the command by the values of its options, as texts, and its files. The dump lies inside memory of
+-- the size that is read
+abbrev pub command_from : (budget script dump ram generate : Option (List ℕ)) → List (List ℕ)
     → Option Command
-command_from budget script dump generate files = command_with (budget_of budget)
-    (if_given script_of script) (if_given dump_of dump) (if_given workers_of generate) files
+command_from budget script dump ram generate files = option_and_then
+    (λ size. command_with size (budget_of budget) (if_given script_of script)
+    (if_given (dump_of (ram_bytes size)) dump) (if_given workers_of generate) files)
+    (ram_of ram)
 
 -- the command that the parts are, if they are one
 abbrev pub command_given : List Part → Option Command
 command_given parts = command_from (value_of (codes "budget") parts)
     (value_of (codes "script") parts) (value_of (codes "dump") parts)
-    (value_of (codes "generate") parts) (files_of parts)
+    (value_of (codes "ram") parts) (value_of (codes "generate") parts) (files_of parts)
 
 -- the command that the words are, without the program's name, if they are one
 unfoldable pub command_of : List (List ℕ) → Option Command
@@ -78,6 +85,7 @@ pub record AreModules (words : List (List ℕ)) : Type 0 where
 pub record IsCommand (command : Command) : Type 0 where
   pub budget : command.budget ≤ MOST_BUDGET
   pub script : IfSome command.script (λ name. 1 ≤ length name)
+  pub dump : IfSome command.dump (IsInside (ram_bytes command.ram))
   pub workers : IfSome command.generate (λ workers. (1 ≤ workers) × (workers ≤ MOST_WORKERS))
   pub modules : MatchOption command.generate (AreModules command.modules)
       (λ workers. command.modules ≡ [])

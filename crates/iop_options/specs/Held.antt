@@ -8,6 +8,7 @@ command_held o = record {
   budget = o.budget;
   script = option_map string_bytes o.script;
   dump = o.dump;
+  ram = o.ram;
   generate = o.generate;
   modules = map string_bytes o.modules.items;
 }

@@ -1,10 +1,14 @@
--- What may be changed in the words of a command without changing the command.
-use Rattle.std.specs.Prelude.{◌≡◌, ℕ, ◌≤◌, true, false, Bool, not, None, is_some, codes, List, [], ◌∷◌, ◌++◌, length}
+-- What may be changed in the words of a command without changing the command, and what a size of
+-- memory says.
+use Rattle.std.specs.Prelude.{◌≡◌, ℕ, ◌*◌, ◌^◌, ◌≤◌, true, false, Bool, not, Some, None, is_some, codes, List, [], ◌∷◌, ◌++◌, length}
 use Rattle.std.specs.List.{list_all, list_any}
 use Rattle.std.specs.Str.{bytes_eq}
 use Rattle.iop_options.specs.Words.{is_hyphen, is_equals}
 use Rattle.iop_options.specs.Parts.{parts_from}
 use Rattle.iop_options.specs.Commands.{command_of}
+use Rattle.iop_options.specs.Numbers.{number_of}
+use Rattle.iop_options.specs.Values.{ram_bytes, ram_of}
+use Rattle.iop_options.specs.declared.ram_size.RamSize.{RamSize}
 
 -- `--NAME`
 abbrev pub option_word : (name : List ℕ) → List ℕ
@@ -48,3 +52,11 @@ pub record MayBeWrittenOtherwise (before : List (List ℕ)) : Type 0 where
 abbrev pub CommandsMayBeWrittenOtherwise : Type 0
 CommandsMayBeWrittenOtherwise =
     (before : List (List ℕ)) → IsFront before → MayBeWrittenOtherwise before
+
+-- the value of `--ram` is the number of MiB that memory has, in decimal, 2 to 8
+pub record SizesAreMebibytes : Type 0 where
+  pub written : (text : List ℕ) (size : RamSize) → ram_of (Some text) ≡ Some size
+      → (mebibytes : ℕ) × (number_of 10 2 8 text ≡ Some mebibytes)
+      × (ram_bytes size ≡ mebibytes * 2 ^ 20)
+  -- they are 2 where it is left out
+  pub left_out : (size : RamSize) → ram_of None ≡ Some size → ram_bytes size ≡ 2 * 2 ^ 20

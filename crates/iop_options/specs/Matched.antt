@@ -24,9 +24,10 @@ bare_app = on_top (λ shape. record shape { no_binary_name = true; disable_help_
     (new_app (codes "iop"))
 
 unfoldable pub iop_app : App
-iop_app = with_rule (with_rule (with_rule (with_rule (with_rule bare_app
+iop_app = with_rule (with_rule (with_rule (with_rule (with_rule (with_rule bare_app
     (option_rule (codes "budget"))) (option_rule (codes "script")))
-    (option_rule (codes "dump"))) (option_rule (codes "generate"))) file_rule
+    (option_rule (codes "dump"))) (option_rule (codes "ram")))
+    (option_rule (codes "generate"))) file_rule
 
 -- the list, unless it is empty
 abbrev pub unless_empty : List (List ℕ) → Option (List (List ℕ))
@@ -37,6 +38,7 @@ pub record HoldsParts (matches : ArgMatches) (parts : List Part) : Type 0 where
   pub budget : first_value (found_of matches) (codes "budget") ≡ value_of (codes "budget") parts
   pub script : first_value (found_of matches) (codes "script") ≡ value_of (codes "script") parts
   pub dump : first_value (found_of matches) (codes "dump") ≡ value_of (codes "dump") parts
+  pub ram : first_value (found_of matches) (codes "ram") ≡ value_of (codes "ram") parts
   pub generate : first_value (found_of matches) (codes "generate")
       ≡ value_of (codes "generate") parts
   pub files : option_map raw_values (matched_of (found_of matches) (codes "module"))
@@ -52,8 +54,8 @@ abbrev pub command_matched : ArgMatches → Option Command
 command_matched matches =
     let found = found_of matches in
     command_from (first_value found (codes "budget")) (first_value found (codes "script"))
-    (first_value found (codes "dump")) (first_value found (codes "generate"))
-    (files_matched matches)
+    (first_value found (codes "dump")) (first_value found (codes "ram"))
+    (first_value found (codes "generate")) (files_matched matches)
 
 -- the matches are those of the parts, unless host memory runs out
 abbrev pub FindsParts : Result ArgMatches WordFault → Option (List Part) → Type 0

@@ -19,7 +19,7 @@ fn value_option<'a>(alloc: Global, name: &'a str) -> Arg<'a>
     Arg::new(alloc, name).long(name).action(ArgAction::Set)
 }
 
-/// The command: four options, each of one value, and any number of modules.
+/// The command: five options, each of one value, and any number of modules.
 fn iop_command<'a>(alloc: Global) -> Result<Command<'a>, AllocError>
     ensures { IfOk result (λ command. app_of command ≡ iop_app) }
 {
@@ -30,6 +30,7 @@ fn iop_command<'a>(alloc: Global) -> Result<Command<'a>, AllocError>
         .arg(value_option(alloc, "budget"))?
         .arg(value_option(alloc, "script"))?
         .arg(value_option(alloc, "dump"))?
+        .arg(value_option(alloc, "ram"))?
         .arg(value_option(alloc, "generate"))?
         .arg(module)
 }

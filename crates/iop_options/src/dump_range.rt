@@ -5,7 +5,7 @@ use std::marker::Model;
 pub struct DumpRange {
     /// The guest's address of its first byte, through KUSEG, KSEG0 or KSEG1.
     pub from: u32,
-    /// How many bytes it has: 1 to `LONGEST_DUMP`, wholly inside RAM.
+    /// How many bytes it has: 1 to `LONGEST_DUMP`.
     pub len: u32,
 }
 

@@ -11,10 +11,12 @@ mod modules;
 mod numbers;
 mod options;
 mod parsing;
+mod ram_size;
 mod values;
 
 pub use dump_range::DumpRange;
 pub use fault::WordFault;
-pub use limits::{DEFAULT_BUDGET, LONGEST_DUMP, LONGEST_WORD, MEMORY_SIZE, MOST_BUDGET};
+pub use limits::{DEFAULT_BUDGET, LONGEST_DUMP, LONGEST_WORD, MOST_BUDGET};
 pub use options::Options;
 pub use parsing::parse_options;
+pub use ram_size::RamSize;

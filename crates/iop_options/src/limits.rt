@@ -1,8 +1,5 @@
 //! What the words of the command may ask for: this project's profile.
 
-/// How many bytes of memory the machine has: 2 MiB, as in a PlayStation 2.
-pub const MEMORY_SIZE: u32 = 0x20_0000;
-
 /// How many instructions a run may execute where the words do not say it.
 pub const DEFAULT_BUDGET: u64 = 10_000_000;
 

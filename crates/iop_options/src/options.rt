@@ -1,4 +1,5 @@
 use crate::dump_range::DumpRange;
+use crate::ram_size::RamSize;
 use std::marker::Model;
 
 /// What the words of a command choose. Either it names modules, or it generates one.
@@ -8,8 +9,10 @@ pub struct Options {
     pub budget: u64,
     /// The name of the script's file, if there is one: a byte at least.
     pub script: Option<String>,
-    /// The range that is dumped at the end, if there is one.
+    /// The range that is dumped at the end, if there is one: wholly inside RAM of the size `ram`.
     pub dump: Option<DumpRange>,
+    /// How much memory the machine has.
+    pub ram: RamSize,
     /// How many workers the generated module has, if one is generated: 1 to `MOST_WORKERS`.
     pub generate: Option<u32>,
     /// The names of the modules' files, in order: 1 to `MOST_MODULES`, each of 1 to `LONGEST_WORD`

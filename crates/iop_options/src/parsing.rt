@@ -10,7 +10,7 @@ use crate::copies::{copied, copied_all};
 use crate::fault::WordFault;
 use crate::modules::has_its_modules;
 use crate::options::Options;
-use crate::values::{budget_of, dump_of, script_of, workers_of};
+use crate::values::{budget_of, dump_of, ram_of, script_of, workers_of};
 use clap::ArgMatches;
 use std::alloc::Global;
 
@@ -18,9 +18,10 @@ use std::alloc::Global;
 fn options_of(alloc: Global, matches: &ArgMatches) -> Result<Options, WordFault>
     ensures { Gives result (command_matched matches.now) }
 {
+    let ram = ram_of(matches.get_str("ram")).ok_or(WordFault::Bad)?;
     let budget = budget_of(matches.get_str("budget")).ok_or(WordFault::Bad)?;
     let script = script_of(matches.get_str("script")).ok_or(WordFault::Bad)?;
-    let dump = dump_of(matches.get_str("dump")).ok_or(WordFault::Bad)?;
+    let dump = dump_of(ram, matches.get_str("dump")).ok_or(WordFault::Bad)?;
     let generate = workers_of(matches.get_str("generate")).ok_or(WordFault::Bad)?;
     let modules = matches.get_strs("module").unwrap_or(&[]);
     if !has_its_modules(generate, modules) {
@@ -30,6 +31,7 @@ fn options_of(alloc: Global, matches: &ArgMatches) -> Result<Options, WordFault>
         budget,
         script: copied(alloc, script)?,
         dump,
+        ram,
         generate,
         modules: copied_all(alloc, modules)?,
     })
@@ -37,7 +39,7 @@ fn options_of(alloc: Global, matches: &ArgMatches) -> Result<Options, WordFault>
 
 /// Reads the words of the command, without the program's name:
 ///
-/// `[--budget N] [--script FILE] [--dump FROM:LEN] [--generate N] MODULE...`
+/// `[--budget N] [--script FILE] [--dump FROM:LEN] [--ram M] [--generate N] MODULE...`
 ///
 /// - Options and modules stand in any order, each option at most once. Its value is the next word,
 ///   or stands behind `=`. All words behind `--` are modules.
@@ -46,7 +48,8 @@ fn options_of(alloc: Global, matches: &ArgMatches) -> Result<Options, WordFault>
 ///   Numbers may have leading zeros.
 /// - `--script` is a name of one byte at least.
 /// - `--dump` has two hexadecimal numbers of 1 to 8 digits: a range of 1 to `LONGEST_DUMP` bytes
-///   that lies wholly inside RAM of `MEMORY_SIZE` bytes.
+///   that lies wholly inside RAM of the size that `--ram` says, wherever that stands.
+/// - `--ram` is `2` or `8`, in MiB, and 2 where it is left out.
 /// - `--generate` is decimal, 1 to `MOST_WORKERS`, and then there is no module. Else there are 1 to
 ///   `MOST_MODULES` of them, each of 1 to `LONGEST_WORD` bytes.
 ///

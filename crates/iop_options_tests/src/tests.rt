@@ -1,4 +1,4 @@
-use iop_options::{Options, WordFault, parse_options};
+use iop_options::{Options, RamSize, WordFault, parse_options};
 use std::alloc::Global;
 use std::str::Lines;
 use std::test::Fail;
@@ -17,6 +17,13 @@ a --script=x=y=|10000000 x=y= [a]
 --dump a0000000:10000 a|10000000 none dump a0000000:10000 [a]
 --dump=0000aBcD:00000001 a|10000000 none dump abcd:1 [a]
 --dump 1ffff0:10 a|10000000 none dump 1ffff0:10 [a]
+--ram 2 a|10000000 none [a]
+--ram=8 a|10000000 none ram 8 [a]
+a --ram 8 --budget 1 -- --ram|1 none ram 8 [a] [--ram]
+--ram 8 --dump 7ffff0:10 a|10000000 none dump 7ffff0:10 ram 8 [a]
+--dump 80200000:10000 a --ram 8|10000000 none dump 80200000:10000 ram 8 [a]
+--dump a01ffff0:10 --ram 2 a|10000000 none dump a01ffff0:10 [a]
+--ram 8 --generate 2|10000000 none ram 8 generate 2
 --generate 250|10000000 none generate 250
 --generate=0001 --budget 7 --|7 none generate 1
 --script é é|10000000 é [é]
@@ -49,6 +56,21 @@ a --budget|bad
 --dump :10 a|bad
 --dump 10:1:1 a|bad
 --dump +10:1 a|bad
+--ram 8 --dump 7ffff0:11 a|bad
+--dump 800000:1 a --ram 8|bad
+--dump 1ffff0:11 a --ram 2|bad
+--ram 2 --dump 7ffff0:10 a|bad
+--ram 4 a|bad
+--ram 0 a|bad
+--ram 28 a|bad
+--ram 08 a|bad
+--ram 8M a|bad
+--ram= a|bad
+--ram  a|bad
+--ram|bad
+--ram -- 8 a|bad
+--ram 8 --ram 8 a|bad
+--ram=2 a --ram=8|bad
 --generate 0|bad
 --generate 251|bad
 --generate 4294967297|bad
@@ -66,6 +88,7 @@ help a|10000000 none [help] [a]
 --module a|bad
 --budget5 a|bad
 --dump5 a|bad
+--ram8 a|bad
 ";
 
 /// Gives the lines of the table.
@@ -95,6 +118,9 @@ fn shown(alloc: Global, options: &Options) -> Result<String, Fail> {
     let mut text = format!(in alloc; "{} {}", options.budget, script)?;
     if let Some(range) = options.dump {
         text.push_str(format!(in alloc; " dump {:x}:{:x}", range.from, range.len)?.as_str())?;
+    }
+    if options.ram == RamSize::EightMiB {
+        text.push_str(" ram 8")?;
     }
     if let Some(workers) = options.generate {
         text.push_str(format!(in alloc; " generate {}", workers)?.as_str())?;

@@ -1,21 +1,22 @@
 -- The lines of the words of modules, written and read.
-use Rattle.std.proofs.Common.{◌≡◌, ◌≢◌, ℕ, ◌<◌, ◌≤◌, ◌==◌, nat_le, true, false, not, ◌&&◌, Some, None, Ok, List, [], ◌∷◌, ◌++◌, length, map, codes, decimal, get_or, append_assoc, append-nil, refl, ap, sym, ◌∙◌, subst, arith}
+use Rattle.std.proofs.Common.{◌≡◌, ◌≢◌, ℕ, ◌<◌, ◌≤◌, ◌==◌, nat_le, true, false, not, ◌&&◌, Ok, List, [], ◌∷◌, ◌++◌, length, map, codes, decimal, get_or, append_assoc, append-nil, refl, ap, sym, ◌∙◌, subst, arith}
 use Rattle.std.specs.List.{All, AllPairs, list_all, list_any}
-use Rattle.std.specs.Option.{option_and_then}
 use Rattle.std.proofs.lemmas.Bool.{and_parts, le-leb, leb-true, ne_eqb}
 use Rattle.std.proofs.lemmas.List.{get_or_append_left, get_or_at, length-append}
 use Rattle.std.proofs.lemmas.List.Elements.{All-nil, All-cons, All-head, All-tail}
 use Rattle.std.proofs.lemmas.List.Folds.{list_any_none}
-use Rattle.iop_script.specs.Reading.{with_args, with_statement, after_line, next_number, unless_bad, read_lines}
+use Rattle.iop_script.specs.Reading.{with_args, is_short, with_fields, after_line, next_number, unless_bad, read_lines}
+use Rattle.iop_script.specs.Rules.{unless_broken, demand}
 use Rattle.iop_script.specs.Scripts.{Args, Script}
-use Rattle.iop_script.specs.Statements.{event_of, is_word, words_of, args_among, args_of}
+use Rattle.iop_script.specs.Statements.{is_word, words_of, args_of}
 use Rattle.iop_script.specs.Texts.{line_feed, space, parts}
 use Rattle.iop_script.specs.Writing.{args_line}
 use Rattle.iop_script.specs.declared.raise.Raise.{Raise}
+use Rattle.iop_script.specs.declared.rule.Rule.TheVariants as rule
 use Rattle.iop_script.specs.declared.statements.TheConstants.{MOST_MODULES, MOST_WORDS, LONGEST_ARGS}
+use Rattle.iop_script.specs.declared.version.Version.{Version}
 use Rattle.iop_script.proofs.Decimals.{decimal_read}
 use Rattle.iop_script.proofs.EventWriting.{decimal_lacks}
-use Rattle.iop_script.proofs.Fields.{no_event}
 use Rattle.iop_script.proofs.PartsJoined.{Differs, Lacks, lacks_by, lacks_tested, joined-lacks, parts-joined}
 
 -- words have no byte below theirs
@@ -24,16 +25,25 @@ byte_differs c low b is =
     let least : 0x21 ≤ b = leb-true 0x21 b (and_parts (nat_le 0x21 b) (nat_le b 0x7E) is).0 in
     ne_eqb b c (λ e. omega (arith, least, e))
 
-words_lack : (c : ℕ) → c < 0x21 → (words : List (List ℕ)) → list_all is_word words ≡ true
+pub word_lacks : (c : ℕ) → c < 0x21 → (word : List ℕ) → is_word word ≡ true → Lacks c word
+word_lacks c low word is =
+    let bytes = and_parts (not (length word == 0))
+    (list_all (λ b. nat_le 0x21 b && nat_le b 0x7E) word) is in
+    lacks_by c (λ b. nat_le 0x21 b && nat_le b 0x7E) (byte_differs c low) word bytes.1
+
+pub words_lack : (c : ℕ) → c < 0x21 → (words : List (List ℕ)) → list_all is_word words ≡ true
     → All (Lacks c) words
 words_lack c low [] all = All-nil (Lacks c)
 words_lack c low (word ∷ words) all =
     let tests = and_parts (is_word word) (list_all is_word words) all in
-    let bytes = and_parts (not (length word == 0))
-    (list_all (λ b. nat_le 0x21 b && nat_le b 0x7E) word) tests.0 in
-    All-cons (Lacks c) word words
-    (lacks_by c (λ b. nat_le 0x21 b && nat_le b 0x7E) (byte_differs c low) word bytes.1)
-    (words_lack c low words tests.1)
+    All-cons (Lacks c) word words (word_lacks c low word tests.0) (words_lack c low words tests.1)
+
+-- words that can be written are read
+pub words_said : (words : List (List ℕ)) → length words ≤ MOST_WORDS
+    → list_all is_word words ≡ true → words_of words ≡ Ok words
+unfolding words_of
+words_said words most are_words =
+    let few = le-leb (length words) MOST_WORDS most in rw (few, are_words) refl
 
 -- words of a module that can be written
 pub record AreArgs (a : Args) : Type 0 where
@@ -63,34 +73,25 @@ module _ (a : Args) (h : AreArgs a) where
       parts-joined space (codes "args") (decimal a.number ∷ a.words)
       (lacks_tested space (codes "args") refl) (fields_lack space (omega arith))
 
-  words_said : words_of a.words ≡ Some a.words
-  unfolding words_of
-  words_said = let few = le-leb (length a.words) MOST_WORDS h.few in rw (few, h.words) refl
-
-  args_among_said : args_among (codes "args" ∷ decimal a.number ∷ a.words) ≡ Some a
-  unfolding args_among
-  args_among_said =
-      let number = decimal_read 1 MOST_MODULES a.number (omega (arith, h.most)) h.least h.most in
-      rw (number, words_said) refl
-
   -- and says them
-  args_said : args_of (args_line a) ≡ Some a
+  args_said : args_of (decimal a.number ∷ a.words) ≡ Ok a
   unfolding args_of
   args_said =
-      let short = le-leb (length (args_line a)) LONGEST_ARGS h.short in
-      rw short (ap args_among args_parts ∙ args_among_said)
+      let number = decimal_read 1 MOST_MODULES a.number (omega (arith, h.most)) h.least h.most in
+      let words = words_said a.words h.few h.words in
+      rw (number, words) refl
 
-  no_event_said : event_of (parts space (args_line a)) ≡ None
-  no_event_said =
-      ap event_of args_parts ∙ no_event (codes "args") (decimal a.number ∷ a.words) refl
-
-  pub args_taken : (script : Script)
+  pub args_taken : (version : Version) (script : Script)
       → list_any (λ other. other.number == a.number) script.args ≡ false
-      → after_line script (args_line a) ≡ Some (record script { args = script.args ++ a ∷ [] })
+      → after_line version script (args_line a)
+      ≡ Ok (record script { args = script.args ++ a ∷ [] })
   unfolding after_line
-  args_taken script other =
-      ap (with_statement script (args_line a)) no_event_said
-      ∙ ap (option_and_then (with_args script)) args_said ∙ (rw other refl)
+  args_taken version script other =
+      let short = le-leb (length (args_line a)) LONGEST_ARGS h.short in
+      ap (with_fields version script (args_line a)) args_parts
+      ∙ ap (λ r. demand rule.LineLength (is_short (args_line a))
+      (unless_broken r (with_args script))) args_said
+      ∙ (rw (short, other) refl)
 
 -- no module twice
 others_before : (before : List Args) (a : Args) (rest : List Args)
@@ -106,25 +107,28 @@ others_before before a rest pairs =
     ne_eqb (get_or before k d).number a.number
     (λ e. far (ap (λ (x : Args). x.number) first ∙ e ∙ sym (ap (λ (x : Args). x.number) last))))
 
-abbrev script_with : List Raise → List Args → Script
-script_with events args = record { events = events; args = args }
+abbrev pub script_with : List Raise → List Args → Script
+script_with events args = record { events = events; args = args; named = [] }
 
--- the lines of the words of modules
-pub args_read : (number : ℕ) (events : List Raise) (before args : List Args)
+-- the lines of the words of modules, before others
+pub args_read : (version : Version) (number : ℕ) (events : List Raise) (before args : List Args)
+    (more : List (List ℕ)) (final : Script)
     → AllPairs (λ x y. x.number ≢ y.number) (before ++ args) → All AreArgs args
-    → read_lines number (script_with events before) (map args_line args)
-    ≡ Ok (script_with events (before ++ args))
+    → ((n : ℕ) → read_lines version n (script_with events (before ++ args)) more ≡ Ok final)
+    → read_lines version number (script_with events before) (map args_line args ++ more) ≡ Ok final
 unfolding read_lines
-args_read number events before [] pairs all =
-    ap (λ (xs : List Args). Ok (script_with events xs)) (sym (append-nil before))
-args_read number events before (a ∷ args) pairs all =
-    let script : Script = script_with events before in
-    let taken = args_taken a (All-head AreArgs a args all) script
+args_read version number events before [] more final pairs all rest =
+    ap (λ (xs : List Args). read_lines version number (script_with events xs) more)
+    (sym (append-nil before))
+    ∙ rest number
+args_read version number events before (a ∷ args) more final pairs all rest =
+    let taken = args_taken a (All-head AreArgs a args all) version (script_with events before)
     (others_before before a args pairs) in
     let same = append_assoc before (a ∷ []) args in
+    let lines = map args_line args ++ more in
     ap (unless_bad number
-    (λ (next : Script). read_lines (next_number number) next (map args_line args))) taken
-    ∙ args_read (next_number number) events (before ++ a ∷ []) args
+    (λ (next : Script). read_lines version (next_number number) next lines)) taken
+    ∙ args_read version (next_number number) events (before ++ a ∷ []) args more final
     (subst (AllPairs (λ (x y : Args). x.number ≢ y.number)) (sym same) pairs)
     (All-tail AreArgs a args all)
-    ∙ ap (λ (xs : List Args). Ok (script_with events xs)) same
+    (λ n. ap (λ (xs : List Args). read_lines version n (script_with events xs) more) same ∙ rest n)

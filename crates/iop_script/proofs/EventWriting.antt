@@ -1,20 +1,24 @@
 -- The lines of events, written and read.
-use Rattle.std.proofs.Common.{◌≡◌, ℕ, suc, ◌+◌, ◌-◌, ◌^◌, ◌<◌, ◌≤◌, nat_le, true, Option, Some, Ok, List, [], ◌∷◌, ◌++◌, length, map, codes, decimal, append_assoc, append-nil, unwrap_or, option_map, refl, ap, sym, ◌∙◌, subst, arith}
+use Rattle.std.proofs.Common.{◌≡◌, ℕ, suc, ◌+◌, ◌-◌, ◌^◌, ◌<◌, ◌≤◌, nat_le, Bool, true, false, cond, Option, Some, Ok, List, [], ◌∷◌, ◌++◌, length, map, codes, decimal, append_assoc, append-nil, unwrap_or, option_map, refl, ap, sym, ◌∙◌, subst, arith}
 use Rattle.std.specs.List.{All, AllPairs, slice_get}
 use Rattle.std.specs.Char.{is_ascii_digit}
 use Rattle.std.proofs.lemmas.Bool.{and_parts, le-leb, leb-true, ne_eqb}
 use Rattle.std.proofs.lemmas.List.{get_or_push, length-append}
 use Rattle.std.proofs.lemmas.List.Elements.{All-nil, All-cons, All-head, All-tail}
 use Rattle.std.proofs.lemmas.Option.{slice_get-get_or}
-use Rattle.iop_script.specs.Reading.{last_tick, with_statement, after_line, next_number, unless_bad, read_lines}
+use Rattle.iop_script.specs.Reading.{last_tick, with_event, with_fields, after_line, next_number, unless_bad, read_lines}
+use Rattle.iop_script.specs.Rules.{unless_broken}
 use Rattle.iop_script.specs.Scripts.{Script}
-use Rattle.iop_script.specs.Statements.{event_of}
+use Rattle.iop_script.specs.Statements.{raises, event_of}
 use Rattle.iop_script.specs.Texts.{line_feed, space, parts}
-use Rattle.iop_script.specs.Writing.{event_line}
+use Rattle.iop_script.specs.Writing.{change_word, event_line}
 use Rattle.iop_script.specs.declared.raise.Raise.{Raise}
 use Rattle.iop_script.specs.declared.statements.TheConstants.{LAST_TICK, LAST_LINE}
+use Rattle.iop_script.specs.declared.version.Version.{Version}
+use Rattle.iop_script.specs.declared.version.Version.TheVariants.{One, Two}
 use Rattle.iop_script.proofs.Decimals.{decimal_read, decimal_digits}
 use Rattle.iop_script.proofs.PartsJoined.{Differs, Lacks, lacks_by, lacks_tested, joined-lacks, parts-joined}
+use Rattle.iop_script.proofs.StatementLaws.{CanChange}
 
 -- digits have no byte below them
 digit_differs : (c : ℕ) → c < 48 → (b : ℕ) → is_ascii_digit b ≡ true → Differs c b
@@ -26,20 +30,39 @@ pub decimal_lacks : (c n : ℕ) → c < 48 → n < 2 ^ 64 → Lacks c (decimal n
 decimal_lacks c n low small =
     lacks_by c is_ascii_digit (digit_differs c low) (decimal n) (decimal_digits n small)
 
+abbrev word_for : Bool → List ℕ
+word_for up = cond up (codes "line") (codes "release")
+
+feed_lacks : (up : Bool) → Lacks line_feed (word_for up)
+feed_lacks true = lacks_tested line_feed (codes "line") refl
+feed_lacks false = lacks_tested line_feed (codes "release") refl
+
+space_lacks : (up : Bool) → Lacks space (word_for up)
+space_lacks true = lacks_tested space (codes "line") refl
+space_lacks false = lacks_tested space (codes "release") refl
+
+change_read : (version : Version) (up : Bool) → CanChange version up
+    → raises version (word_for up) ≡ Some up
+change_read One true can = refl
+change_read One false can = absurd (cc)
+change_read Two true can = refl
+change_read Two false can = refl
+
 -- an event that can be written
-pub record IsEvent (e : Raise) : Type 0 where
+pub record IsEvent (version : Version) (e : Raise) : Type 0 where
   pub tick : e.at < 2 ^ 63
   pub line : e.line < 64
+  pub up : CanChange version e.up
 
 abbrev event_fields : Raise → List (List ℕ)
-event_fields e = decimal e.at ∷ codes "line" ∷ decimal e.line ∷ []
+event_fields e = decimal e.at ∷ change_word e ∷ decimal e.line ∷ []
 
-module _ (e : Raise) (h : IsEvent e) where
-  fields_lack : (c : ℕ) → c < 48 → Lacks c (codes "line") → All (Lacks c) (event_fields e)
+module _ (version : Version) (e : Raise) (h : IsEvent version e) where
+  fields_lack : (c : ℕ) → c < 48 → Lacks c (change_word e) → All (Lacks c) (event_fields e)
   fields_lack c low word =
-      All-cons (Lacks c) (decimal e.at) (codes "line" ∷ decimal e.line ∷ [])
+      All-cons (Lacks c) (decimal e.at) (change_word e ∷ decimal e.line ∷ [])
       (decimal_lacks c e.at low (omega (arith, h.tick)))
-      (All-cons (Lacks c) (codes "line") (decimal e.line ∷ []) word
+      (All-cons (Lacks c) (change_word e) (decimal e.line ∷ []) word
       (All-cons (Lacks c) (decimal e.line) [] (decimal_lacks c e.line low (omega (arith, h.line)))
       (All-nil (Lacks c))))
 
@@ -49,33 +72,32 @@ module _ (e : Raise) (h : IsEvent e) where
       joined-lacks line_feed space refl (codes "at" ∷ event_fields e)
       (All-cons (Lacks line_feed) (codes "at") (event_fields e)
       (lacks_tested line_feed (codes "at") refl)
-      (fields_lack line_feed (omega arith) (lacks_tested line_feed (codes "line") refl)))
+      (fields_lack line_feed (omega arith) (feed_lacks e.up)))
 
   event_parts : parts space (event_line e) ≡ codes "at" ∷ event_fields e
   event_parts =
       parts-joined space (codes "at") (event_fields e) (lacks_tested space (codes "at") refl)
-      (fields_lack space (omega arith) (lacks_tested space (codes "line") refl))
-
-  event_among : event_of (codes "at" ∷ event_fields e) ≡ Some e
-  unfolding event_of
-  event_among =
-      let at = decimal_read 0 LAST_TICK e.at (omega (arith, h.tick)) (omega arith)
-      (omega (arith, h.tick)) in
-      let line = decimal_read 0 LAST_LINE e.line (omega (arith, h.line)) (omega arith)
-      (omega (arith, h.line)) in
-      rw (at, line) refl
+      (fields_lack space (omega arith) (space_lacks e.up))
 
   -- and says it
-  event_said : event_of (parts space (event_line e)) ≡ Some e
-  event_said = ap event_of event_parts ∙ event_among
+  event_said : event_of version (event_fields e) ≡ Ok e
+  unfolding event_of
+  event_said =
+      let at = decimal_read 0 LAST_TICK e.at (omega (arith, h.tick)) (omega arith)
+      (omega (arith, h.tick)) in
+      let up = change_read version e.up h.up in
+      let line = decimal_read 0 LAST_LINE e.line (omega (arith, h.line)) (omega arith)
+      (omega (arith, h.line)) in
+      rw (at, up, line) refl
 
   pub event_taken : (script : Script) → last_tick script.events ≤ e.at
-      → after_line script (event_line e)
-      ≡ Some (record script { events = script.events ++ e ∷ [] })
+      → after_line version script (event_line e)
+      ≡ Ok (record script { events = script.events ++ e ∷ [] })
   unfolding after_line
   event_taken script late =
       let behind = le-leb (last_tick script.events) e.at late in
-      ap (with_statement script (event_line e)) event_said ∙ (rw behind refl)
+      ap (with_fields version script (event_line e)) event_parts
+      ∙ ap (λ r. unless_broken r (with_event script)) event_said ∙ (rw behind refl)
 
 -- events none of which is before the one before it, the first not before a tick
 abbrev IsFrom : ℕ → List Raise → Type 0
@@ -105,31 +127,35 @@ last_of events e =
     ∙ ap (λ (x : Raise). x.at) (get_or_push events e e (length events) refl)
 
 abbrev pub with_events : List Raise → Script
-with_events events = record { events = events; args = [] }
+with_events events = record { events = events; args = []; named = [] }
 
--- the lines of events, before others
-read_from : (number : ℕ) (before events : List Raise) (more : List (List ℕ)) (final : Script)
-    → IsFrom (last_tick before) events → All IsEvent events
-    → ((n : ℕ) → read_lines n (with_events (before ++ events)) more ≡ Ok final)
-    → read_lines number (with_events before) (map event_line events ++ more) ≡ Ok final
-unfolding read_lines
-read_from number before [] more final order all rest =
-    ap (λ (es : List Raise). read_lines number (with_events es) more) (sym (append-nil before))
-    ∙ rest number
-read_from number before (e ∷ events) more final order all rest =
-    let taken = event_taken e (All-head IsEvent e events all) (with_events before) order.0 in
-    let lines = map event_line events ++ more in
-    ap (unless_bad number (λ (next : Script). read_lines (next_number number) next lines)) taken
-    ∙ read_from (next_number number) (before ++ e ∷ []) events more final
-    (subst (λ (tick : ℕ). IsFrom tick events) (sym (last_of before e)) order.1)
-    (All-tail IsEvent e events all)
-    (λ n. ap (λ (es : List Raise). read_lines n (with_events es) more)
-    (append_assoc before (e ∷ []) events)
-    ∙ rest n)
+module _ (version : Version) where
+  -- the lines of events, before others
+  read_from : (number : ℕ) (before events : List Raise) (more : List (List ℕ)) (final : Script)
+      → IsFrom (last_tick before) events → All (IsEvent version) events
+      → ((n : ℕ) → read_lines version n (with_events (before ++ events)) more ≡ Ok final)
+      → read_lines version number (with_events before) (map event_line events ++ more) ≡ Ok final
+  unfolding read_lines
+  read_from number before [] more final order all rest =
+      ap (λ (es : List Raise). read_lines version number (with_events es) more)
+      (sym (append-nil before))
+      ∙ rest number
+  read_from number before (e ∷ events) more final order all rest =
+      let taken = event_taken version e (All-head (IsEvent version) e events all)
+      (with_events before) order.0 in
+      let lines = map event_line events ++ more in
+      ap (unless_bad number
+      (λ (next : Script). read_lines version (next_number number) next lines)) taken
+      ∙ read_from (next_number number) (before ++ e ∷ []) events more final
+      (subst (λ (tick : ℕ). IsFrom tick events) (sym (last_of before e)) order.1)
+      (All-tail (IsEvent version) e events all)
+      (λ n. ap (λ (es : List Raise). read_lines version n (with_events es) more)
+      (append_assoc before (e ∷ []) events)
+      ∙ rest n)
 
-pub events_read : (number : ℕ) (events : List Raise) (more : List (List ℕ)) (final : Script)
-    → AllPairs (λ x y. x.at ≤ y.at) events → All IsEvent events
-    → ((n : ℕ) → read_lines n (with_events events) more ≡ Ok final)
-    → read_lines number (with_events []) (map event_line events ++ more) ≡ Ok final
-events_read number events more final order all rest =
-    read_from number [] events more final (from_start events order) all rest
+  pub events_read : (number : ℕ) (events : List Raise) (more : List (List ℕ)) (final : Script)
+      → AllPairs (λ x y. x.at ≤ y.at) events → All (IsEvent version) events
+      → ((n : ℕ) → read_lines version n (with_events events) more ≡ Ok final)
+      → read_lines version number (with_events []) (map event_line events ++ more) ≡ Ok final
+  events_read number events more final order all rest =
+      read_from number [] events more final (from_start events order) all rest

@@ -1,15 +1,16 @@
 pub mod PartLemmas
 pub mod Numbers
-pub mod WordLemmas
 pub mod Fields
 pub mod LineLemmas
 pub mod StatementLaws
 pub mod Decimals
 pub mod LinesWritten
 pub mod ScriptLaws
+pub mod RuleLists
 pub mod PartsJoined
 pub mod BadLines
 pub mod FirstBad
 pub mod EventWriting
 pub mod ArgsWriting
+pub mod NamedWriting
 pub mod Written

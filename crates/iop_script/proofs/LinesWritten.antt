@@ -1,20 +1,21 @@
 -- The line of words that was read is the one that they are written as.
-use Rattle.std.proofs.Common.{◌≡◌, ℕ, ◌^◌, ◌<◌, ◌≤◌, ◌==◌, nat_le, Bool, true, false, not, ◌&&◌, ◌||◌, Some, List, [], ◌∷◌, length, codes, decimal, slice_index, refl, ap, sym, ◌∙◌, subst, arith}
+use Rattle.std.proofs.Common.{◌≡◌, ℕ, ◌^◌, ◌<◌, ◌≤◌, ◌==◌, nat_le, Bool, true, false, not, ◌&&◌, ◌||◌, Ok, List, [], ◌∷◌, length, codes, decimal, slice_index, refl, ap, sym, ◌∙◌, subst, arith}
 use Rattle.std.specs.List.{list_all}
-use Rattle.std.specs.Option.{option_map}
 use Rattle.std.specs.Char.{is_ascii_digit}
 use Rattle.std.specs.Str.{bytes_eq}
 use Rattle.std.proofs.lemmas.Bool.{and_parts, eqb-true, eq-eqb, leb-true, true≢false}
 use Rattle.std.proofs.lemmas.Fmt.{decimal-digits_value}
 use Rattle.std.proofs.lemmas.List.Splits.{join_with_byte-slice_split}
 use Rattle.std.proofs.lemmas.Slice.Eq.{bytes_eq-Decides}
-use Rattle.iop_script.specs.Scripts.{Args}
-use Rattle.iop_script.specs.Statements.{is_word, words_of, args_among, args_of}
+use Rattle.iop_script.specs.Scripts.{Args, Named}
+use Rattle.iop_script.specs.Statements.{is_word, number_in, args_of, named_of}
 use Rattle.iop_script.specs.Texts.{space, parts, is_decimal, value_of, number_of}
-use Rattle.iop_script.specs.Writing.{args_line, line_of}
-use Rattle.iop_script.specs.declared.statements.TheConstants.{MOST_MODULES, MOST_WORDS, LONGEST_ARGS}
+use Rattle.iop_script.specs.Writing.{args_line, named_line, line_of}
+use Rattle.iop_script.specs.declared.rule.Rule.{Rule}
+use Rattle.iop_script.specs.declared.rule.Rule.TheVariants as rule
+use Rattle.iop_script.specs.declared.statements.TheConstants.{MOST_MODULES, LONGEST_ARGS}
 use Rattle.iop_script.proofs.Decimals.{numerals}
-use Rattle.iop_script.proofs.StatementLaws.{if_some, then_some, map_some, some_value, AreFew, args_within}
+use Rattle.iop_script.proofs.StatementLaws.{if_some, some_value, ok_value, some_behind, demand_met, ok_behind, AreWords, words_within}
 
 -- a zero before others is refused
 alone_zero : (field : List ℕ) (b : Bool) → (length field == 1) ≡ b
@@ -47,11 +48,11 @@ record IsNumber (least most n : ℕ) (field : List ℕ) : Type 0 where
   low : least ≤ n
   high : n ≤ most
 
-number_written : (least most n : ℕ) (field : List ℕ) → most < 2 ^ 64
-    → number_of least most field ≡ Some n → IsNumber least most n field
+number_written : (rule : Rule) (least most n : ℕ) (field : List ℕ) → most < 2 ^ 64
+    → number_in rule least most field ≡ Ok n → IsNumber least most n field
 unfolding number_of
-number_written least most n field small is =
-    let found = if_some _ _ _ is in
+number_written rule least most n field small is =
+    let found = if_some _ _ _ (some_behind (number_of least most field) rule n is) in
     let both = and_parts (is_decimal field && nat_le least (value_of field))
     (nat_le (value_of field) most) found.0 in
     let front = and_parts (is_decimal field) (nat_le least (value_of field)) both.0 in
@@ -63,66 +64,72 @@ number_written least most n field small is =
       high = subst (λ (v : ℕ). v ≤ most) value high;
     }
 
-words_written : (fields words : List (List ℕ)) → words_of fields ≡ Some words
-    → (fields ≡ words) × (list_all is_word fields ≡ true)
-unfolding words_of
-words_written fields words is =
-    let found = if_some _ _ _ is in
-    let both = and_parts (nat_le (length fields) MOST_WORDS) (list_all is_word fields) found.0 in
-    (some_value _ _ found.1, both.1)
+-- a line joined of the fields that were read of it
+joined : (line : List ℕ) (fields : List (List ℕ)) → parts space line ≡ fields
+    → line_of fields ≡ line
+joined line fields cut = sym (ap line_of cut) ∙ join_with_byte-slice_split space line
 
--- the fields of words that were read
-record AreFieldsOf (a : Args) (fields : List (List ℕ)) : Type 0 where
-  same : codes "args" ∷ decimal a.number ∷ a.words ≡ fields
-  least : 1 ≤ a.number
-  most : a.number ≤ MOST_MODULES
-  words : list_all is_word a.words ≡ true
+-- words that were read of a line
+pub record IsOfLine (a : Args) : Type 0 where
+  pub words : AreWords a.words
+  pub least : 1 ≤ a.number
+  pub most : a.number ≤ MOST_MODULES
+  pub short : length (args_line a) ≤ LONGEST_ARGS
+
+pub record IsNamedOfLine (n : Named) : Type 0 where
+  pub words : AreWords n.words
+  pub name : is_word n.name ≡ true
+  pub short : length (named_line n) ≤ LONGEST_ARGS
 
 abbrev args_with : ℕ → List (List ℕ) → Args
 args_with n words = record { number = n; words = words }
 
-fields_written : (fields : List (List ℕ)) (a : Args) → args_among fields ≡ Some a
-    → AreFieldsOf a fields
-unfolding args_among
-fields_written [] a is = absurd (cc)
-fields_written (keyword ∷ []) a is = absurd (cc)
-fields_written (keyword ∷ number ∷ fields) a is =
-    let found = if_some (bytes_eq keyword (codes "args")) _ a is in
-    let n = then_some (λ (n : ℕ). option_map (args_with n) (words_of fields))
-    (number_of 1 MOST_MODULES number) a found.1 in
-    let read = map_some (args_with n.0) (words_of fields) a n.2 in
-    let name = (bytes_eq-Decides keyword (codes "args")).0 found.0 in
-    let number_is = number_written 1 MOST_MODULES n.0 number (omega arith) n.1 in
-    let words = words_written fields read.0 read.1 in
-    let made : AreFieldsOf (args_with n.0 fields) (keyword ∷ number ∷ fields) = record {
-      same = ap (λ (k : List ℕ). k ∷ decimal n.0 ∷ fields) (sym name)
-          ∙ ap (λ (d : List ℕ). keyword ∷ d ∷ fields) number_is.digits;
-      least = number_is.low;
-      most = number_is.high;
-      words = words.1;
-    } in
-    subst (λ (x : Args). AreFieldsOf x (keyword ∷ number ∷ fields))
-    (ap (args_with n.0) words.0 ∙ some_value _ _ read.2) made
+abbrev named_with : List ℕ → List (List ℕ) → Named
+named_with name words = record { name = name; words = words }
 
--- words that were read of a line
-pub record IsOfLine (a : Args) : Type 0 where
-  pub few : AreFew a
-  pub least : 1 ≤ a.number
-  pub most : a.number ≤ MOST_MODULES
-  pub words : list_all is_word a.words ≡ true
-  pub short : length (args_line a) ≤ LONGEST_ARGS
+module _ (line keyword : List ℕ) (short : length line ≤ LONGEST_ARGS) where
+  short_line : (fields : List (List ℕ)) → parts space line ≡ fields
+      → length (line_of fields) ≤ LONGEST_ARGS
+  short_line fields cut =
+      subst (λ (l : List ℕ). length l ≤ LONGEST_ARGS) (sym (joined line fields cut)) short
 
-pub args_of_line : (line : List ℕ) (a : Args) → args_of line ≡ Some a → IsOfLine a
-unfolding args_of
-args_of_line line a is =
-    let found = if_some _ _ _ is in
-    let h = fields_written (parts space line) a found.1 in
-    let same : args_line a ≡ line = ap line_of h.same ∙ join_with_byte-slice_split space line in
-    record {
-      few = args_within line a is;
-      least = h.least;
-      most = h.most;
-      words = h.words;
-      short = subst (λ (l : List ℕ). length l ≤ LONGEST_ARGS) (sym same)
-          (leb-true (length line) LONGEST_ARGS found.0);
-    }
+  pub args_of_line : (fields : List (List ℕ)) (a : Args) → parts space line ≡ keyword ∷ fields
+      → bytes_eq keyword (codes "args") ≡ true → args_of fields ≡ Ok a → IsOfLine a
+  unfolding args_of
+  args_of_line [] a cut is_args is = absurd (cc)
+  args_of_line (number ∷ fields) a cut is_args is =
+      let n = ok_behind _ _ _ is in
+      let words = ok_behind _ _ _ n.2 in
+      let within = words_within line keyword number fields words.0 cut short words.1 in
+      let number_is = number_written rule.Module 1 MOST_MODULES n.0 number (omega arith) n.1 in
+      let same : keyword ∷ number ∷ fields ≡ codes "args" ∷ decimal n.0 ∷ words.0 =
+      ap (λ (k : List ℕ). k ∷ number ∷ fields)
+      ((bytes_eq-Decides keyword (codes "args")).0 is_args)
+      ∙ ap (λ (d : List ℕ). codes "args" ∷ d ∷ fields) (sym number_is.digits)
+      ∙ ap (λ (ws : List (List ℕ)). codes "args" ∷ decimal n.0 ∷ ws) within.0 in
+      let read : IsOfLine (args_with n.0 words.0) = record {
+        words = within.1;
+        least = number_is.low;
+        most = number_is.high;
+        short = short_line (codes "args" ∷ decimal n.0 ∷ words.0) (cut ∙ same);
+      } in
+      subst IsOfLine (ok_value _ _ words.2) read
+
+  pub named_of_line : (fields : List (List ℕ)) (n : Named) → parts space line ≡ keyword ∷ fields
+      → bytes_eq keyword (codes "for") ≡ true → named_of fields ≡ Ok n → IsNamedOfLine n
+  unfolding named_of
+  named_of_line [] n cut is_for is = absurd (cc)
+  named_of_line (name ∷ fields) n cut is_for is =
+      let named = demand_met _ _ _ n is in
+      let words = ok_behind _ _ _ named.1 in
+      let within = words_within line keyword name fields words.0 cut short words.1 in
+      let same : keyword ∷ name ∷ fields ≡ codes "for" ∷ name ∷ words.0 =
+      ap (λ (k : List ℕ). k ∷ name ∷ fields)
+      ((bytes_eq-Decides keyword (codes "for")).0 is_for)
+      ∙ ap (λ (ws : List (List ℕ)). codes "for" ∷ name ∷ ws) within.0 in
+      let read : IsNamedOfLine (named_with name words.0) = record {
+        words = within.1;
+        name = named.0;
+        short = short_line (codes "for" ∷ name ∷ words.0) (cut ∙ same);
+      } in
+      subst IsNamedOfLine (ok_value _ _ words.2) read

@@ -1,72 +1,101 @@
 -- What holds of a statement that was read.
-use Rattle.std.proofs.Common.{◌≡◌, ℕ, ◌+◌, ◌<◌, ◌≤◌, ◌==◌, Bool, true, false, cond, Option, None, Some, List, [], ◌∷◌, length, codes, refl, ◌∙◌, ap, subst, arith}
-use Rattle.std.specs.List.{sum_by, slice_split, onto_first}
-use Rattle.std.specs.Option.{option_map, option_and_then}
+use Rattle.std.proofs.Common.{◌≡◌, ℕ, ◌+◌, ◌<◌, ◌≤◌, ◌==◌, Bool, true, false, cond, ◌&&◌, Option, None, Some, Result, Ok, Err, List, [], ◌∷◌, length, codes, refl, ◌∙◌, ap, sym, subst, arith}
+use Rattle.std.specs.List.{list_all, slice_split, onto_first}
+use Rattle.std.specs.Option.{ok_or}
 use Rattle.std.specs.Str.{bytes_eq}
 use Rattle.std.proofs.lemmas.Bool.{and_parts, leb-true}
 use Rattle.std.proofs.lemmas.List.Sums.{sum_by-cons}
 use Rattle.std.proofs.lemmas.List.Splits.{length-slice_split, slice_split-cons_yes, slice_split-cons_no}
-use Rattle.iop_script.specs.Scripts.{Args}
-use Rattle.iop_script.specs.Statements.{event_of, words_of, args_among, args_of}
+use Rattle.iop_script.specs.Laws.{bytes_of_words}
+use Rattle.iop_script.specs.Rules.{unless_broken, demand}
+use Rattle.iop_script.specs.Statements.{is_word, number_in, raises, event_of, words_of}
 use Rattle.iop_script.specs.Texts.{space, parts, number_of}
+use Rattle.iop_script.specs.Versions.{allows_more}
 use Rattle.iop_script.specs.declared.raise.Raise.{Raise}
-use Rattle.iop_script.specs.declared.statements.TheConstants.{LAST_TICK, LAST_LINE, MOST_MODULES, MOST_WORDS, LONGEST_ARGS}
+use Rattle.iop_script.specs.declared.rule.Rule.{Rule}
+use Rattle.iop_script.specs.declared.rule.Rule.TheVariants as rule
+use Rattle.iop_script.specs.declared.version.Version.{Version}
+use Rattle.iop_script.specs.declared.version.Version.TheVariants.{One, Two}
+use Rattle.iop_script.specs.declared.statements.TheConstants.{LAST_TICK, LAST_LINE, MOST_WORDS, LONGEST_ARGS}
 
 module _ {A : Type 0} where
   -- a value behind a test
-  pub if_some : (b : Bool) (x : Option A) (y : A) → cond b x None ≡ Some y →
-      (b ≡ true) × (x ≡ Some y)
+  pub if_some : (b : Bool) (x : Option A) (y : A) → cond b x None ≡ Some y
+      → (b ≡ true) × (x ≡ Some y)
   if_some true x y is = (refl, is)
   if_some false x y is = absurd (cc)
-
-  pub unless_some : (b : Bool) (x : Option A) (y : A) → cond b None x ≡ Some y →
-      (b ≡ false) × (x ≡ Some y)
-  unless_some true x y is = absurd (cc)
-  unless_some false x y is = (refl, is)
 
   pub some_value : (x y : A) → Some x ≡ Some y → x ≡ y
   some_value x y is = cc
 
-module _ {A B : Type 0} where
-  -- a value made of another, which may be none
-  pub then_some : (f : A → Option B) (o : Option A) (y : B) → option_and_then f o ≡ Some y →
-      (x : A) × (o ≡ Some x) × (f x ≡ Some y)
-  then_some f None y is = absurd (cc)
-  then_some f (Some x) y is = (x, refl, is)
+  pub ok_value : (x y : A) → ◌≡◌ {A = Result A Rule} (Ok x) (Ok y) → x ≡ y
+  ok_value x y is = cc
 
-  pub map_some : (f : A → B) (o : Option A) (y : B) → option_map f o ≡ Some y →
-      (x : A) × (o ≡ Some x) × (Some (f x) ≡ Some y)
-  map_some f None y is = absurd (cc)
-  map_some f (Some x) y is = (x, refl, is)
+  pub no_ok : {P : Type 0} (rule : Rule) (y : A)
+      → ◌≡◌ {A = Result A Rule} (Err rule) (Ok y) → P
+  no_ok rule y is = absurd (cc)
 
-number_within : (least most : ℕ) (field : List ℕ) (n : ℕ) → number_of least most field ≡ Some n →
-    n ≤ most
+  pub some_behind : (o : Option A) (rule : Rule) (y : A) → ok_or o rule ≡ Ok y → o ≡ Some y
+  some_behind None rule y is = absurd (cc)
+  some_behind (Some x) rule y is = ap Some (ok_value x y is)
+
+  pub demand_met : (rule : Rule) (b : Bool) (next : Result A Rule) (y : A)
+      → demand rule b next ≡ Ok y → (b ≡ true) × (next ≡ Ok y)
+  demand_met rule true next y is = (refl, is)
+  demand_met rule false next y is = absurd (cc)
+
+-- a value made of another
+pub ok_behind : {A B : Type 0} (r : Result A Rule) (next : A → Result B Rule) (y : B)
+    → unless_broken r next ≡ Ok y → (x : A) × (r ≡ Ok x) × (next x ≡ Ok y)
+ok_behind (Err rule) next y is = absurd (cc)
+ok_behind (Ok x) next y is = (x, refl, is)
+
+number_within : (rule : Rule) (least most : ℕ) (field : List ℕ) (n : ℕ)
+    → number_in rule least most field ≡ Ok n → n ≤ most
 unfolding number_of
-number_within least most field n is =
-    let found = if_some _ _ _ is in
+number_within rule least most field n is =
+    let found = if_some _ _ _ (some_behind (number_of least most field) rule n is) in
     subst (λ (v : ℕ). v ≤ most) (some_value _ _ found.1) (leb-true _ _ (and_parts _ _ found.0).1)
 
--- the tick and the line of an event
-pub event_within : (fields : List (List ℕ)) (e : Raise) → event_of fields ≡ Some e →
-    (e.at ≤ LAST_TICK) × (e.line ≤ LAST_LINE)
-unfolding event_of
-event_within [] e is = absurd (cc)
-event_within (keyword ∷ []) e is = absurd (cc)
-event_within (keyword ∷ tick ∷ []) e is = absurd (cc)
-event_within (keyword ∷ tick ∷ word ∷ []) e is = absurd (cc)
-event_within (keyword ∷ tick ∷ word ∷ number ∷ []) e is =
-    let at = then_some _ _ _ (if_some _ _ _ is).1 in
-    let line = map_some _ _ _ at.2 in
-    let made = some_value _ _ line.2 in (
-      subst (λ (r : Raise). r.at ≤ LAST_TICK) made (number_within 0 LAST_TICK tick at.0 at.1),
-      subst (λ (r : Raise). r.line ≤ LAST_LINE) made
-          (number_within 0 LAST_LINE number line.0 line.1),
-    )
-event_within (keyword ∷ tick ∷ word ∷ number ∷ more ∷ rest) e is = absurd (cc)
+-- version 1 lowers no line
+abbrev pub CanChange : Version → Bool → Type 0
+CanChange One up = up ≡ true
+CanChange Two up = Unit {0}
 
--- how many bytes words take, each with one behind it
-abbrev pub bytes_of_words : List (List ℕ) → ℕ
-bytes_of_words words = sum_by (λ word. length word + 1) words
+raised_by : (version : Version) (b c up : Bool)
+    → cond b (Some true) (cond (c && allows_more version) (Some false) None) ≡ Some up
+    → CanChange version up
+raised_by One true c up is = sym (some_value true up is)
+raised_by One false true up is = absurd (cc)
+raised_by One false false up is = absurd (cc)
+raised_by Two b c up is = tt
+
+-- the tick, the line and the change of an event
+pub record IsRead (version : Version) (e : Raise) : Type 0 where
+  pub tick : e.at ≤ LAST_TICK
+  pub line : e.line ≤ LAST_LINE
+  pub up : CanChange version e.up
+
+module _ (version : Version) where
+  pub event_within : (fields : List (List ℕ)) (e : Raise) → event_of version fields ≡ Ok e
+      → IsRead version e
+  unfolding event_of
+  event_within [] e is = absurd (cc)
+  event_within (tick ∷ []) e is = absurd (cc)
+  event_within (tick ∷ change ∷ []) e is = absurd (cc)
+  event_within (tick ∷ change ∷ line ∷ []) e is =
+      let at = ok_behind _ _ _ is in
+      let up = ok_behind _ _ _ at.2 in
+      let n = ok_behind _ _ _ up.2 in
+      let raised = some_behind (raises version change) rule.Change up.0 up.1 in
+      let read : IsRead version (record { at = at.0; line = n.0; up = up.0 }) = record {
+        tick = number_within rule.Tick 0 LAST_TICK tick at.0 at.1;
+        line = number_within rule.InterruptLine 0 LAST_LINE line n.0 n.1;
+        up = raised_by version (bytes_eq change (codes "line"))
+            (bytes_eq change (codes "release")) up.0 raised;
+      } in
+      subst (IsRead version) (ok_value _ _ n.2) read
+  event_within (tick ∷ change ∷ line ∷ more ∷ rest) e is = absurd (cc)
 
 bytes-cons : (word : List ℕ) (words : List (List ℕ)) →
     bytes_of_words (word ∷ words) ≡ length word + 1 + bytes_of_words words
@@ -93,41 +122,32 @@ module _ (p : ℕ → Bool) where
           ∙ onto_first-bytes x (slice_split p xs) (omega (arith, length-slice_split p xs))
           ∙ omega arith
 
--- the words of a module
-pub record AreFew (a : Args) : Type 0 where
-  pub count : length a.words ≤ MOST_WORDS
-  pub bytes : bytes_of_words a.words < LONGEST_ARGS
+-- words that a module can be handed
+pub record AreWords (words : List (List ℕ)) : Type 0 where
+  pub count : length words ≤ MOST_WORDS
+  pub bytes : bytes_of_words words < LONGEST_ARGS
+  pub are_words : list_all is_word words ≡ true
 
-words_within : (fields words : List (List ℕ)) → words_of fields ≡ Some words →
-    (fields ≡ words) × (length fields ≤ MOST_WORDS)
+-- those of a line, behind two fields
+pub words_within : (line keyword second : List ℕ) (fields words : List (List ℕ))
+    → parts space line ≡ keyword ∷ second ∷ fields → length line ≤ LONGEST_ARGS
+    → words_of fields ≡ Ok words → (fields ≡ words) × AreWords words
 unfolding words_of
-words_within fields words is =
-    let found = if_some _ _ _ is in
-    (some_value _ _ found.1, leb-true _ _ (and_parts _ _ found.0).0)
-
-abbrev args_with : ℕ → List (List ℕ) → Args
-args_with n words = record { number = n; words = words }
-
-among_within : (fields : List (List ℕ)) (a : Args) → bytes_of_words fields ≤ LONGEST_ARGS + 1 →
-    args_among fields ≡ Some a → AreFew a
-unfolding args_among
-among_within [] a short is = absurd (cc)
-among_within (keyword ∷ []) a short is = absurd (cc)
-among_within (keyword ∷ number ∷ fields) a short is =
-    let n = then_some (λ (n : ℕ). option_map (args_with n) (words_of fields))
-    (number_of 1 MOST_MODULES number) a (if_some (bytes_eq keyword (codes "args")) _ a is).1 in
-    let words = map_some (args_with n.0) (words_of fields) a n.2 in
-    let within = words_within fields words.0 words.1 in
-    let few : AreFew (args_with n.0 fields) = record {
-      count = within.1;
-      bytes = omega (arith, bytes-cons keyword (number ∷ fields), bytes-cons number fields);
+words_within line keyword second fields words cut short is =
+    let few = demand_met _ _ _ words is in
+    let all = demand_met _ _ _ words few.1 in
+    let same : fields ≡ words = ok_value fields words all.1 in
+    let whole : bytes_of_words (keyword ∷ second ∷ fields) ≡ length line + 1 =
+    sym (ap bytes_of_words cut) ∙ slice_split-bytes (λ b. b == space) line in
+    let read : AreWords fields = record {
+      count = leb-true _ _ few.0;
+      bytes = omega (
+        arith,
+        whole,
+        short,
+        bytes-cons keyword (second ∷ fields),
+        bytes-cons second fields,
+      );
+      are_words = all.0;
     } in
-    subst AreFew (ap (args_with n.0) within.0 ∙ some_value _ _ words.2) few
-
-pub args_within : (line : List ℕ) (a : Args) → args_of line ≡ Some a → AreFew a
-unfolding args_of
-args_within line a is =
-    let found = if_some _ _ _ is in
-    let short : length line ≤ LONGEST_ARGS = leb-true _ _ found.0 in
-    among_within (parts space line) a
-    (omega (arith, slice_split-bytes (λ b. b == space) line)) found.1
+    (same, subst AreWords same read)

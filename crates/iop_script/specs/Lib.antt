@@ -1,7 +1,10 @@
 pub mod Scripts
 pub mod Texts
+pub mod Versions
+pub mod Rules
 pub mod Statements
 pub mod Reading
 pub mod Writing
+pub mod RuleLists
 pub mod Answers
 pub mod Laws

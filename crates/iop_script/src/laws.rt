@@ -1,17 +1,24 @@
 //! Facts about the definitions that no call computes. Each is the contract of a function that does
 //! nothing.
 
-ghost use Rattle.iop_script.specs.Laws.{ScriptsCanRun, ScriptsCanBeWritten, WrittenScriptsAreRead, FirstBadLinesAreTold, BadLinesDecide};
+ghost use Rattle.iop_script.specs.RuleLists.{FirstBrokenRulesAreTold};
+ghost use Rattle.iop_script.specs.Laws.{ScriptsCanRun, VersionsBound, ScriptsCanBeWritten, WrittenScriptsAreRead, FirstBadLinesAreTold, BadLinesDecide};
 
 /// The script of a text is one that a machine can run: its events are in the order of their ticks,
-/// all below 2^63, and their lines below 64; no module has words twice, and those of each are at
-/// most 15 and take less than 2,048 bytes, each with a zero byte behind it.
+/// all below 2^63, and their lines below 64; no module and no name has words twice, and those of
+/// each are at most 15 and take less than 2,048 bytes, each with a zero byte behind it.
 pub fn scripts_can_run()
     ensures { ScriptsCanRun }
 {}
 
-/// The script of a text can be written: besides, its modules are 1 to 64, their words have bytes
-/// from 0x21 to 0x7E alone, one at least, and no line of words is longer than 2,048 bytes.
+/// The script of a text of version 1 lowers no line, and has no words for a name.
+pub fn versions_bound()
+    ensures { VersionsBound }
+{}
+
+/// The script of a text can be written in the version that the text tells: besides, its modules are
+/// 1 to 64, its names and words have bytes from 0x21 to 0x7E alone, one at least, and no line of
+/// words is longer than 2,048 bytes.
 pub fn scripts_can_be_written()
     ensures { ScriptsCanBeWritten }
 {}
@@ -21,8 +28,8 @@ pub fn written_scripts_are_read()
     ensures { WrittenScriptsAreRead }
 {}
 
-/// A text is refused with the number of a line exactly where the text of the lines before it is
-/// good, and bad with it.
+/// A text is refused with a line and a rule exactly where the text of the lines before this line is
+/// good, and the text with it breaks the rule there.
 pub fn first_bad_lines_are_told()
     ensures { FirstBadLinesAreTold }
 {}
@@ -30,4 +37,10 @@ pub fn first_bad_lines_are_told()
 /// What stands behind a bad line changes nothing.
 pub fn bad_lines_decide()
     ensures { BadLinesDecide }
+{}
+
+/// The rule that is told of a line behind the first is the first that the line breaks, in the order
+/// of `Rule`.
+pub fn first_broken_rules_are_told()
+    ensures { FirstBrokenRulesAreTold }
 {}

@@ -2,7 +2,7 @@
 
 ghost use Rattle.std.specs.Prelude.{◌≡◌, ◌+◌, ◌-◌, ◌^◌, ◌<◌, ◌≤◌, ◌==◌, ◌∷◌, IfSome, min, position, true};
 ghost use Rattle.std.specs.Char.{is_ascii_digit};
-ghost use Rattle.std.specs.List.{list_all};
+ghost use Rattle.std.specs.List.{count_by, list_all};
 ghost use Rattle.std.specs.Option.{option_copied};
 ghost use Rattle.iop_script.specs.Texts.{parts, parts_behind, is_decimal, value_of, number_of};
 
@@ -24,6 +24,13 @@ pub(crate) fn split_first(text: &[u8], separator: u8) -> (&[u8], Option<&[u8]>)
         None => (text, None),
         Some(place) => (&text[..place], Some(&text[place + 1..])),
     }
+}
+
+/// Counts the separators of a text.
+pub(crate) fn count_separators(text: &[u8], separator: u8) -> usize
+    ensures { result ≡ count_by (λ b. b == separator) text.now }
+{
+    text.iter().filter(|byte| **byte == separator).count()
 }
 
 /// Tells whether a field has no byte but digits.

@@ -1,4 +1,4 @@
-use crate::command::{ADDRESS, AS, CHECK, FILE, IMAGE, INFO, LIST, OUTPUT, RAW, SOURCE};
+use crate::command::{ADDRESS, AS, CHECK, FILE, IMAGE, INFO, LIST, OUTPUT, RAW, SCRIPT, SOURCE};
 use crate::numbers::{FIRST_BASE, number_of};
 use anyhow::{Context, Result, bail};
 use clap::ArgMatches;
@@ -42,6 +42,11 @@ pub(crate) enum Action<'m, 'a> {
         /// The name of the file.
         file: &'a str,
     },
+    /// To tell what a script says, or which line of it is bad.
+    Script {
+        /// The name of the script's file.
+        file: &'a str,
+    },
 }
 
 /// Finds what the words ask for.
@@ -64,6 +69,9 @@ pub(crate) fn action_of<'m, 'a>(matches: &'m ArgMatches<'a>) -> Result<Action<'m
             file: value_of(values, FILE)?,
         }),
         LIST => list_action(values),
+        SCRIPT => Ok(Action::Script {
+            file: value_of(values, FILE)?,
+        }),
         _ => bail!("{verb} is no command"),
     }
 }

@@ -18,6 +18,9 @@ pub(crate) const INFO: &str = "info";
 /// The word to list a module's text.
 pub(crate) const LIST: &str = "list";
 
+/// The word to tell what a script says.
+pub(crate) const SCRIPT: &str = "script";
+
 /// The id of the address of an image.
 pub(crate) const ADDRESS: &str = "ADDRESS";
 
@@ -102,7 +105,14 @@ fn list_command<'a>(alloc: Global) -> Result<Command<'a>, AllocError> {
         .arg(raw)
 }
 
-/// Makes the command with its five words.
+/// Makes the command `irx script`.
+fn script_command<'a>(alloc: Global) -> Result<Command<'a>, AllocError> {
+    Command::new(alloc, SCRIPT)
+        .about("Tell what a script says, or which line of it is bad")
+        .arg(required(alloc, FILE, "The file of a script"))
+}
+
+/// Makes the command with its six words.
 pub(crate) fn irx_command<'a>(alloc: Global) -> Result<Command<'a>, AllocError> {
     Command::new(alloc, "irx")
         .bin_name("irx")?
@@ -113,5 +123,6 @@ pub(crate) fn irx_command<'a>(alloc: Global) -> Result<Command<'a>, AllocError> 
         .subcommand(check_command(alloc)?)?
         .subcommand(info_command(alloc)?)?
         .subcommand(list_command(alloc)?)?
-        .subcommand(image_command(alloc)?)
+        .subcommand(image_command(alloc)?)?
+        .subcommand(script_command(alloc)?)
 }

@@ -17,7 +17,7 @@ use std::io::{BufWriter, Write};
 use std::process::ExitCode;
 
 /// How many bytes of memory the words of a raw file are listed in: 2 MiB.
-const MEMORY_SIZE: u32 = 0x20_0000;
+const LISTED_MEMORY: u32 = 0x20_0000;
 
 /// The most bytes that a raw file may have.
 const LONGEST_RAW: u32 = 65_536;
@@ -112,7 +112,7 @@ pub(crate) fn list_module(rt: &HostRuntime, name: &str) -> Result<()> {
 /// Writes the texts of the words of a raw file, as they stand where the first module is loaded.
 pub(crate) fn list_words(rt: &HostRuntime, name: &str) -> Result<()> {
     let file = read_file(rt, name, LONGEST_RAW)?;
-    let mut ram = Ram::new(rt.alloc(), MEMORY_SIZE)?;
+    let mut ram = Ram::new(rt.alloc(), LISTED_MEMORY)?;
     let words = (file.len() / 4) as u32;
     let is_stored = ram.store_bytes(FIRST_BASE, &file).is_ok();
     ensure!(is_stored, "{name} has no room in memory");

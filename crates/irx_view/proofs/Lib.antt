@@ -1,3 +1,4 @@
 pub mod ModuleLemmas
+pub mod ScriptLemmas
 pub mod TableLemmas
 pub mod TextLemmas

@@ -1,5 +1,5 @@
 //! What a module's file says, written out for people: its text as a listing, what it tells of
-//! itself, and why a file is no module.
+//! itself, and why a file is no module; and the same of the text of a script.
 #![tactic(auto)]
 
 mod entries;
@@ -11,6 +11,8 @@ mod names;
 mod parts;
 mod reason;
 mod relocation_type;
+mod script;
+mod script_information;
 mod tables;
 #[cfg(test)]
 mod tests;
@@ -21,3 +23,5 @@ pub use limits::MOST_IMAGE;
 pub use listing::write_listing;
 pub use module::{bad_import, read_module};
 pub use reason::{Reason, rule_text};
+pub use script::{BadLine, line_of, line_rule_text, version_of};
+pub use script_information::write_script;

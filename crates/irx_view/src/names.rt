@@ -21,7 +21,7 @@ impl fmt::Display for Name<'_> {
 }
 
 /// Writes a byte of a name.
-fn write_byte<W: fmt::Write>(byte: u8, f: &mut fmt::Formatter<W>) -> fmt::Result {
+pub(crate) fn write_byte<W: fmt::Write>(byte: u8, f: &mut fmt::Formatter<W>) -> fmt::Result {
     if byte.is_ascii_graphic() && byte != b'\\' {
         f.write_char(char::from(byte))
     } else {

@@ -1,8 +1,9 @@
-//! Texts of names, versions, libraries and reasons.
+//! Texts of names, versions, libraries, reasons and scripts.
 
-use crate::Reason;
 use crate::names::{Library, Name, Version};
+use crate::{BadLine, Reason, line_of, version_of, write_script};
 use iop_base::Illegal;
+use iop_script::{Rule, parse};
 use std::test::Fail;
 
 #[test]
@@ -69,5 +70,38 @@ fn reasons_have_texts(rt: HostRuntime) -> Result<(), Fail> {
         let written = format!(in rt.alloc(); "{reason}")?;
         assert_eq!(rt; written.as_str(), *text);
     }
+    Ok(())
+}
+
+#[test]
+fn bad_lines_have_texts(rt: HostRuntime) -> Result<(), Fail> {
+    let reason = BadLine {
+        number: 2,
+        rule: Rule::FieldCount,
+        line: line_of(b"script 1\nat \t\\\xff", 2),
+    };
+    let written = format!(in rt.alloc(); "{reason}")?;
+    assert_eq!(rt;
+        written.as_str(),
+        "breaks a rule at line 2: it has not four fields: at \\x09\\x5c\\xff"
+    );
+    Ok(())
+}
+
+#[test]
+fn scripts_have_texts(rt: HostRuntime) -> Result<(), Fail> {
+    let text = b"script 2\nat 36863 line 9\nat 46080 line 3\nat 46081 release 3\nfor a b c\nargs 1";
+    let script = parse(rt.alloc(), text)?;
+    let mut written = Vec::new(rt.alloc());
+    write_script(version_of(text), &script, &mut written)?;
+    let wanted = b"version  2
+events   3, raised 2, released 1
+first    tick 36863, 0.999 ms
+last     tick 46081, 1.250 ms
+lines    3 9
+args     1
+for      a b c
+";
+    assert_eq!(rt; written.as_slice(), wanted.as_slice());
     Ok(())
 }

@@ -1,10 +1,10 @@
-use Rattle.std.proofs.Common.{refl, ap, sym, ◌∙◌, subst, inr, inl}
+use Rattle.std.proofs.Common.{ℕ, List, ap, sym, ◌∙◌, subst, inr}
 use Rattle.iop_machine.proofs.KeepingMachine.{begins_as_machine}
-use Rattle.iop_machine.specs.Modules.{modules_from}
+use Rattle.iop_machine.specs.Modules.{NamedFile, modules_from}
 use Rattle.iop_machine.specs.Stepping.{run_of}
 use Rattle.iop_machine.specs.World.{beginning}
 use Rattle.iop_options.specs.Commands.{Command}
-use Rattle.iop_options.specs.declared.limits.TheConstants.{MEMORY_SIZE}
+use Rattle.iop_options.specs.Values.{ram_bytes}
 use Rattle.iop_trace.specs.Outs.{sinks}
 use Rattle.iop_front.specs.Outcome.{Comes, modules_to_load, outcome_of_run}
 use Rattle.iop_front.proofs.RoomLemmas.{have_room}
@@ -12,9 +12,7 @@ use Rattle.iop_front.proofs.answering.run_modules.Goals as goal
 
 pub new-requires-clause-room : goal.new-requires-clause-room
 new-requires-clause-room g c =
-    let runs = c.requires.runs in
-    have_room c.args.inputs.script.args runs.counts runs.bytes 1 c.in-Ok.modules.items
-    c.in-Ok.ensures.short
+    have_room c.args.inputs.script c.requires.runs 1 c.in-Ok.modules.items c.in-Ok.ensures.short
 
 pub new-requires-clause-events : goal.new-requires-clause-events
 new-requires-clause-events g c =
@@ -33,11 +31,14 @@ returns-in-Ok-new g c =
     let runs = c.requires.runs in
     let are = c.in-Ok.ensures.modules
     ∙ ap (λ (o : Command). modules_to_load o.generate files) c.options.view_is in
-    inr (subst (λ modules. Comes (outcome_of_run options.dump (run_of options.budget
-    (beginning MEMORY_SIZE (modules_from script.args 1 modules) script.events)))
+    let size = c.bytes.ensures.exact ∙ ap (λ (o : Command). ram_bytes o.ram) c.options.view_is in
+    let first = λ (size : ℕ) (modules : List NamedFile).
+    beginning size (modules_from script.args script.named 1 modules) script.events in
+    inr (subst (λ w. Comes (outcome_of_run options.dump (run_of options.budget w))
     c.run_to_end.result (seen c.args.console.now c.args.trace.now)
-    (seen c.run_to_end.new.console c.run_to_end.new.trace)) are
+    (seen c.run_to_end.new.console c.run_to_end.new.trace)) (λ i. first (size i) (are i))
     (c.run_to_end.ensures _ c.in-Ok-new.ensures.stands
-    (begins_as_machine MEMORY_SIZE (modules_from script.args 1 c.in-Ok.modules.items)
-    script.events (inl refl)
+    (begins_as_machine c.bytes.result
+    (modules_from script.args script.named 1 c.in-Ok.modules.items) script.events
+    c.bytes.ensures.sized
     (record { order = runs.order; ticks = runs.ticks; lines = runs.lines }))))

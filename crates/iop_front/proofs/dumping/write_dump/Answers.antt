@@ -1,18 +1,17 @@
-use Rattle.std.proofs.Common.{false, Some, [], ap, sym, ◌∙◌, subst, refl, arith}
+use Rattle.std.proofs.Common.{false, Some, [], ap, sym, ◌∙◌, subst, refl}
 use Rattle.iop_base.specs.Output.{Adds, HasNoFault}
 use Rattle.iop_base.proofs.Giving.{adds_none}
 use Rattle.iop_options.specs.Values.{DumpRange}
 use Rattle.iop_trace.specs.Outs.{output_with}
-use Rattle.iop_front.proofs.DumpLemmas.{window_short, range_low, nothing_dumped}
+use Rattle.iop_front.proofs.DumpLemmas.{window_low, nothing_dumped}
 use Rattle.iop_front.proofs.dumping.write_dump.Goals as goal
 
 pub send_dump-requires : goal.send_dump-requires
 send_dump-requires g c =
     let range = c.range.inside in
     let sound = c.requires in
-    let window = c.in-Some-window.ensures sound.0 sound.1 in
-    let short = window_short _ _ range.from range.len (sym window) in
-    omega (arith, short, range_low range.from range.len c.range.invariant.inside)
+    window_low _ _ range.from range.len sound.2.sound.whole.sound.sized
+    (sym (c.in-Some-window.ensures sound.0 sound.1))
 
 pub returns-in-None : goal.returns-in-None
 returns-in-None g c = λ w stands console.

@@ -3,7 +3,7 @@ use Rattle.iop_front.proofs.laws.headline.Goals as goal
 
 pub returns : goal.returns
 returns c = headline (record {
-  events_raise_their_lines = c.events_raise_their_lines.ensures;
+  events_change_their_lines = c.events_change_their_lines.ensures;
   next_coming_is_least = c.next_coming_is_least.ensures;
   running_threads_were_taken = c.running_threads_were_taken.ensures;
   runs_are_awake = c.runs_are_awake.ensures;

@@ -2,7 +2,7 @@ use Rattle.std.proofs.Common.{ℕ, ◌≤◌, List, [], ◌∷◌, length, sym, 
 use Rattle.std.specs.Prelude.{All}
 use Rattle.std.proofs.lemmas.List.{length-append}
 use Rattle.std.proofs.lemmas.List.Elements.{All-cons, All-nil}
-use Rattle.iop_script.specs.Scripts.{Args}
+use Rattle.iop_script.specs.Scripts.{Args, Named}
 use Rattle.iop_machine.specs.Modules.{NamedFile, Module, HasRoom, modules_from, strings}
 use Rattle.iop_machine_tests.proofs.tests.loads_it_twice.Goals as goal
 
@@ -24,7 +24,7 @@ abbrev some_words : List Args
 some_words = record { number = 1; words = (97 ∷ []) ∷ (98 ∷ 99 ∷ []) ∷ [] } ∷ []
 
 rooms : (first second : NamedFile) → IsShort first → IsShort second
-    → All HasRoom (modules_from some_words 1 (first ∷ second ∷ []))
+    → All HasRoom (modules_from some_words [] 1 (first ∷ second ∷ []))
 rooms first second f s =
     let last : Module = record { number = 2; words = second.name ∷ []; file = second.file } in
     All-cons HasRoom _ (last ∷ []) (room 1 first _ f (omega arith) (omega arith))
@@ -32,9 +32,13 @@ rooms first second f s =
 
 pub new-requires-clause-room : goal.new-requires-clause-room
 new-requires-clause-room c =
-    subst (λ args. All HasRoom (modules_from args 1 c.in_ok-modules.modules.items))
-    (sym c.in_ok-words_for_first.ensures.args)
-    (subst (λ files. All HasRoom (modules_from some_words 1 files))
+    let files = c.in_ok-modules.modules.items in
+    let script = c.in_ok-words_for_first.ensures in
+    subst (λ args. All HasRoom (modules_from args c.in_ok-words_for_first.field-0.named 1 files))
+    (sym script.args)
+    (subst (λ (named : List Named). All HasRoom (modules_from some_words named 1 files))
+    (sym script.named)
+    (subst (λ files. All HasRoom (modules_from some_words [] 1 files))
     (sym c.in_ok-modules.ensures.items) (rooms _ _
     (record { name = c.in_ok-first.ensures.name; bytes = c.in_ok-first.ensures.file })
-    (record { name = c.in_ok-second.ensures.name; bytes = c.in_ok-second.ensures.file })))
+    (record { name = c.in_ok-second.ensures.name; bytes = c.in_ok-second.ensures.file }))))

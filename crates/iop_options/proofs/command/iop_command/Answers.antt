@@ -27,5 +27,7 @@ returns c =
     ∙ ap₂ with_rule two c.value_option-3.ensures.rule in
     let four = c.in_ok-arg-4.ensures.shape c.value_option-4.ensures.local
     ∙ ap₂ with_rule three c.value_option-4.ensures.rule in
-    IfOk-weaker c.arg-5.result _ _
-    (λ command h. h.shape (search rules) ∙ ap₂ with_rule four file_is) c.arg-5.ensures
+    let five = c.in_ok-arg-5.ensures.shape c.value_option-5.ensures.local
+    ∙ ap₂ with_rule four c.value_option-5.ensures.rule in
+    IfOk-weaker c.arg-6.result _ _
+    (λ command h. h.shape (search rules) ∙ ap₂ with_rule five file_is) c.arg-6.ensures

@@ -8,4 +8,4 @@ returns-in_err-from c =
     let first = split_once_first 58 c.args.text.now c.split_once.result
     c.split_once.ensures.cases (lit< tt) in
     let none = rw c.in_err-from.was at first in
-    c.from_residual.ensures ∙ sym (dump_of-uncut c.args.text.now none)
+    c.from_residual.ensures ∙ sym (dump_of-uncut _ c.args.text.now none)

@@ -7,7 +7,8 @@ use Rattle.iop_script.proofs.parsing.parse.Given as goal
 abbrev pub invariant-loop-left : goal.invariant-loop-left
 invariant-loop-left l =
     script_of l.bytes
-    ≡ read_lines (next_number l.number) l.script (parts_behind line_feed (option_copied l.left))
+    ≡ read_lines l.version (next_number l.number) l.script
+    (parts_behind line_feed (option_copied l.left))
 
 abbrev pub decreases-loop-left : goal.decreases-loop-left
 decreases-loop-left l = length (parts_behind line_feed (option_copied l.left))

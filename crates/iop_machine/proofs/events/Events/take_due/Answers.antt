@@ -1,7 +1,7 @@
 use Rattle.std.proofs.Common.{◌+◌, Some, List, ◌∙◌, ap, sym, subst, refl, arith}
 use Rattle.std.proofs.lemmas.Option.{slice_get_within}
 use Rattle.iop_script.specs.declared.raise.Raise.{Raise}
-use Rattle.iop_machine.specs.Events.{due_lines, events_of, TakesDue}
+use Rattle.iop_machine.specs.Events.{due_events, events_of, TakesDue}
 use Rattle.iop_machine.proofs.Elements.{looked_up}
 use Rattle.iop_machine.proofs.EventLemmas.{behind_comes, not_taken, one_taken}
 use Rattle.iop_machine.proofs.events.Events.take_due.Goals as goal
@@ -10,7 +10,7 @@ pub returns-then-event-moment : goal.returns-then-event-moment
 returns-then-event-moment c =
     let at = looked_up c.deref.ensures.value c.get.ensures.lookup c.in_ok-event.was in (
       refl,
-      ap (due_lines c.args.moment) (sym c.self.view_is)
+      ap (due_events c.args.moment) (sym c.self.view_is)
           ∙ not_taken c.self.inside c.in_ok-event.field-0.now at c.self.invariant.0 c.args.moment
           c.if-event-moment.true,
     )
@@ -28,6 +28,6 @@ pub returns : goal.returns
 returns c =
     let at = looked_up c.deref.ensures.value c.get.ensures.lookup c.in_ok-event.was in
     let event = c.in_ok-event.field-0.now in
-    subst (λ (old : List Raise). TakesDue (Some event.line) c.args.moment old
+    subst (λ (old : List Raise). TakesDue (Some event) c.args.moment old
     (events_of (record c.self.inside { taken = c.self.inside.taken + 1 }))) c.self.view_is
     (one_taken c.self.inside event at c.self.invariant.0 c.args.moment c.if-event-moment.false)

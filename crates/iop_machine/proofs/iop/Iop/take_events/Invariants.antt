@@ -5,12 +5,12 @@ use Rattle.iop_machine.specs.Standing.{Stands}
 use Rattle.iop_machine.proofs.iop.Iop.take_events.Given as goal
 
 -- the events that are due are those of before, but for those that were taken
-abbrev pub invariant-loop-line : goal.invariant-loop-line
-invariant-loop-line l = record {
+abbrev pub invariant-loop-event : goal.invariant-loop-event
+invariant-loop-event l = record {
   moment : l.self.kernel.clock ≡ l.now;
   taken : (s : Iop) → Stands l.fn.self s
       → (v : Iop) × Stands l.self v × (takes_events v ≡ takes_events s);
 }
 
-abbrev pub decreases-loop-line : goal.decreases-loop-line
-decreases-loop-line l = length l.self.events
+abbrev pub decreases-loop-event : goal.decreases-loop-event
+decreases-loop-event l = length l.self.events

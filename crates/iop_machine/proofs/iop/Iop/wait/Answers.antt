@@ -1,10 +1,11 @@
 use Rattle.std.proofs.Common.{Some, ◌∙◌, sym, subst}
 use Rattle.iop_base.specs.declared.stop.Stop.TheVariants.{Quiet}
+use Rattle.iop_kernel.specs.System.{Kernel}
 use Rattle.iop_machine.specs.Looking.{takes_events}
 use Rattle.iop_machine.specs.Standing.{Stands}
 use Rattle.iop_machine.specs.Stepping.{waits_by}
 use Rattle.iop_machine.proofs.Coming.{coming_is, coming_after}
-use Rattle.iop_machine.proofs.StandingLemmas.{stands_stopped}
+use Rattle.iop_machine.proofs.StandingLemmas.{stands_stopped, stands_with_kernel}
 use Rattle.iop_machine.proofs.iop.Iop.wait.Goals as goal
 
 pub advance-requires : goal.advance-requires
@@ -26,4 +27,17 @@ returns-in-None c = record {
       (sym c.in-None.is ∙ coming_is behind c.next_tick.ensures.tick
       (c.next_moment.ensures _ behind.kernel) c.earlier.ensures)
       (stands_stopped c.take_events.new.self (Some Quiet) (takes_events s) behind);
+}
+
+pub returns-in-Some : goal.returns-in-Some
+returns-in-Some c = record {
+  waits = λ s h.
+      let behind = c.take_events.ensures s h in
+      subst (λ o. Stands (record c.take_events.new.self { kernel = c.advance.new.self })
+      (waits_by (takes_events s) o).state)
+      (sym c.in-Some.is ∙ coming_is behind c.next_tick.ensures.tick
+      (c.next_moment.ensures _ behind.kernel) c.earlier.ensures)
+      (stands_with_kernel c.take_events.new.self c.advance.new.self
+      (λ (k : Kernel). record k { clock = c.in-Some.moment }) c.advance.ensures (takes_events s)
+      behind);
 }

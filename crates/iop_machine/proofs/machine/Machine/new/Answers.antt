@@ -10,12 +10,14 @@ pub returns-clause-stands : goal.returns-clause-stands
 returns-clause-stands c = record {
   is_new = refl;
   iop = subst (λ events. Stands c.in_ok-new.field-0
-      (reset c.args.size (modules_from c.args.script.args 1 c.args.modules.items) events))
+      (reset c.args.size
+      (modules_from c.args.script.args c.args.script.named 1 c.args.modules.items) events))
       (c.new-events.ensures ∙ ap (λ (script : Script). script.events) c.script.view_is)
       (subst (λ modules. Stands c.in_ok-new.field-0
       (reset c.args.size modules c.new-events.result))
       (c.new-left.ensures
-      ∙ ap (λ script. modules_from script.args 1 c.args.modules.items) c.script.view_is)
+      ∙ ap (λ script. modules_from script.args script.named 1 c.args.modules.items)
+      c.script.view_is)
       c.in_ok-new.ensures);
 }
 

@@ -8,18 +8,24 @@ use Rattle.iop_machine.proofs.modules_left.ModulesLeft.first.Goals as goal
 
 pub returns-clause-module : goal.returns-clause-module
 returns-clause-module c =
-    let args = c.words_for.ensures
-    ∙ ap (λ x. words_for x (c.self.inside.taken + 1)) c.deref-2.ensures.value in
+    let number = c.self.inside.taken + 1 in
+    let words = c.words_for.ensures
+    ∙ ap (λ x. words_for x c.deref-3.result.now number c.as_bytes.result.now)
+    c.deref-2.ensures.value
+    ∙ ap (λ x. words_for c.self.inside.args.items x number c.as_bytes.result.now)
+    c.deref-3.ensures.value
+    ∙ ap (words_for c.self.inside.args.items c.self.inside.named.items number)
+    (c.as_bytes.ensures.value ∙ ap (λ (x : NamedFile). x.name) c.module.view_is) in
     next_is c.self.inside c.in_ok-module.module.now
     (record {
       number = _;
       name = c.as_str.result;
       words = c.words_for.result;
-      file = c.deref-3.result;
+      file = c.deref-4.result;
     })
     (looked_up c.deref.ensures.value c.get.ensures.lookup c.in_ok-module.was)
     refl (c.as_str.ensures.value ∙ ap (λ (x : NamedFile). x.name) c.module.view_is)
-    args (c.deref-3.ensures.value ∙ ap (λ (x : NamedFile). x.file) c.module.view_is)
+    words (c.deref-4.ensures.value ∙ ap (λ (x : NamedFile). x.file) c.module.view_is)
     ∙ ap (λ x. slice_get x 0) c.self.view_is
 
 pub returns-clause-room : goal.returns-clause-room

@@ -1,0 +1,10 @@
+use Rattle.std.proofs.Common.{rules, tests}
+use Rattle.std.proofs.lemmas.Iterator.Consumers.{nth_from_yields_List}
+use Rattle.std.proofs.lemmas.Iterator.Splits.{YieldsList-from_slice_split}
+use Rattle.irx_view.proofs.script.line_behind.Goals as goal
+
+pub returns : goal.returns
+returns c =
+    let lines = YieldsList-from_slice_split _ _ c.args.text.now c.split.ensures.rest
+    c.split.ensures.done c.split.ensures.closure (λ x r q k. search (rules, tests)) in
+    nth_from_yields_List _ _ c.args.others c.nth.ensures.ran lines
