@@ -51,6 +51,10 @@ impl Code {
     pub const UNKNOWN_EVENT_FLAG: Code = Code(-409);
     /// No live mailbox has this id.
     pub const UNKNOWN_MAILBOX: Code = Code(-410);
+    /// No live variable pool has this id.
+    pub const UNKNOWN_VARIABLE_POOL: Code = Code(-411);
+    /// No live fixed pool has this id.
+    pub const UNKNOWN_FIXED_POOL: Code = Code(-412);
     /// The thread is dormant.
     pub const DORMANT: Code = Code(-413);
     /// The thread is not dormant.
@@ -77,4 +81,8 @@ impl Code {
     pub const NO_MESSAGE: Code = Code(-424);
     /// The object was deleted during the wait.
     pub const OBJECT_DELETED: Code = Code(-425);
+    /// No block of the pool is out at this address.
+    pub const ILLEGAL_BLOCK: Code = Code(-426);
+    /// A size or a count is out of range.
+    pub const ILLEGAL_SIZE: Code = Code(-427);
 }

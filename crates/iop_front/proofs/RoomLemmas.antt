@@ -1,6 +1,6 @@
 -- The modules that a command names are few and short, and those that were read have room in the
 -- machine, each with its words of the script.
-use Rattle.std.proofs.Common.{◌≡◌, ℕ, suc, ◌+◌, ◌<◌, ◌≤◌, ◌==◌, bytes_eq, Bool, true, false, cond, Option, Some, None, IfSome, option_map, unwrap_or, MatchOption, List, [], ◌∷◌, All, map, find, length, refl, sym, subst, arith}
+use Rattle.std.proofs.Common.{◌≡◌, ℕ, suc, ◌+◌, ◌≤◌, ◌==◌, bytes_eq, Bool, true, false, cond, Option, Some, None, IfSome, option_map, unwrap_or, MatchOption, List, [], ◌∷◌, All, map, find, length, refl, sym, subst, arith}
 use Rattle.std.proofs.lemmas.List.{length-append, length-map}
 use Rattle.std.proofs.lemmas.List.Elements.{All-nil, All-cons, All-head, All-tail}
 use Rattle.std.proofs.lemmas.List.Sums.{sum_by-cons}
@@ -8,7 +8,7 @@ use Rattle.std.specs.Option.{option_or}
 use Rattle.iop_machine.specs.Modules.{NamedFile, HasRoom, modules_from, strings}
 use Rattle.iop_options.specs.Commands.{AreModules}
 use Rattle.iop_options.specs.declared.limits.TheConstants.{LONGEST_WORD}
-use Rattle.iop_script.specs.Laws.{CanRun, bytes_of_words}
+use Rattle.iop_script.specs.Laws.{FitBlock, CanRun, bytes_of_words}
 use Rattle.iop_script.specs.Scripts.{Args, Named, Script, words_of_number, words_of_name, words_for}
 use Rattle.iop_script.specs.declared.statements.TheConstants.{MOST_MODULES}
 use Rattle.iop_front.specs.Inputs.{IsShort}
@@ -50,14 +50,9 @@ words_short bytes generate words h =
       short = unmap bytes IsShortWord words short.1;
     }
 
--- the words that a script has for a module have room behind the module's own
-record AreShort (words : List (List ℕ)) : Type 0 where
-  count : length words ≤ 15
-  bytes : bytes_of_words words < 2048
-
--- where it has none, nothing is there
-none_short : AreShort []
-none_short = record { count = omega arith; bytes = omega arith }
+-- where a script has no words for a module, nothing is there
+none_fit : FitBlock []
+none_fit = record { count = omega arith; bytes = omega arith }
 
 -- each word is ended by a zero byte
 strings_length : (words : List (List ℕ)) → length (strings words) ≡ bytes_of_words words
@@ -73,54 +68,49 @@ strings_length (word ∷ words) =
 -- entries of a script, each with words, and a test that one may meet
 module _ {S : Type 0} (words : S → List (List ℕ)) (test : S → Bool) where
   -- what is found is the first, or another
-  found_by : (b : Bool) (first : S) (rest : List S) → AreShort (words first)
-      → IfSome (option_map words (find test rest)) AreShort
-      → IfSome (option_map words (cond b (Some first) (find test rest))) AreShort
-  found_by true first rest short later = short
-  found_by false first rest short later = later
+  found_by : (b : Bool) (first : S) (rest : List S) → FitBlock (words first)
+      → IfSome (option_map words (find test rest)) FitBlock
+      → IfSome (option_map words (cond b (Some first) (find test rest))) FitBlock
+  found_by true first rest fit later = fit
+  found_by false first rest fit later = later
 
-  -- the words of the one that is found are short, where those of each are
-  found_short : (entries : List S) → All (λ x. length (words x) ≤ 15) entries
-      → All (λ x. bytes_of_words (words x) < 2048) entries
-      → IfSome (option_map words (find test entries)) AreShort
-  found_short [] counts bytes = tt
-  found_short (first ∷ rest) counts bytes =
-      let few : S → Type 0 = λ x. length (words x) ≤ 15 in
-      let small : S → Type 0 = λ x. bytes_of_words (words x) < 2048 in
-      found_by (test first) first rest (record {
-        count = All-head few first rest counts;
-        bytes = All-head small first rest bytes;
-      }) (found_short rest (All-tail few first rest counts) (All-tail small first rest bytes))
+  -- there is room for the words of the one that is found, where there is for those of each
+  found_fit : (entries : List S) → All (λ x. FitBlock (words x)) entries
+      → IfSome (option_map words (find test entries)) FitBlock
+  found_fit [] all = tt
+  found_fit (first ∷ rest) all =
+      let fits : S → Type 0 = λ x. FitBlock (words x) in
+      found_by (test first) first rest (All-head fits first rest all)
+      (found_fit rest (All-tail fits first rest all))
 
 -- those of a number, else those of a name, else none
-either_short : (one other : Option (List (List ℕ))) → IfSome one AreShort → IfSome other AreShort
-    → AreShort (unwrap_or (option_or one other) [])
-either_short None None h k = none_short
-either_short None (Some words) h k = k
-either_short (Some words) other h k = h
+either_fit : (one other : Option (List (List ℕ))) → IfSome one FitBlock → IfSome other FitBlock
+    → FitBlock (unwrap_or (option_or one other) [])
+either_fit None None h k = none_fit
+either_fit None (Some words) h k = k
+either_fit (Some words) other h k = h
 
 -- a module has room with them
-has_room : (number : ℕ) (named : NamedFile) (words : List (List ℕ)) → IsShort named → AreShort words
+has_room : (number : ℕ) (named : NamedFile) (words : List (List ℕ)) → IsShort named → FitBlock words
     → HasRoom (record { number = number; words = named.name ∷ words; file = named.file })
-has_room number named words h short = record {
+has_room number named words h fit = record {
   file = h.file;
-  words = let few = short.count in omega (arith, few);
+  words = let few = fit.count in omega (arith, few);
   strings =
       let all = length-append named.name (0 ∷ strings words) in
-      omega (arith, all, h.name, strings_length words, short.bytes);
+      omega (arith, all, h.name, strings_length words, fit.bytes);
 }
 
 -- of a script that can run
 module _ (script : Script) (runs : CanRun script) where
-  -- the words for each module are short
-  handed_short : (number : ℕ) (name : List ℕ)
-      → AreShort (words_for script.args script.named number name)
-  handed_short number name =
-      either_short (words_of_number script.args number) (words_of_name script.named name)
-      (found_short (λ (a : Args). a.words) (λ (a : Args). a.number == number) script.args
-      runs.counts runs.bytes)
-      (found_short (λ (n : Named). n.words) (λ (n : Named). bytes_eq n.name name) script.named
-      runs.named_counts runs.named_bytes)
+  -- there is room for the words for each module
+  handed_fit : (number : ℕ) (name : List ℕ)
+      → FitBlock (words_for script.args script.named number name)
+  handed_fit number name =
+      either_fit (words_of_number script.args number) (words_of_name script.named name)
+      (found_fit (λ (a : Args). a.words) (λ (a : Args). a.number == number) script.args runs.room)
+      (found_fit (λ (n : Named). n.words) (λ (n : Named). bytes_eq n.name name) script.named
+      runs.named_room)
 
   -- so each module has room
   pub have_room : (number : ℕ) (files : List NamedFile) → All IsShort files
@@ -133,5 +123,5 @@ module _ (script : Script) (runs : CanRun script) where
         file = named.file;
       }) (modules_from script.args script.named (suc number) files)
       (has_room number named (words_for script.args script.named number named.name)
-      (All-head IsShort named files h) (handed_short number named.name))
+      (All-head IsShort named files h) (handed_fit number named.name))
       (have_room (suc number) files (All-tail IsShort named files h))

@@ -101,6 +101,7 @@ module _ {A W : Type 0} (s : Objects A W) (h : AreObjects s) where
     waits = λ id waiter. other_waiters id _;
     takes_next = λ id by_priority. taken id _;
     takes_where = λ id p. taken id _;
+    takes_next_where = λ id by_priority p. taken id _;
     drops = λ id thread. other_waiters id _;
     requeues = λ id by_priority thread priority. other_waiters id _;
   }

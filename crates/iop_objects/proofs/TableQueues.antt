@@ -1,7 +1,7 @@
 -- The queue of one object of a table changes.
 use Rattle.std.proofs.Common.{◌≡◌, ◌≢◌, ℕ, ◌<◌, Bool, true, false, is_some, Option, Some, None, option_map, List, [], length, map, find, refl, ap, sym, ◌∙◌, subst, arith, get_or, set}
 use Rattle.std.proofs.lemmas.List.{length-map, get_or-map, get_or-set_same, get_or-set_other, set-get_or}
-use Rattle.iop_queues.specs.Queue.{Choice, chooses, left_by}
+use Rattle.iop_queues.specs.Queue.{Choice, chooses, chooses_next_where, left_by}
 use Rattle.iop_queues.specs.Queues.{queue_at, with_queue}
 use Rattle.iop_queues.specs.declared.queued.Queued.{Queued}
 use Rattle.iop_queues.proofs.Assigned.{AreAssigned-changed, assigned_below}
@@ -181,3 +181,8 @@ module _ {A W : Type 0} (live : List (Live A)) (free : List ℕ)
 pub chooses-nil : {T : Type 0} (by_priority : Bool) → chooses {T = T} by_priority [] ≡ None
 chooses-nil true = refl
 chooses-nil false = refl
+
+pub none_met : {T : Type 0} (by_priority : Bool) (p : T → Bool)
+    → chooses_next_where by_priority p [] ≡ None
+none_met true p = refl
+none_met false p = refl

@@ -1,6 +1,6 @@
 -- What the laws of objects say.
 use Rattle.std.specs.Prelude.{◌≡◌, ◌≢◌, ℕ, ◌+◌, ◌<◌, ◌≤◌, ◌⊎◌, Bool, true, false, None, Some, is_some, option_map, List, [], ◌∷◌, ◌++◌, length, map, flat_map, All, AllPairs, Contains}
-use Rattle.iop_objects.specs.Objects.{Object, Objects, AreObjects, no_objects, object_of, state_of, waiters_of, waiting, has_room, creates, deletes, with_state, waits, takes_next, takes_where, drops, requeues}
+use Rattle.iop_objects.specs.Objects.{Object, Objects, AreObjects, no_objects, object_of, state_of, waiters_of, waiting, has_room, creates, deletes, with_state, waits, takes_next, takes_where, takes_next_where, drops, requeues}
 use Rattle.iop_queues.specs.declared.queued.Queued.{Queued}
 use Rattle.iop_objects.specs.declared.waiter.Waiter.{Waiter}
 
@@ -56,6 +56,8 @@ module _ {A W : Type 0} where
     pub takes_next : (id : ℕ) (by_priority : Bool)
         → KeepsState id s (takes_next s id by_priority).1
     pub takes_where : (id : ℕ) (p : Waiter W → Bool) → KeepsState id s (takes_where s id p).1
+    pub takes_next_where : (id : ℕ) (by_priority : Bool) (p : Waiter W → Bool)
+        → KeepsState id s (takes_next_where s id by_priority p).1
     pub drops : (id thread : ℕ) → KeepsState id s (drops s id thread)
     pub requeues : (id : ℕ) (by_priority : Bool) (thread priority : ℕ)
         → KeepsState id s (requeues s id by_priority thread priority)

@@ -5,7 +5,7 @@ use Rattle.std.specs.Prelude.{◌≢◌, ℕ, ◌+◌, ◌<◌, ◌≤◌, ◌==
 use Rattle.iop_base.specs.declared.code.Code.{Code}
 use Rattle.iop_base.specs.declared.code.TheConstants.Code.{NO_MEMORY}
 use Rattle.iop_base.specs.declared.limits.TheConstants.{LAST_ID}
-use Rattle.iop_queues.specs.Queue.{Choice, chooses, chooses_where}
+use Rattle.iop_queues.specs.Queue.{Choice, chooses, chooses_next_where, chooses_where}
 use Rattle.iop_objects.specs.WaiterQueues.{without, requeued}
 use Rattle.iop_objects.specs.declared.objects.TheConstants.{FIRST_ID, MOST_OBJECTS}
 use Rattle.iop_queues.specs.declared.queued.Queued.{Queued}
@@ -102,6 +102,12 @@ module _ {A W : Type 0} where
   -- the first one of which a condition holds
   abbrev pub takes_where : Objects A W → ℕ → (Waiter W → Bool) → Option (Waiter W) × Objects A W
   takes_where s id p = takes s id (chooses_where p (waiters_of s id))
+
+  -- the next one, by priority or by arrival, of those of which a condition holds
+  abbrev pub takes_next_where : Objects A W → ℕ → (by_priority : Bool) → (Waiter W → Bool)
+      → Option (Waiter W) × Objects A W
+  takes_next_where s id by_priority p =
+      takes s id (chooses_next_where by_priority p (waiters_of s id))
 
   -- a thread waits no more, if it does
   abbrev pub drops : Objects A W → (id thread : ℕ) → Objects A W

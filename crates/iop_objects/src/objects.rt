@@ -1,5 +1,5 @@
 ghost use Rattle.std.specs.Prelude.{◌≡◌, ◌==◌, ◌<◌, ◌≤◌, [], IfOk, IfSome, is_some, option_map, find, length, position, true};
-ghost use Rattle.iop_objects.specs.Objects.{AreObjects, no_objects, object_of, state_of, waiters_of, waiting, creates, deletes, with_state, waits, takes_next, takes_where, drops, requeues};
+ghost use Rattle.iop_objects.specs.Objects.{AreObjects, no_objects, object_of, state_of, waiters_of, waiting, has_room, creates, deletes, with_state, waits, takes_next, takes_next_where, takes_where, drops, requeues};
 ghost use Rattle.iop_objects.specs.Standing.{IsInOrder};
 ghost use Rattle.iop_objects.specs.declared.objects.TheConstants.{MOST_WAITERS};
 
@@ -72,6 +72,14 @@ impl<A: Copy, W: Copy> Objects<A, W> {
             waiters,
             next,
         })
+    }
+
+    /// Says whether there is room for one more object: fewer than `MOST_OBJECTS` are live, and an id
+    /// is left.
+    pub fn has_room(&self) -> bool
+        ensures { result ≡ has_room self.now }
+    {
+        self.live.len() < MOST_OBJECTS && self.next <= LAST_ID
     }
 
     /// Makes an object for which no thread waits, and answers its id. `NO_MEMORY` exactly where
@@ -168,6 +176,27 @@ impl<A: Copy, W: Copy> Objects<A, W> {
     {
         let queue = queue_of(&self.live, id)?;
         let taken = self.waiters.take_where(queue, condition);
+        taken.map(|queued| queued.item)
+    }
+
+    /// Takes the thread out that is next, by priority or by arrival, among those that wait for an
+    /// object and of which a condition holds. None exactly where it holds of none, or no object of
+    /// this id is live.
+    pub fn take_next_where<C: Condition<Waiter<W>>>(
+        &mut self,
+        id: u32,
+        by_priority: bool,
+        condition: &C,
+    ) -> Option<Waiter<W>>
+        ensures answer { let taken =
+            takes_next_where self.old id by_priority (C.holds_for condition.now) in
+            result ≡ taken.0 }
+        ensures left { let taken =
+            takes_next_where self.old id by_priority (C.holds_for condition.now) in
+            self.new ≡ taken.1 }
+    {
+        let queue = queue_of(&self.live, id)?;
+        let taken = self.waiters.take_next_where(queue, by_priority, condition);
         taken.map(|queued| queued.item)
     }
 

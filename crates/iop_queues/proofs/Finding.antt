@@ -14,13 +14,13 @@ use Rattle.iop_queues.proofs.Walking.{inside-head, All-held}
 
 module _ {T : Type 0} where
   -- the choice where one more item stands at the end
-  abbrev with_last : Option (Choice T) → List (Queued T) → Queued T → Choice T
+  abbrev pub with_last : Option (Choice T) → List (Queued T) → Queued T → Choice T
   with_last None queue y = record { one = y; others = queue }
   with_last (Some c) queue y =
       cond (nat_lt y.priority c.one.priority) (record { one = y; others = queue })
       (record { one = c.one; others = c.others ++ y ∷ [] })
 
-  between_last : (x : Queued T) (xs : List (Queued T)) (o : Option (Choice T)) (y : Queued T)
+  pub between_last : (x : Queued T) (xs : List (Queued T)) (o : Option (Choice T)) (y : Queued T)
       → chooses_between x (xs ++ y ∷ []) (Some (with_last o xs y))
       ≡ with_last (Some (chooses_between x xs o)) (x ∷ xs) y
   between_last x xs None y = refl
@@ -54,7 +54,7 @@ with_later-either P (Some first) later earlier here =
     cond_both (nat_lt later.priority first.priority) later first P (λ e. here) (λ e. earlier)
 
 module _ {T : Type 0} (items : List (Option (Queued T))) where
-  items_of-between : (front : List ℕ) (node : ℕ) (back : List ℕ) (x : Queued T)
+  pub items_of-between : (front : List ℕ) (node : ℕ) (back : List ℕ) (x : Queued T)
       → item_at items node ≡ Some x
       → items_of items (front ++ node ∷ back) ≡ items_of items front ++ x ∷ items_of items back
   items_of-between front node back x is =
@@ -87,7 +87,7 @@ module _ {T : Type 0} (items : List (Option (Queued T))) where
       others_are = ap (items_of items) (append-nil xs);
     }
 
-    node_before : (c : Choice T) (first : ℕ) → IsNode items xs c first
+    pub node_before : (c : Choice T) (first : ℕ) → IsNode items xs c first
         → IsNode items (xs ++ node ∷ []) (record { one = c.one; others = c.others ++ x ∷ [] }) first
     node_before c first h = record {
       before = h.before;
@@ -100,7 +100,7 @@ module _ {T : Type 0} (items : List (Option (Queued T))) where
           ∙ ap (λ ys. ys ++ x ∷ []) h.others_are;
     }
 
-    abbrev own : Ranked
+    abbrev pub own : Ranked
     own = record { node = node; priority = x.priority }
 
     node_by : (b : Bool) (c : Choice T) (first : Ranked) → IsNode items xs c first.node
@@ -109,7 +109,7 @@ module _ {T : Type 0} (items : List (Option (Queued T))) where
     node_by true c first h = node_last
     node_by false c first h = node_before c first.node h
 
-    node_with_later : (best : Option Ranked) (o : Option (Choice T))
+    pub node_with_later : (best : Option Ranked) (o : Option (Choice T))
         → Finds items xs (node_of best) o → IfSome best (IsRanked items)
         → IsNode items (xs ++ node ∷ []) (with_last o (items_of items xs) x)
         (with_later best own).node

@@ -10,6 +10,7 @@ pub mod Fresh
 pub mod Walking
 pub mod Finding
 pub mod Steps
+pub mod BestWhere
 pub mod Takes
 pub mod Uses
 pub mod Counted

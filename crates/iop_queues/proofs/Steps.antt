@@ -36,7 +36,7 @@ module _ {T : Type 0} {items : List (Option (Queued T))} {s : Lists} {list : ℕ
   held : holds node (list_at list s) ≡ true
   held = rw is at inside
 
-  item : (x : Queued T) × (item_at items node ≡ Some x)
+  pub item : (x : Queued T) × (item_at items node ≡ Some x)
   item = item_of items (list_at list s) walk.filled node held
 
   pub node_below : node < s.nodes
@@ -45,7 +45,7 @@ module _ {T : Type 0} {items : List (Option (Queued T))} {s : Lists} {list : ℕ
   pub item_below : node < length items
   item_below = omega (arith, node_below, walk.nodes_below)
 
-  go_on : (next : Option ℕ) → next ≡ next_of node s → IsStep cursor next node (list_at list s)
+  pub go_on : (next : Option ℕ) → next ≡ next_of node s → IsStep cursor next node (list_at list s)
   go_on next next_is =
       steps list s walk.disjoint walk.list_below cursor next node is held next_is
 

@@ -45,6 +45,19 @@ chooses_where p (x ∷ xs) =
     if p x.item then Some (record { one = x; others = xs })
     else chooses_behind x (chooses_where p xs)
 
+-- the first one among those of the least number that meet a condition
+abbrev pub chooses_best_where : {T : Type 0} → (T → Bool) → List (Queued T) → Option (Choice T)
+chooses_best_where p [] = None
+chooses_best_where p (x ∷ xs) =
+    if p x.item then Some (chooses_between x xs (chooses_best_where p xs))
+    else chooses_behind x (chooses_best_where p xs)
+
+-- by priority, or by arrival
+abbrev pub chooses_next_where : {T : Type 0} → (by_priority : Bool) → (T → Bool) → List (Queued T)
+    → Option (Choice T)
+chooses_next_where true p queue = chooses_best_where p queue
+chooses_next_where false p queue = chooses_where p queue
+
 -- the queue that a choice leaves
 abbrev pub left_by : {T : Type 0} → List (Queued T) → Option (Choice T) → List (Queued T)
 left_by queue None = queue

@@ -1,12 +1,12 @@
 ghost use Rattle.std.specs.Prelude.{◌≡◌, ◌+◌, ◌^◌, ◌<◌, ◌≤◌, [], ◌∷◌, ◌++◌, replicate, length, IfOk, IfSome, option_map};
 ghost use Rattle.iop_cblock.specs.Lists.{AreDisjoint, pushed_front, unlinked};
 ghost use Rattle.iop_queues.specs.declared.queues.TheConstants.{FREE};
-ghost use Rattle.iop_queues.specs.Queue.{chooses, chooses_where, left_by};
+ghost use Rattle.iop_queues.specs.Queue.{chooses, chooses_next_where, chooses_where, left_by};
 ghost use Rattle.iop_queues.specs.Queues.{queue_at, with_queue, total, those_where, others_where, with_priority, prioritized, moved_last, in_place};
 
 use crate::condition::Condition;
 use crate::queued::Queued;
-use crate::walks::{count_where, next_node, node_where};
+use crate::walks::{count_where, next_node, next_node_where, node_where};
 use iop_cblock::Arena;
 use std::alloc::{AllocError, Global};
 use std::marker::Model;
@@ -136,6 +136,30 @@ impl<T: Copy, const ROOM: u32> Queues<T, ROOM> {
         ensures room { IfSome result (λ taken. total self.new < ROOM) }
     {
         let node = node_where(&self.nodes, &self.items, queue + 1, condition)?;
+        set_free(&mut self.nodes, node);
+        self.len -= 1;
+        self.items[node as usize]
+    }
+
+    /// Takes the item that is next, by priority or by arrival, among those of a queue of which a
+    /// condition holds. None exactly where it holds of none.
+    pub fn take_next_where<C: Condition<T>>(
+        &mut self,
+        queue: u32,
+        by_priority: bool,
+        condition: &C,
+    ) -> Option<Queued<T>>
+        requires queue { queue < length self.old }
+        ensures item { let own = queue_at queue self.old in
+            result ≡ option_map (λ c. c.one)
+            (chooses_next_where by_priority (C.holds_for condition.now) own) }
+        ensures left { let own = queue_at queue self.old in
+            self.new ≡ with_queue queue
+            (left_by own (chooses_next_where by_priority (C.holds_for condition.now) own))
+            self.old }
+        ensures room { IfSome result (λ taken. total self.new < ROOM) }
+    {
+        let node = next_node_where(&self.nodes, &self.items, queue + 1, by_priority, condition)?;
         set_free(&mut self.nodes, node);
         self.len -= 1;
         self.items[node as usize]

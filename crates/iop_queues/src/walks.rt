@@ -3,7 +3,7 @@
 ghost use Rattle.std.specs.Prelude.{◌≡◌, ◌<◌, IfSome, length};
 ghost use Rattle.std.specs.List.{count_by};
 ghost use Rattle.iop_cblock.specs.Lists.{list_at};
-ghost use Rattle.iop_queues.specs.Queue.{chooses, chooses_best, chooses_where};
+ghost use Rattle.iop_queues.specs.Queue.{chooses, chooses_best, chooses_best_where, chooses_next_where, chooses_where};
 ghost use Rattle.iop_queues.specs.Walks.{items_of, priority_at, with_later, holds_at, Finds, CanBeWalked};
 
 use crate::condition::Condition;
@@ -95,6 +95,54 @@ pub(crate) fn node_where<T: Copy, C: Condition<T>>(
         cursor = nodes.next(node);
     }
     None
+}
+
+/// Finds the node whose item is next, by priority or by arrival, among those of a list of whose
+/// item a condition holds.
+pub(crate) fn next_node_where<T: Copy, C: Condition<T>>(
+    nodes: &Arena,
+    items: &[Option<Queued<T>>],
+    list: u32,
+    by_priority: bool,
+    condition: &C,
+) -> Option<u32>
+    requires { CanBeWalked items.now nodes.now list }
+    ensures node { let own = list_at list nodes.now in
+        Finds items.now own result
+        (chooses_next_where by_priority (C.holds_for condition.now) (items_of items.now own)) }
+    ensures below { IfSome result (λ node. node < nodes.now.nodes) }
+{
+    if by_priority {
+        best_node_where(nodes, items, list, condition)
+    } else {
+        node_where(nodes, items, list, condition)
+    }
+}
+
+/// Finds the first node of a list among those whose items have the least number, of those of whose
+/// item a condition holds.
+fn best_node_where<T: Copy, C: Condition<T>>(
+    nodes: &Arena,
+    items: &[Option<Queued<T>>],
+    list: u32,
+    condition: &C,
+) -> Option<u32>
+    requires { CanBeWalked items.now nodes.now list }
+    ensures node { let own = list_at list nodes.now in
+        Finds items.now own result
+        (chooses_best_where (C.holds_for condition.now) (items_of items.now own)) }
+    ensures below { IfSome result (λ node. node < nodes.now.nodes) }
+{
+    let mut best = None;
+    let mut cursor = nodes.first(list);
+    while let Some(node) = cursor {
+        if holds_at(items, node, condition) {
+            let priority = priority(items, node);
+            best = Some(better(best, Ranked { node, priority }));
+        }
+        cursor = nodes.next(node);
+    }
+    Some(best?.node)
 }
 
 /// Counts the nodes of a list of whose item a condition holds.

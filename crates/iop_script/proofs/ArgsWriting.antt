@@ -1,14 +1,15 @@
 -- The lines of the words of modules, written and read.
-use Rattle.std.proofs.Common.{◌≡◌, ◌≢◌, ℕ, ◌<◌, ◌≤◌, ◌==◌, nat_le, true, false, not, ◌&&◌, Ok, List, [], ◌∷◌, ◌++◌, length, map, codes, decimal, get_or, append_assoc, append-nil, refl, ap, sym, ◌∙◌, subst, arith}
-use Rattle.std.specs.List.{All, AllPairs, list_all, list_any}
-use Rattle.std.proofs.lemmas.Bool.{and_parts, le-leb, leb-true, ne_eqb}
+use Rattle.std.proofs.Common.{◌≡◌, ◌≢◌, ℕ, ◌<◌, ◌==◌, false, Ok, List, [], ◌∷◌, ◌++◌, length, map, codes, decimal, get_or, append_assoc, append-nil, refl, ap, sym, ◌∙◌, subst, arith}
+use Rattle.std.specs.List.{All, AllPairs, list_any}
+use Rattle.std.proofs.lemmas.Bool.{le-leb, ne_eqb}
 use Rattle.std.proofs.lemmas.List.{get_or_append_left, get_or_at, length-append}
-use Rattle.std.proofs.lemmas.List.Elements.{All-nil, All-cons, All-head, All-tail}
+use Rattle.std.proofs.lemmas.List.Elements.{All-cons, All-head, All-tail}
 use Rattle.std.proofs.lemmas.List.Folds.{list_any_none}
+use Rattle.iop_script.specs.Laws.{FitBlock, IsWord}
 use Rattle.iop_script.specs.Reading.{with_args, is_short, with_fields, after_line, next_number, unless_bad, read_lines}
 use Rattle.iop_script.specs.Rules.{unless_broken, demand}
 use Rattle.iop_script.specs.Scripts.{Args, Script}
-use Rattle.iop_script.specs.Statements.{is_word, words_of, args_of}
+use Rattle.iop_script.specs.Statements.{words_of, args_of}
 use Rattle.iop_script.specs.Texts.{line_feed, space, parts}
 use Rattle.iop_script.specs.Writing.{args_line}
 use Rattle.iop_script.specs.declared.raise.Raise.{Raise}
@@ -17,48 +18,25 @@ use Rattle.iop_script.specs.declared.statements.TheConstants.{MOST_MODULES, MOST
 use Rattle.iop_script.specs.declared.version.Version.{Version}
 use Rattle.iop_script.proofs.Decimals.{decimal_read}
 use Rattle.iop_script.proofs.EventWriting.{decimal_lacks}
-use Rattle.iop_script.proofs.PartsJoined.{Differs, Lacks, lacks_by, lacks_tested, joined-lacks, parts-joined}
-
--- words have no byte below theirs
-byte_differs : (c : ℕ) → c < 0x21 → (b : ℕ) → (nat_le 0x21 b && nat_le b 0x7E) ≡ true → Differs c b
-byte_differs c low b is =
-    let least : 0x21 ≤ b = leb-true 0x21 b (and_parts (nat_le 0x21 b) (nat_le b 0x7E) is).0 in
-    ne_eqb b c (λ e. omega (arith, least, e))
-
-pub word_lacks : (c : ℕ) → c < 0x21 → (word : List ℕ) → is_word word ≡ true → Lacks c word
-word_lacks c low word is =
-    let bytes = and_parts (not (length word == 0))
-    (list_all (λ b. nat_le 0x21 b && nat_le b 0x7E) word) is in
-    lacks_by c (λ b. nat_le 0x21 b && nat_le b 0x7E) (byte_differs c low) word bytes.1
-
-pub words_lack : (c : ℕ) → c < 0x21 → (words : List (List ℕ)) → list_all is_word words ≡ true
-    → All (Lacks c) words
-words_lack c low [] all = All-nil (Lacks c)
-words_lack c low (word ∷ words) all =
-    let tests = and_parts (is_word word) (list_all is_word words) all in
-    All-cons (Lacks c) word words (word_lacks c low word tests.0) (words_lack c low words tests.1)
+use Rattle.iop_script.proofs.PartsJoined.{Lacks, lacks_tested, joined-lacks, parts-joined}
+use Rattle.iop_script.proofs.StatementLaws.{AreArgs}
+use Rattle.iop_script.proofs.Words.{words_tested, words_lack}
 
 -- words that can be written are read
-pub words_said : (words : List (List ℕ)) → length words ≤ MOST_WORDS
-    → list_all is_word words ≡ true → words_of words ≡ Ok words
+pub words_said : (words : List (List ℕ)) → FitBlock words → All IsWord words
+    → words_of words ≡ Ok words
 unfolding words_of
-words_said words most are_words =
-    let few = le-leb (length words) MOST_WORDS most in rw (few, are_words) refl
-
--- words of a module that can be written
-pub record AreArgs (a : Args) : Type 0 where
-  pub least : 1 ≤ a.number
-  pub most : a.number ≤ MOST_MODULES
-  pub words : list_all is_word a.words ≡ true
-  pub few : length a.words ≤ MOST_WORDS
-  pub short : length (args_line a) ≤ LONGEST_ARGS
+words_said words room are_words =
+    let few = le-leb (length words) MOST_WORDS room.count in
+    let all = words_tested words are_words in
+    rw (few, all) refl
 
 module _ (a : Args) (h : AreArgs a) where
   fields_lack : (c : ℕ) → c < 0x21 → All (Lacks c) (decimal a.number ∷ a.words)
   fields_lack c low =
       All-cons (Lacks c) (decimal a.number) a.words
       (decimal_lacks c a.number (omega arith) (omega (arith, h.most)))
-      (words_lack c low a.words h.words)
+      (words_lack c low a.words h.fit.are_words)
 
   -- their line is one line
   pub args_line-lacks : Lacks line_feed (args_line a)
@@ -78,7 +56,7 @@ module _ (a : Args) (h : AreArgs a) where
   unfolding args_of
   args_said =
       let number = decimal_read 1 MOST_MODULES a.number (omega (arith, h.most)) h.least h.most in
-      let words = words_said a.words h.few h.words in
+      let words = words_said a.words h.room h.fit.are_words in
       rw (number, words) refl
 
   pub args_taken : (version : Version) (script : Script)
@@ -87,7 +65,7 @@ module _ (a : Args) (h : AreArgs a) where
       ≡ Ok (record script { args = script.args ++ a ∷ [] })
   unfolding after_line
   args_taken version script other =
-      let short = le-leb (length (args_line a)) LONGEST_ARGS h.short in
+      let short = le-leb (length (args_line a)) LONGEST_ARGS h.fit.short in
       ap (with_fields version script (args_line a)) args_parts
       ∙ ap (λ r. demand rule.LineLength (is_short (args_line a))
       (unless_broken r (with_args script))) args_said

@@ -1,5 +1,5 @@
 -- The lines of events, written and read.
-use Rattle.std.proofs.Common.{◌≡◌, ℕ, suc, ◌+◌, ◌-◌, ◌^◌, ◌<◌, ◌≤◌, nat_le, Bool, true, false, cond, Option, Some, Ok, List, [], ◌∷◌, ◌++◌, length, map, codes, decimal, append_assoc, append-nil, unwrap_or, option_map, refl, ap, sym, ◌∙◌, subst, arith}
+use Rattle.std.proofs.Common.{◌≡◌, ℕ, suc, ◌+◌, ◌-◌, ◌^◌, ◌<◌, ◌≤◌, nat_le, Bool, true, false, Option, Some, Ok, List, [], ◌∷◌, ◌++◌, length, map, codes, decimal, append_assoc, append-nil, unwrap_or, option_map, refl, ap, sym, ◌∙◌, subst, arith}
 use Rattle.std.specs.List.{All, AllPairs, slice_get}
 use Rattle.std.specs.Char.{is_ascii_digit}
 use Rattle.std.proofs.lemmas.Bool.{and_parts, le-leb, leb-true, ne_eqb}
@@ -18,7 +18,7 @@ use Rattle.iop_script.specs.declared.version.Version.{Version}
 use Rattle.iop_script.specs.declared.version.Version.TheVariants.{One, Two}
 use Rattle.iop_script.proofs.Decimals.{decimal_read, decimal_digits}
 use Rattle.iop_script.proofs.PartsJoined.{Differs, Lacks, lacks_by, lacks_tested, joined-lacks, parts-joined}
-use Rattle.iop_script.proofs.StatementLaws.{CanChange}
+use Rattle.iop_script.proofs.StatementLaws.{CanChange, IsEvent, word_for, event_fields}
 
 -- digits have no byte below them
 digit_differs : (c : ℕ) → c < 48 → (b : ℕ) → is_ascii_digit b ≡ true → Differs c b
@@ -29,9 +29,6 @@ digit_differs c low b is =
 pub decimal_lacks : (c n : ℕ) → c < 48 → n < 2 ^ 64 → Lacks c (decimal n)
 decimal_lacks c n low small =
     lacks_by c is_ascii_digit (digit_differs c low) (decimal n) (decimal_digits n small)
-
-abbrev word_for : Bool → List ℕ
-word_for up = cond up (codes "line") (codes "release")
 
 feed_lacks : (up : Bool) → Lacks line_feed (word_for up)
 feed_lacks true = lacks_tested line_feed (codes "line") refl
@@ -47,15 +44,6 @@ change_read One true can = refl
 change_read One false can = absurd (cc)
 change_read Two true can = refl
 change_read Two false can = refl
-
--- an event that can be written
-pub record IsEvent (version : Version) (e : Raise) : Type 0 where
-  pub tick : e.at < 2 ^ 63
-  pub line : e.line < 64
-  pub up : CanChange version e.up
-
-abbrev event_fields : Raise → List (List ℕ)
-event_fields e = decimal e.at ∷ change_word e ∷ decimal e.line ∷ []
 
 module _ (version : Version) (e : Raise) (h : IsEvent version e) where
   fields_lack : (c : ℕ) → c < 48 → Lacks c (change_word e) → All (Lacks c) (event_fields e)

@@ -2,12 +2,15 @@ pub mod PartLemmas
 pub mod Numbers
 pub mod Fields
 pub mod LineLemmas
+pub mod PartsJoined
+pub mod Words
 pub mod StatementLaws
 pub mod Decimals
 pub mod LinesWritten
+pub mod GoodLines
 pub mod ScriptLaws
+pub mod GoodLinesWritten
 pub mod RuleLists
-pub mod PartsJoined
 pub mod BadLines
 pub mod FirstBad
 pub mod EventWriting

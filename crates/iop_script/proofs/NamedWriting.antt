@@ -1,6 +1,6 @@
 -- The lines of the words for names, written and read.
-use Rattle.std.proofs.Common.{◌≡◌, ◌≢◌, ℕ, ◌<◌, ◌≤◌, Bool, true, false, Ok, List, [], ◌∷◌, ◌++◌, length, map, codes, get_or, append_assoc, append-nil, refl, ap, sym, ◌∙◌, subst, arith}
-use Rattle.std.specs.List.{All, AllPairs, list_all, list_any}
+use Rattle.std.proofs.Common.{◌≡◌, ◌≢◌, ℕ, ◌<◌, Bool, true, false, Ok, List, [], ◌∷◌, ◌++◌, length, map, codes, get_or, append_assoc, append-nil, refl, ap, sym, ◌∙◌, subst, arith}
+use Rattle.std.specs.List.{All, AllPairs, list_any}
 use Rattle.std.specs.Str.{bytes_eq}
 use Rattle.std.proofs.lemmas.Bool.{le-leb}
 use Rattle.std.proofs.lemmas.List.{get_or_append_left, get_or_at, length-append}
@@ -10,28 +10,23 @@ use Rattle.std.proofs.lemmas.Slice.Eq.{bytes_eq-Decides}
 use Rattle.iop_script.specs.Reading.{with_named, is_short, with_fields, after_line, next_number, unless_bad, read_lines}
 use Rattle.iop_script.specs.Rules.{unless_broken, demand}
 use Rattle.iop_script.specs.Scripts.{Args, Named, Script}
-use Rattle.iop_script.specs.Statements.{is_word, named_of}
+use Rattle.iop_script.specs.Statements.{named_of}
 use Rattle.iop_script.specs.Texts.{line_feed, space, parts}
 use Rattle.iop_script.specs.Writing.{named_line}
 use Rattle.iop_script.specs.declared.raise.Raise.{Raise}
 use Rattle.iop_script.specs.declared.rule.Rule.TheVariants as rule
-use Rattle.iop_script.specs.declared.statements.TheConstants.{MOST_WORDS, LONGEST_ARGS}
+use Rattle.iop_script.specs.declared.statements.TheConstants.{LONGEST_ARGS}
 use Rattle.iop_script.specs.declared.version.Version.TheVariants.{Two}
-use Rattle.iop_script.proofs.ArgsWriting.{word_lacks, words_lack, words_said}
+use Rattle.iop_script.proofs.ArgsWriting.{words_said}
 use Rattle.iop_script.proofs.PartsJoined.{Lacks, lacks_tested, joined-lacks, parts-joined}
-
--- words for a name that can be written
-pub record AreNamed (n : Named) : Type 0 where
-  pub name : is_word n.name ≡ true
-  pub words : list_all is_word n.words ≡ true
-  pub few : length n.words ≤ MOST_WORDS
-  pub short : length (named_line n) ≤ LONGEST_ARGS
+use Rattle.iop_script.proofs.StatementLaws.{AreNamed}
+use Rattle.iop_script.proofs.Words.{word_tested, word_lacks, words_lack}
 
 module _ (n : Named) (h : AreNamed n) where
   fields_lack : (c : ℕ) → c < 0x21 → All (Lacks c) (n.name ∷ n.words)
   fields_lack c low =
       All-cons (Lacks c) n.name n.words (word_lacks c low n.name h.name)
-      (words_lack c low n.words h.words)
+      (words_lack c low n.words h.fit.are_words)
 
   -- their line is one line
   pub named_line-lacks : Lacks line_feed (named_line n)
@@ -50,7 +45,9 @@ module _ (n : Named) (h : AreNamed n) where
   named_said : named_of (n.name ∷ n.words) ≡ Ok n
   unfolding named_of
   named_said =
-      let name = h.name in let words = words_said n.words h.few h.words in rw (name, words) refl
+      let name = word_tested n.name h.name in
+      let words = words_said n.words h.room h.fit.are_words in
+      rw (name, words) refl
 
   named_taken : (script : Script)
       → list_any (λ other. bytes_eq other.name n.name) script.named ≡ false
@@ -58,7 +55,7 @@ module _ (n : Named) (h : AreNamed n) where
       ≡ Ok (record script { named = script.named ++ n ∷ [] })
   unfolding after_line
   named_taken script other =
-      let short = le-leb (length (named_line n)) LONGEST_ARGS h.short in
+      let short = le-leb (length (named_line n)) LONGEST_ARGS h.fit.short in
       ap (with_fields Two script (named_line n)) named_parts
       ∙ ap (λ r. demand rule.LineLength (is_short (named_line n))
       (unless_broken r (with_named script))) named_said

@@ -1,22 +1,24 @@
--- What holds of a statement that was read.
-use Rattle.std.proofs.Common.{◌≡◌, ℕ, ◌+◌, ◌<◌, ◌≤◌, ◌==◌, Bool, true, false, cond, ◌&&◌, Option, None, Some, Result, Ok, Err, List, [], ◌∷◌, length, codes, refl, ◌∙◌, ap, sym, subst, arith}
-use Rattle.std.specs.List.{list_all, slice_split, onto_first}
+-- What holds of a statement that can be written, and of each that was read.
+use Rattle.std.proofs.Common.{◌≡◌, ℕ, ◌+◌, ◌^◌, ◌<◌, ◌≤◌, nat_le, ◌==◌, Bool, true, false, cond, ◌&&◌, Option, None, Some, Result, Ok, Err, List, [], ◌∷◌, length, codes, decimal, refl, ◌∙◌, ap, sym, subst, arith}
+use Rattle.std.specs.List.{All, list_all, slice_split, onto_first}
 use Rattle.std.specs.Option.{ok_or}
-use Rattle.std.specs.Str.{bytes_eq}
-use Rattle.std.proofs.lemmas.Bool.{and_parts, leb-true}
+use Rattle.std.proofs.lemmas.Bool.{leb-true}
 use Rattle.std.proofs.lemmas.List.Sums.{sum_by-cons}
 use Rattle.std.proofs.lemmas.List.Splits.{length-slice_split, slice_split-cons_yes, slice_split-cons_no}
-use Rattle.iop_script.specs.Laws.{bytes_of_words}
+use Rattle.iop_script.specs.Laws.{bytes_of_words, FitBlock, IsWord, FitLine}
 use Rattle.iop_script.specs.Rules.{unless_broken, demand}
-use Rattle.iop_script.specs.Statements.{is_word, number_in, raises, event_of, words_of}
-use Rattle.iop_script.specs.Texts.{space, parts, number_of}
+use Rattle.iop_script.specs.Scripts.{Args, Named}
+use Rattle.iop_script.specs.Statements.{is_word, words_of}
+use Rattle.iop_script.specs.Texts.{space, parts}
 use Rattle.iop_script.specs.Versions.{allows_more}
+use Rattle.iop_script.specs.Writing.{change_word, args_line, named_line}
 use Rattle.iop_script.specs.declared.raise.Raise.{Raise}
 use Rattle.iop_script.specs.declared.rule.Rule.{Rule}
 use Rattle.iop_script.specs.declared.rule.Rule.TheVariants as rule
+use Rattle.iop_script.specs.declared.statements.TheConstants.{MOST_MODULES, MOST_WORDS, LONGEST_ARGS}
 use Rattle.iop_script.specs.declared.version.Version.{Version}
 use Rattle.iop_script.specs.declared.version.Version.TheVariants.{One, Two}
-use Rattle.iop_script.specs.declared.statements.TheConstants.{LAST_TICK, LAST_LINE, MOST_WORDS, LONGEST_ARGS}
+use Rattle.iop_script.proofs.Words.{words_told}
 
 module _ {A : Type 0} where
   -- a value behind a test
@@ -50,19 +52,12 @@ pub ok_behind : {A B : Type 0} (r : Result A Rule) (next : A → Result B Rule) 
 ok_behind (Err rule) next y is = absurd (cc)
 ok_behind (Ok x) next y is = (x, refl, is)
 
-number_within : (rule : Rule) (least most : ℕ) (field : List ℕ) (n : ℕ)
-    → number_in rule least most field ≡ Ok n → n ≤ most
-unfolding number_of
-number_within rule least most field n is =
-    let found = if_some _ _ _ (some_behind (number_of least most field) rule n is) in
-    subst (λ (v : ℕ). v ≤ most) (some_value _ _ found.1) (leb-true _ _ (and_parts _ _ found.0).1)
-
 -- version 1 lowers no line
 abbrev pub CanChange : Version → Bool → Type 0
 CanChange One up = up ≡ true
 CanChange Two up = Unit {0}
 
-raised_by : (version : Version) (b c up : Bool)
+pub raised_by : (version : Version) (b c up : Bool)
     → cond b (Some true) (cond (c && allows_more version) (Some false) None) ≡ Some up
     → CanChange version up
 raised_by One true c up is = sym (some_value true up is)
@@ -70,32 +65,31 @@ raised_by One false true up is = absurd (cc)
 raised_by One false false up is = absurd (cc)
 raised_by Two b c up is = tt
 
--- the tick, the line and the change of an event
-pub record IsRead (version : Version) (e : Raise) : Type 0 where
-  pub tick : e.at ≤ LAST_TICK
-  pub line : e.line ≤ LAST_LINE
+-- an event that can be written
+pub record IsEvent (version : Version) (e : Raise) : Type 0 where
+  pub tick : e.at < 2 ^ 63
+  pub line : e.line < 64
   pub up : CanChange version e.up
 
-module _ (version : Version) where
-  pub event_within : (fields : List (List ℕ)) (e : Raise) → event_of version fields ≡ Ok e
-      → IsRead version e
-  unfolding event_of
-  event_within [] e is = absurd (cc)
-  event_within (tick ∷ []) e is = absurd (cc)
-  event_within (tick ∷ change ∷ []) e is = absurd (cc)
-  event_within (tick ∷ change ∷ line ∷ []) e is =
-      let at = ok_behind _ _ _ is in
-      let up = ok_behind _ _ _ at.2 in
-      let n = ok_behind _ _ _ up.2 in
-      let raised = some_behind (raises version change) rule.Change up.0 up.1 in
-      let read : IsRead version (record { at = at.0; line = n.0; up = up.0 }) = record {
-        tick = number_within rule.Tick 0 LAST_TICK tick at.0 at.1;
-        line = number_within rule.InterruptLine 0 LAST_LINE line n.0 n.1;
-        up = raised_by version (bytes_eq change (codes "line"))
-            (bytes_eq change (codes "release")) up.0 raised;
-      } in
-      subst (IsRead version) (ok_value _ _ n.2) read
-  event_within (tick ∷ change ∷ line ∷ more ∷ rest) e is = absurd (cc)
+-- the word for its change, and its fields behind `at`
+abbrev pub word_for : Bool → List ℕ
+word_for up = cond up (codes "line") (codes "release")
+
+abbrev pub event_fields : Raise → List (List ℕ)
+event_fields e = decimal e.at ∷ change_word e ∷ decimal e.line ∷ []
+
+-- words of a module that can be written
+pub record AreArgs (a : Args) : Type 0 where
+  pub least : 1 ≤ a.number
+  pub most : a.number ≤ MOST_MODULES
+  pub room : FitBlock a.words
+  pub fit : FitLine a.words (args_line a)
+
+-- and of a name
+pub record AreNamed (n : Named) : Type 0 where
+  pub name : IsWord n.name
+  pub room : FitBlock n.words
+  pub fit : FitLine n.words (named_line n)
 
 bytes-cons : (word : List ℕ) (words : List (List ℕ)) →
     bytes_of_words (word ∷ words) ≡ length word + 1 + bytes_of_words words
@@ -122,25 +116,20 @@ module _ (p : ℕ → Bool) where
           ∙ onto_first-bytes x (slice_split p xs) (omega (arith, length-slice_split p xs))
           ∙ omega arith
 
--- words that a module can be handed
-pub record AreWords (words : List (List ℕ)) : Type 0 where
-  pub count : length words ≤ MOST_WORDS
-  pub bytes : bytes_of_words words < LONGEST_ARGS
-  pub are_words : list_all is_word words ≡ true
-
--- those of a line, behind two fields
+-- the words of a line, behind two fields
 pub words_within : (line keyword second : List ℕ) (fields words : List (List ℕ))
     → parts space line ≡ keyword ∷ second ∷ fields → length line ≤ LONGEST_ARGS
-    → words_of fields ≡ Ok words → (fields ≡ words) × AreWords words
+    → words_of fields ≡ Ok words → (fields ≡ words) × FitBlock words × All IsWord words
 unfolding words_of
 words_within line keyword second fields words cut short is =
-    let few = demand_met _ _ _ words is in
-    let all = demand_met _ _ _ words few.1 in
+    let few = demand_met rule.WordCount (nat_le (length fields) MOST_WORDS)
+    (demand rule.WordBytes (list_all is_word fields) (Ok fields)) words is in
+    let all = demand_met rule.WordBytes (list_all is_word fields) (Ok fields) words few.1 in
     let same : fields ≡ words = ok_value fields words all.1 in
     let whole : bytes_of_words (keyword ∷ second ∷ fields) ≡ length line + 1 =
     sym (ap bytes_of_words cut) ∙ slice_split-bytes (λ b. b == space) line in
-    let read : AreWords fields = record {
-      count = leb-true _ _ few.0;
+    let room : FitBlock fields = record {
+      count = leb-true (length fields) MOST_WORDS few.0;
       bytes = omega (
         arith,
         whole,
@@ -148,6 +137,5 @@ words_within line keyword second fields words cut short is =
         bytes-cons keyword (second ∷ fields),
         bytes-cons second fields,
       );
-      are_words = all.0;
     } in
-    (same, subst AreWords same read)
+    (same, subst FitBlock same room, subst (All IsWord) same (words_told fields all.0))

@@ -11,11 +11,11 @@ use Rattle.iop_script.specs.Writing.{event_line, args_line, named_line, word_lin
 use Rattle.iop_script.specs.declared.raise.Raise.{Raise}
 use Rattle.iop_script.specs.declared.version.Version.{Version}
 use Rattle.iop_script.specs.declared.version.Version.TheVariants.{One, Two}
-use Rattle.iop_script.proofs.ArgsWriting.{AreArgs, args_line-lacks, args_read}
-use Rattle.iop_script.proofs.EventWriting.{IsEvent, event_line-lacks, events_read}
-use Rattle.iop_script.proofs.NamedWriting.{AreNamed, named_line-lacks, script_of_all, named_read}
+use Rattle.iop_script.proofs.ArgsWriting.{args_line-lacks, args_read}
+use Rattle.iop_script.proofs.EventWriting.{event_line-lacks, events_read}
+use Rattle.iop_script.proofs.NamedWriting.{named_line-lacks, script_of_all, named_read}
 use Rattle.iop_script.proofs.PartsJoined.{Lacks, lacks_tested, parts-joined}
-use Rattle.iop_script.proofs.StatementLaws.{CanChange}
+use Rattle.iop_script.proofs.StatementLaws.{CanChange, IsEvent, AreArgs, AreNamed}
 
 first_lacks : (version : Version) → Lacks line_feed (first_line version)
 first_lacks One = lacks_tested line_feed (first_line One) refl
@@ -58,17 +58,15 @@ module _ (version : Version) (script : Script) (can : CanBeWritten version scrip
   are_args = λ k d below. record {
     least = (can.numbers k d below).0;
     most = (can.numbers k d below).1;
-    words = can.words k d below;
-    few = can.runs.counts k d below;
-    short = can.short k d below;
+    room = can.runs.room k d below;
+    fit = can.fit k d below;
   }
 
   are_named : All AreNamed script.named
   are_named = λ k d below. record {
     name = can.are_names k d below;
-    words = can.named_words k d below;
-    few = can.runs.named_counts k d below;
-    short = can.named_short k d below;
+    room = can.runs.named_room k d below;
+    fit = can.named_fit k d below;
   }
 
   abbrev lines : List (List ℕ)

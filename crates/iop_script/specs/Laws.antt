@@ -1,19 +1,22 @@
 -- What the laws of scripts say.
-use Rattle.std.specs.Prelude.{◌≡◌, ◌≢◌, ◌⊎◌, ◌↔◌, ℕ, ◌+◌, ◌-◌, ◌^◌, ◌<◌, ◌≤◌, min, true, Option, Some, Ok, Err, is_ok, List, [], ◌∷◌, ◌++◌, length, sum_by, All, AllPairs}
-use Rattle.std.specs.List.{list_all}
+use Rattle.std.specs.Prelude.{◌≡◌, ◌≢◌, ◌⊎◌, ◌↔◌, ℕ, ◌+◌, ◌-◌, ◌^◌, ◌<◌, ◌≤◌, min, true, Option, Some, codes, Ok, Err, is_ok, List, [], ◌∷◌, ◌++◌, length, map, take, drop, sum_by, All, AllPairs, Contains}
 use Rattle.iop_script.specs.Scripts.{Script}
-use Rattle.iop_script.specs.Statements.{is_word}
 use Rattle.iop_script.specs.Reading.{BadLine, script_of}
-use Rattle.iop_script.specs.Texts.{line_feed}
+use Rattle.iop_script.specs.Texts.{line_feed, parts}
 use Rattle.iop_script.specs.Versions.{version_of}
-use Rattle.iop_script.specs.Writing.{first_lines, args_line, named_line, written}
+use Rattle.iop_script.specs.Writing.{first_lines, event_line, args_line, named_line, word_lines, written}
 use Rattle.iop_script.specs.declared.statements.TheConstants.{MOST_MODULES, LONGEST_ARGS}
 use Rattle.iop_script.specs.declared.version.Version.{Version}
 use Rattle.iop_script.specs.declared.version.Version.TheVariants.{One, Two}
 
--- words for which the argument block has room: each has a zero byte behind it
+-- the bytes of words in the argument block: each has a zero byte behind it
 abbrev pub bytes_of_words : List (List ℕ) → ℕ
 bytes_of_words words = sum_by (λ word. length word + 1) words
+
+-- words for which the argument block has room
+pub record FitBlock (words : List (List ℕ)) : Type 0 where
+  pub count : length words ≤ 15
+  pub bytes : bytes_of_words words < 2048
 
 -- what a machine asks of a script: the events in the order of their ticks, which can come in a run;
 -- lines that there are; and for each module and each name one list of words at most, for which the
@@ -23,11 +26,9 @@ pub record CanRun (script : Script) : Type 0 where
   pub ticks : All (λ e. e.at < 2 ^ 63) script.events
   pub lines : All (λ e. e.line < 64) script.events
   pub modules : AllPairs (λ a b. a.number ≢ b.number) script.args
-  pub counts : All (λ a. length a.words ≤ 15) script.args
-  pub bytes : All (λ a. bytes_of_words a.words < 2048) script.args
+  pub room : All (λ a. FitBlock a.words) script.args
   pub names : AllPairs (λ m n. m.name ≢ n.name) script.named
-  pub named_counts : All (λ n. length n.words ≤ 15) script.named
-  pub named_bytes : All (λ n. bytes_of_words n.words < 2048) script.named
+  pub named_room : All (λ n. FitBlock n.words) script.named
 
 abbrev pub ScriptsCanRun : Type 0
 ScriptsCanRun = (bytes : List ℕ) (script : Script) → script_of bytes ≡ Ok script → CanRun script
@@ -45,17 +46,25 @@ abbrev pub VersionsBound : Type 0
 VersionsBound = (bytes : List ℕ) (script : Script) (version : Version) → script_of bytes ≡ Ok script
     → text_version bytes ≡ Some version → IsOfVersion version script
 
+-- a word: bytes from 0x21 to 0x7E, one at least
+pub record IsWord (word : List ℕ) : Type 0 where
+  pub some : 1 ≤ length word
+  pub bytes : All (λ b. (0x21 ≤ b) × (b ≤ 0x7E)) word
+
+-- words that a line can have, and the line with them, which is not too long
+pub record FitLine (words : List (List ℕ)) (line : List ℕ) : Type 0 where
+  pub are_words : All IsWord words
+  pub short : length line ≤ LONGEST_ARGS
+
 -- what can be said in a text of a version, too: modules that there can be, words, and lines that
 -- are not too long
 pub record CanBeWritten (version : Version) (script : Script) : Type 0 where
   pub runs : CanRun script
   pub in_version : IsOfVersion version script
   pub numbers : All (λ a. (1 ≤ a.number) × (a.number ≤ MOST_MODULES)) script.args
-  pub words : All (λ a. list_all is_word a.words ≡ true) script.args
-  pub short : All (λ a. length (args_line a) ≤ LONGEST_ARGS) script.args
-  pub are_names : All (λ n. is_word n.name ≡ true) script.named
-  pub named_words : All (λ n. list_all is_word n.words ≡ true) script.named
-  pub named_short : All (λ n. length (named_line n) ≤ LONGEST_ARGS) script.named
+  pub fit : All (λ a. FitLine a.words (args_line a)) script.args
+  pub are_names : All (λ n. IsWord n.name) script.named
+  pub named_fit : All (λ n. FitLine n.words (named_line n)) script.named
 
 abbrev pub ScriptsCanBeWritten : Type 0
 ScriptsCanBeWritten = (bytes : List ℕ) (script : Script) → script_of bytes ≡ Ok script
@@ -64,6 +73,19 @@ ScriptsCanBeWritten = (bytes : List ℕ) (script : Script) → script_of bytes �
 abbrev pub WrittenScriptsAreRead : Type 0
 WrittenScriptsAreRead = (version : Version) (script : Script) → CanBeWritten version script
     → script_of (written version script) ≡ Ok script
+
+-- a line that says nothing is empty, or begins with `#`
+abbrev pub SaysNothing : List ℕ → Type 0
+SaysNothing line = (line ≡ []) ⊎ (take 1 line ≡ codes "#")
+
+-- it is one of the lines that a script is written with
+abbrev pub IsLineOf : Script → List ℕ → Type 0
+IsLineOf script line = Contains (map event_line script.events ++ word_lines script) line
+
+-- behind the first line of a script's text there is no other way to say what the script says
+abbrev pub GoodLinesAreWritten : Type 0
+GoodLinesAreWritten = (text : List ℕ) (script : Script) → script_of text ≡ Ok script
+    → All (λ line. SaysNothing line ⊎ IsLineOf script line) (drop 1 (parts line_feed text))
 
 -- the text of the lines before this one is good, if there are any, and with this line it is bad:
 -- the same rule is broken

@@ -2,7 +2,7 @@
 //! nothing.
 
 ghost use Rattle.iop_script.specs.RuleLists.{FirstBrokenRulesAreTold};
-ghost use Rattle.iop_script.specs.Laws.{ScriptsCanRun, VersionsBound, ScriptsCanBeWritten, WrittenScriptsAreRead, FirstBadLinesAreTold, BadLinesDecide};
+ghost use Rattle.iop_script.specs.Laws.{ScriptsCanRun, VersionsBound, ScriptsCanBeWritten, WrittenScriptsAreRead, GoodLinesAreWritten, FirstBadLinesAreTold, BadLinesDecide};
 
 /// The script of a text is one that a machine can run: its events are in the order of their ticks,
 /// all below 2^63, and their lines below 64; no module and no name has words twice, and those of
@@ -26,6 +26,14 @@ pub fn scripts_can_be_written()
 /// The text written of a script that can be written says this script.
 pub fn written_scripts_are_read()
     ensures { WrittenScriptsAreRead }
+{}
+
+/// Of a text that is a script each line behind the first is empty, begins with `#`, or is one of
+/// the lines that the script is written with. So none of these is read of another line, as one with
+/// a zero before a number, with two spaces between fields or with more fields behind the last, and
+/// `release` is never read as a line that is raised.
+pub fn good_lines_are_written()
+    ensures { GoodLinesAreWritten }
 {}
 
 /// A text is refused with a line and a rule exactly where the text of the lines before this line is

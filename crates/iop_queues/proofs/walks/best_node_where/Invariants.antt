@@ -1,0 +1,12 @@
+use Rattle.std.proofs.Common.{length}
+use Rattle.iop_cblock.specs.Lists.{list_at}
+use Rattle.iop_queues.proofs.Walking.{ahead}
+use Rattle.iop_queues.proofs.BestWhere.{BestWhereSoFar}
+use Rattle.iop_queues.proofs.walks.best_node_where.Given as goal
+
+abbrev pub invariant-loop-cursor : goal.invariant-loop-cursor
+invariant-loop-cursor g l =
+    BestWhereSoFar l.items l.nodes l.list (g.C.Condition.holds_for l.condition) l.cursor l.best
+
+abbrev pub decreases-loop-cursor : goal.decreases-loop-cursor
+decreases-loop-cursor g l = length (ahead l.cursor (list_at l.list l.nodes))
