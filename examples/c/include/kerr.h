@@ -46,8 +46,8 @@
 #define KE_UNKNOWN_SEMID (-408)      /* no semaphore has the id */
 #define KE_UNKNOWN_EVFID (-409)      /* no event flag has the id */
 #define KE_UNKNOWN_MBXID (-410)      /* no mailbox has the id */
-#define KE_UNKNOWN_VPLID (-411)
-#define KE_UNKNOWN_FPLID (-412)
+#define KE_UNKNOWN_VPLID (-411)      /* no variable pool has the id */
+#define KE_UNKNOWN_FPLID (-412)      /* no fixed pool has the id */
 #define KE_DORMANT (-413)            /* the thread is dormant: it was not started, or it has ended */
 #define KE_NOT_DORMANT (-414)        /* the thread is not dormant */
 #define KE_NOT_SUSPEND (-415)        /* the thread is not suspended */
@@ -61,5 +61,7 @@
 #define KE_EVF_ILPAT (-423)          /* no bits are asked for */
 #define KE_MBX_NOMSG (-424)          /* the mailbox has no message */
 #define KE_WAIT_DELETE (-425)        /* what was waited for is deleted */
+#define KE_ILLEGAL_MEMBLOCK (-426)   /* no block of the pool that was taken starts there */
+#define KE_ILLEGAL_MEMSIZE (-427)    /* a size, or a number of blocks, that the service does not take */
 
 #endif
