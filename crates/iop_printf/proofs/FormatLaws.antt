@@ -4,12 +4,11 @@ use Rattle.std.specs.List.{list_all}
 use Rattle.std.proofs.lemmas.Bool.{and_parts}
 use Rattle.std.proofs.lemmas.List.{length-take}
 use Rattle.iop_printf.proofs.Parts.{passes}
-use Rattle.iop_printf.specs.Arguments.{argument}
+use Rattle.iop_printf.specs.Arguments.{Arguments, argument}
 use Rattle.iop_printf.specs.Conversions.{percent, conversion_at}
 use Rattle.iop_printf.specs.Formatting.{part_at, text_from, format_text}
 use Rattle.iop_printf.specs.Laws.{text_behind_percent, TextsAreShort, PlainFormatsStay, FormatsGoOn}
 use Rattle.iop_printf.specs.Texts.{string_at, conversion_text, conversion_arguments}
-use Rattle.iop_printf.specs.declared.arguments.Arguments.{Arguments}
 
 pub format_text-short : TextsAreShort
 unfolding format_text

@@ -9,3 +9,4 @@ pub mod FormatLaws
 pub mod NumberLaws
 pub mod WidthLaws
 pub mod ReadingLaws
+pub mod ArgumentLaws

@@ -1,8 +1,8 @@
 -- The text of a format, part by part.
 use Rattle.std.proofs.Common.{◌≡◌, ℕ, zero, suc, ◌+◌, List, [], ◌∷◌, ◌++◌, take, drop, refl, ap, sym, ◌∙◌}
 use Rattle.iop_printf.proofs.Cutting.{cut_twice}
+use Rattle.iop_printf.specs.Arguments.{Arguments}
 use Rattle.iop_printf.specs.Formatting.{part_at, text_from}
-use Rattle.iop_printf.specs.declared.arguments.Arguments.{Arguments}
 
 module _ (ram : List ℕ) (arguments : Arguments) where
   -- the bytes that belong to the conversion before

@@ -1,10 +1,9 @@
 -- The text of a format: this project's profile, after printf of C.
 use Rattle.std.specs.Prelude.{ℕ, zero, suc, ◌+◌, ◌==◌, if◌then◌else◌, List, [], ◌∷◌, ◌++◌, take}
-use Rattle.iop_printf.specs.Arguments.{argument}
+use Rattle.iop_printf.specs.Arguments.{Arguments, argument}
 use Rattle.iop_printf.specs.Conversions.{percent, conversion_at}
 use Rattle.iop_printf.specs.Texts.{string_at, conversion_text, conversion_arguments}
 use Rattle.iop_printf.specs.declared.TheConstants.{LONGEST}
-use Rattle.iop_printf.specs.declared.arguments.Arguments.{Arguments}
 
 -- what a byte of the format begins: its text, how many of the bytes behind it belong to it, and how many
 -- arguments it takes

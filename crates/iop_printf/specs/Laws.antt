@@ -6,12 +6,11 @@ use Rattle.std.specs.List.{list_all, list_any}
 use Rattle.std.specs.Option.{option_map_or}
 use Rattle.std.specs.Str.Parse.{IsNumeral, digits_value}
 use Rattle.iop_base.specs.Numbers.{signed}
-use Rattle.iop_printf.specs.Arguments.{argument}
+use Rattle.iop_printf.specs.Arguments.{Arguments, word_or_zero, argument}
 use Rattle.iop_printf.specs.Conversions.{percent, minus, zero_digit, is_flag, is_size, letter_of, conversion_at}
 use Rattle.iop_printf.specs.Formatting.{text_from, format_text}
 use Rattle.iop_printf.specs.Texts.{string_at, digits_of, sign_of, letter_text, conversion_text, conversion_arguments}
 use Rattle.iop_printf.specs.declared.TheConstants.{LONGEST}
-use Rattle.iop_printf.specs.declared.arguments.Arguments.{Arguments}
 use Rattle.iop_printf.specs.declared.conversion.Conversion.{Conversion}
 use Rattle.iop_printf.specs.declared.letter.Letter.{Letter}
 use Rattle.iop_printf.specs.declared.letter.Letter.TheVariants.{Number, Percent}
@@ -42,6 +41,13 @@ FormatsGoOn =
     → list_all (λ b. not (b == percent)) plain ≡ true
     → text_from ram arguments taken 0 (plain ++ percent ∷ rest)
     ≡ plain ++ text_behind_percent ram arguments taken rest
+
+-- the first word on the stack may as well stand in one more register, behind the others
+abbrev pub StackFollowsRegisters : Type 0
+StackFollowsRegisters =
+    (ram : List ℕ) (fmt : ℕ) (registers : List ℕ) (register sp : ℕ)
+    → word_or_zero ram (sp + 16) ≡ register
+    → format_text ram fmt (registers ++ register ∷ []) (sp + 4) ≡ format_text ram fmt registers sp
 
 -- the parts of a conversion, as they stand behind its `%`: flags, the digits of a width, those
 -- behind a point if there is one, sizes, and the byte of a letter

@@ -84,11 +84,19 @@ fn append_format(text: &mut Text, ram: &Ram, arguments: &Arguments, format: &[u8
 pub fn format(ram: &Ram, fmt: u32, args: [u32; 3], sp: u32, out: &mut ArrayVec<u8, LONGEST>)
     ensures { out.new.items ≡ format_text ram.now fmt args sp }
 {
+    format_regs(ram, fmt, &args, sp, out);
+}
+
+/// The text of the format at `fmt`, put into `out` as `format` puts it there, but with arguments in
+/// `registers` in place of three: an argument is the next of these, as many as there are, and then
+/// of the words from 16(`sp`) on.
+///
+/// A function that has its format in `$a1` hands over `$a2` and `$a3` (MIPS o32).
+pub fn format_regs(ram: &Ram, fmt: u32, registers: &[u32], sp: u32, out: &mut ArrayVec<u8, LONGEST>)
+    ensures { out.new.items ≡ format_text ram.now fmt registers.now sp }
+{
     out.clear();
-    let arguments = Arguments {
-        registers: args,
-        sp,
-    };
+    let arguments = Arguments { registers, sp };
     let format = string_at(ram, fmt, ram.size());
     append_format(out, ram, &arguments, format);
 }

@@ -3,7 +3,7 @@
 
 ghost use Rattle.iop_printf.specs.Laws.{TextsAreShort, PlainFormatsStay};
 ghost use Rattle.iop_printf.specs.Laws.{ConversionsAreRead, WidthsAreExact, DigitsAreExact};
-ghost use Rattle.iop_printf.specs.Laws.{FormatsGoOn, NumbersReadBack};
+ghost use Rattle.iop_printf.specs.Laws.{FormatsGoOn, StackFollowsRegisters, NumbersReadBack};
 ghost use Rattle.iop_printf.specs.Laws.{SignedAreWritten, HexDigitsAreWritten};
 
 /// No text has more than 4,096 bytes.
@@ -20,6 +20,12 @@ pub fn plain_formats_stay()
 /// conversion that the `%` begins, then the text of what stands behind the conversion.
 pub fn formats_go_on()
     ensures { FormatsGoOn }
+{}
+
+/// The words on the stack follow the registers: a text stays where the first of these words stands
+/// in one more register, behind the others, and the stack begins one word later.
+pub fn stack_follows_registers()
+    ensures { StackFollowsRegisters }
 {}
 
 /// Flags, a width that does not begin with `0`, a `.` and a precision or neither, sizes and a letter

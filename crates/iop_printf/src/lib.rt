@@ -12,7 +12,8 @@ mod reading;
 mod strings;
 mod texts;
 
-pub use formatting::format;
+pub use formatting::{format, format_regs};
+pub use strings::string_at;
 
 /// The length in bytes at which a text is cut, and the greatest value that a width or a precision
 /// counts as. This project's profile.

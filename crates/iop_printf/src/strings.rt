@@ -9,7 +9,7 @@ use iop_ram::{Ram, physical};
 /// The string at an address, of which at most so many bytes are read: those before the first zero
 /// byte or before RAM's end. There is none at an address outside RAM.
 #[tactic(auto, unfolding(crate::specs::Texts::string_at))]
-pub(crate) fn string_at(ram: &Ram, at: u32, most: u32) -> &[u8]
+pub fn string_at(ram: &Ram, at: u32, most: u32) -> &[u8]
     ensures text { result.now ≡ take most (string_at ram.now at) }
     ensures short { length result.now ≤ most }
 {

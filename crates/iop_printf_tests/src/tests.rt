@@ -1,5 +1,5 @@
 use arrayvec::ArrayVec;
-use iop_printf::format;
+use iop_printf::{format, format_regs};
 use iop_ram::Ram;
 use std::alloc::Global;
 use std::test::Fail;
@@ -68,6 +68,17 @@ fn conversions_have_texts(rt: HostRuntime) -> Result<(), Fail> {
         format(&ram, FORMAT, [*argument, 5, 6], STACK, &mut out);
         assert_eq!(rt; out.as_slice(), text.as_bytes());
     }
+    Ok(())
+}
+
+#[test]
+fn arguments_stand_in_as_many_registers(rt: HostRuntime) -> Result<(), Fail> {
+    let ram = memory(rt.alloc(), b"%d-%s|%u %x", b"x", [7, 255])?;
+    let mut out = ArrayVec::new();
+    format_regs(&ram, FORMAT, &[0xFFFF_FFFB, STRING], STACK, &mut out);
+    assert_eq!(rt; out.as_slice(), b"-5-x|7 ff".as_slice());
+    format_regs(&ram, FORMAT, &[1], STACK - 4, &mut out);
+    assert_eq!(rt; out.as_slice(), b"1-(null)|7 ff".as_slice());
     Ok(())
 }
 

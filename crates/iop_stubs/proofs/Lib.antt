@@ -7,3 +7,5 @@ pub mod LayersLemmas
 pub mod GuestMemoryLemmas
 pub mod WordSets
 pub mod Covering
+pub mod Copying
+pub mod Joining

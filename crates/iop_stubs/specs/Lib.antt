@@ -3,5 +3,6 @@ pub mod Binding
 pub mod Layers
 pub mod Laws
 pub mod Lending
+pub mod Copying
 pub mod WordSets
 pub mod Covering

@@ -1,20 +1,20 @@
-ghost use Rattle.std.specs.Prelude.{◌≡◌, ℕ, ◌+◌, ◌%◌, ◌^◌, ◌≤◌, All, [], find, length, replicate, slice_index};
-ghost use Rattle.std.specs.Prelude.{is_ok, is_some, IfOk, IfNone, IfSome, MatchOption, OnErr};
-ghost use Rattle.std.specs.Fn.{FnOnceReturnsAtMut};
-ghost use Rattle.std.specs.Option.{ok_or};
-ghost use Rattle.iop_base.specs.Numbers.{IsByte, width_bytes, bytes_of, with_bytes};
-ghost use Rattle.iop_base.specs.Places.{IsRamSize, range_at, access_at};
+ghost use Rattle.std.specs.Prelude.{◌≡◌, ℕ, ◌+◌, ◌==◌, ◌||◌, All, [], find, length, replicate, slice_index};
+ghost use Rattle.std.specs.Prelude.{is_ok, is_some, IfOk, IfNone, MatchOption, OnErr};
+ghost use Rattle.iop_base.specs.Numbers.{IsByte, width_bytes, bytes_of};
+ghost use Rattle.iop_base.specs.Places.{IsRamSize};
 ghost use Rattle.iop_base.specs.Output.{Gives};
 ghost use Rattle.iop_stubs.specs.Stubs.{is_of, stands_at, access_place, range_place, after_store, store_lines};
 ghost use Rattle.iop_stubs.specs.Binding.{after_bind, MayBind, IsSound};
 ghost use Rattle.iop_stubs.specs.Layers.{base_of};
 ghost use Rattle.iop_stubs.specs.Lending.{IsWrittenBy};
+ghost use Rattle.iop_stubs.specs.Copying.{copy_place, copied_bytes};
 ghost use Rattle.iop_stubs.specs.declared.live_stub.TheConstants.Stub.{MOST_LIVE};
 
 use crate::live_stub::Stub;
 use crate::live_stubs::LiveStubs;
+use crate::stores::{find_range, move_bytes, put_bytes, store_number, store_word, write_into};
 use iop_base::{Bad, Lines, Width};
-use iop_ram::{Ram, physical};
+use iop_ram::Ram;
 use std::alloc::{AllocError, Global};
 use std::marker::Model;
 
@@ -150,6 +150,41 @@ impl Guest {
             .ok_or(Bad)
     }
 
+    /// Copies `len` bytes from one address on to another, as if all were read before any is
+    /// written: the two ranges may overlap. It ends each live stub of which the range that is
+    /// written has a byte, as `store` does. With a `len` of 0 nothing changes, wherever the
+    /// addresses point.
+    ///
+    /// `Bad` exactly where `len` is not 0 and one of the two ranges is not wholly in RAM. Nothing
+    /// changes then, and there is no line.
+    pub fn copy<L: Lines>(
+        &mut self,
+        to: u32,
+        from: u32,
+        len: u32,
+        t: u64,
+        lines: &mut L,
+    ) -> Result<(), Bad>
+        ensures accepted { is_ok result ≡ (len == 0 || is_some (copy_place self.old to from len)) }
+        ensures memory { self.new ≡ after_store self.old (copy_place self.old to from len)
+            (copied_bytes self.old from len) }
+        ensures lines { Gives (L.output lines.old) (L.output lines.new)
+            (store_lines t self.old (copy_place self.old to from len) len) }
+        ensures untouched { OnErr result (lines.new ≡ lines.old) }
+        ensures was_sound { IsSound self.old }
+        ensures sound { IsSound self.new }
+    {
+        let ram = &self.ram;
+        if len == 0 {
+            return Ok(());
+        }
+        let source = find_range(ram, from, len).ok_or(Bad)?;
+        let place = find_range(ram, to, len).ok_or(Bad)?;
+        self.live.end_in(place, len, t, lines);
+        move_bytes(&mut self.ram, place, source, len);
+        Ok(())
+    }
+
     /// Lends the bytes of a range to `write`, which may write them; with what it leaves there this
     /// is one store. It ends each live stub of which the range has a byte, as `store` does, before
     /// the bytes are lent: no line depends on what is written. Answers what `write` answers.
@@ -219,62 +254,4 @@ impl Guest {
     {
         self.live.has_of(&name, major)
     }
-}
-
-/// Stores a number of this width, and gives its place. `Bad` as `Guest::store` says.
-fn store_number(ram: &mut Ram, at: u32, width: Width, value: u32) -> Result<u32, Bad>
-    ensures place { result ≡ ok_or (access_at (length ram.old) at (width_bytes width)) (record {}) }
-    ensures inside { IfOk result (λ place. place + width_bytes width ≤ length ram.old) }
-    ensures memory { IfOk result (λ place.
-        ram.new ≡ with_bytes ram.old place (bytes_of (width_bytes width) value)) }
-    ensures same { OnErr result (ram.new ≡ ram.old) }
-{
-    match width {
-        Width::Byte => ram.store8(at, (value % 0x100) as u8),
-        Width::Half => ram.store16(at, (value % 0x1_0000) as u16),
-        Width::Word => ram.store32(at, value),
-    }?;
-    physical(at, ram.size()).ok_or(Bad)
-}
-
-/// Stores bytes, and gives their place. `Bad` as `Guest::store_bytes` says.
-fn put_bytes(ram: &mut Ram, at: u32, bytes: &[u8]) -> Result<u32, Bad>
-    ensures place { result ≡ ok_or (range_at (length ram.old) at (length bytes.now)) (record {}) }
-    ensures inside { IfOk result (λ place. place + length bytes.now ≤ length ram.old) }
-    ensures memory { IfOk result (λ place. ram.new ≡ with_bytes ram.old place bytes.now) }
-    ensures same { OnErr result (ram.new ≡ ram.old) }
-{
-    ram.store_bytes(at, bytes)?;
-    physical(at, ram.size()).ok_or(Bad)
-}
-
-/// Finds the place of a range. None where it is not wholly in RAM.
-fn find_range(ram: &Ram, at: u32, len: u32) -> Option<u32>
-    ensures place { result ≡ range_at (length ram.now) at len }
-    ensures inside { IfSome result (λ place. place + len ≤ length ram.now) }
-{
-    if ram.contains(at, len) {
-        physical(at, ram.size())
-    } else {
-        None
-    }
-}
-
-/// Calls `write` on the bytes of a window.
-fn write_into<R, F: FnOnce(&mut [u8]) -> R>(window: &mut [u8], write: F) -> R
-    requires { (bytes : _) → length bytes.now ≡ length window.old → F.pre write bytes }
-    ensures called { FnOnceReturnsAtMut F.FnOnce write window.old result window.new }
-    ensures bytes { All IsByte window.new }
-{
-    write(window)
-}
-
-/// Stores a word.
-fn store_word(ram: &mut Ram, place: u32, word: u32)
-    requires aligned { place % 4 ≡ 0 }
-    requires inside { place + 4 ≤ length ram.old }
-    requires sized { length ram.old ≤ 2 ^ 29 }
-    ensures { ram.new ≡ with_bytes ram.old place (bytes_of 4 word) }
-{
-    ram.store32(place, word).unwrap();
 }

@@ -1,7 +1,8 @@
 //! Facts about guest memory that no call computes. Each is the contract of a function that does
 //! nothing.
 
-ghost use Rattle.iop_stubs.specs.Laws.{LayersAreSeen, LayersAreFound, StoresKeepLayers, BindingsKeepLayers};
+ghost use Rattle.iop_stubs.specs.Laws.{LayersAreSeen, LayersAreFound};
+ghost use Rattle.iop_stubs.specs.Laws.{StoresKeepLayers, BindingsKeepLayers, StoresJoin};
 
 /// Every memory is what is seen of its layers: base, where each live stub reads `jr $ra` and the
 /// word of its index, under the jumps of the live stubs.
@@ -23,4 +24,10 @@ pub fn stores_keep_layers()
 /// To bind a stub leaves base as it was, and adds the stub to the live ones.
 pub fn bindings_keep_layers()
     ensures { BindingsKeepLayers }
+{}
+
+/// Two stores, of which the second begins where the first ends, are the one store of the bytes of
+/// both: they leave the same memory, and their lines are those of the one.
+pub fn stores_join()
+    ensures { StoresJoin }
 {}

@@ -145,6 +145,8 @@ enum Step {
     Bytes(u32, Result<(), Bad>),
     /// Fills so many bytes with 255 at moment 3.
     Fill(u32, u32, Result<(), Bad>),
+    /// Copies so many bytes to the first address from the second at moment 4.
+    Copy(u32, u32, u32, Result<(), Bad>),
     /// Writes 0x99 as the last byte of so many, one at least, at moment 5: what stood there.
     Last(u32, u32, Option<u8>),
     /// Whether the stub is live.
@@ -170,6 +172,9 @@ fn take(rt: &impl Abort, guest: &mut Guest, told: &mut Told, step: Step) {
         }
         Step::Bytes(at, wanted) => assert_eq!(rt; guest.store_bytes(at, b"end", 2, told), wanted),
         Step::Fill(at, len, wanted) => assert_eq!(rt; guest.fill(at, len, 255, 3, told), wanted),
+        Step::Copy(to, from, len, wanted) => {
+            assert_eq!(rt; guest.copy(to, from, len, 4, told), wanted);
+        }
         Step::Last(at, len, wanted) => {
             assert!(rt; len > 0);
             assert_eq!(rt; put_last_in(guest, at, len, 0x99, told), wanted);
@@ -244,6 +249,48 @@ fn stores_of_bytes_end_a_stub(rt: HostRuntime) -> Result<(), Fail> {
         Step::Word(0x1_001C, 0x0364_646E),
     ];
     take_all(&rt, rt.alloc(), &steps, &[(2, 0x1_0014)])
+}
+
+#[test]
+fn copies_end_a_stub(rt: HostRuntime) -> Result<(), Fail> {
+    let steps = [
+        Step::Copy(0x1_0018, 0x1_0014, 0, Ok(())),
+        Step::Copy(0x20_0000, 0x3000_0000, 0, Ok(())),
+        Step::Copy(0x1_0010, 0x1_0014, 4, Ok(())),
+        Step::Copy(0x1_0018, 0x1F_FFFF, 2, Err(Bad)),
+        Step::Copy(0x1F_FFFF, 0x1_0018, 2, Err(Bad)),
+        Step::Lives(true),
+        Step::Word(0x1_0010, 0x0800_1138),
+        Step::Copy(0x8001_0018, 0xA001_0014, 2, Ok(())),
+        Step::Lives(false),
+        Step::Word(0x1_0018, 0x2400_1138),
+    ];
+    take_all(&rt, rt.alloc(), &steps, &[(4, 0x1_0014)])
+}
+
+/// Copies four of the bytes `abcde`, and compares what stands in their place then.
+fn copy_four(
+    rt: &impl Abort,
+    guest: &mut Guest,
+    to: u32,
+    from: u32,
+    wanted: &[u8],
+    told: &mut Told,
+) {
+    assert_eq!(rt; guest.store_bytes(0x2_0000, b"abcde", 4, told), Ok(()));
+    assert_eq!(rt; guest.copy(to, from, 4, 4, told), Ok(()));
+    assert_eq!(rt; guest.ram().window(0x2_0000, 5), Some(wanted));
+}
+
+#[test]
+fn copies_overlap(rt: HostRuntime) -> Result<(), Fail> {
+    let mut told = Told {
+        stubs: Vec::new(rt.alloc()),
+    };
+    let mut guest = Guest::new(rt.alloc(), 0x20_0000)?;
+    copy_four(&rt, &mut guest, 0x2_0001, 0x2_0000, b"aabcd", &mut told);
+    copy_four(&rt, &mut guest, 0x2_0000, 0x2_0001, b"bcdee", &mut told);
+    Ok(())
 }
 
 #[test]
