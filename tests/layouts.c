@@ -9,8 +9,10 @@
 #include <sysmem.h>
 #include <thbase.h>
 #include <thevent.h>
+#include <thfpool.h>
 #include <thmsgbx.h>
 #include <thsemap.h>
+#include <thvpool.h>
 
 #define IS(number, constant) _Static_assert((constant) == (number), #constant)
 #define AT(place, structure, field) _Static_assert(offsetof(structure, field) == (place), #structure ", " #field)
@@ -56,6 +58,8 @@ IS(2, TSW_DELAY);
 IS(3, TSW_SEMA);
 IS(4, TSW_EVENTFLAG);
 IS(5, TSW_MBX);
+IS(6, TSW_VPL);
+IS(7, TSW_FPL);
 
 /* thsemap: CreateSema, ReferSemaStatus */
 WORD(0, iop_sema_t, attr);
@@ -105,6 +109,37 @@ _Static_assert(sizeof(((iop_message_t *)0)->priority) == 1, "a priority is a byt
 IS(0, MBA_THFIFO | MBA_MSFIFO);
 IS(1, MBA_THPRI);
 IS(4, MBA_MSPRI);
+
+/* thvpool: CreateVpl, ReferVplStatus */
+WORD(0, iop_vpl_param_t, attr);
+WORD(1, iop_vpl_param_t, option);
+WORD(2, iop_vpl_param_t, size);
+WORDS(3, iop_vpl_param_t);
+WORD(0, iop_vpl_info_t, attr);
+WORD(1, iop_vpl_info_t, option);
+WORD(2, iop_vpl_info_t, size);
+WORD(3, iop_vpl_info_t, freeSize);
+WORD(4, iop_vpl_info_t, maxFreeSize);
+WORD(5, iop_vpl_info_t, numWaitThreads);
+WORDS(6, iop_vpl_info_t);
+IS(0, VA_THFIFO);
+IS(1, VA_THPRI);
+
+/* thfpool: CreateFpl, ReferFplStatus */
+WORD(0, iop_fpl_param_t, attr);
+WORD(1, iop_fpl_param_t, option);
+WORD(2, iop_fpl_param_t, block_size);
+WORD(3, iop_fpl_param_t, blocks);
+WORDS(4, iop_fpl_param_t);
+WORD(0, iop_fpl_info_t, attr);
+WORD(1, iop_fpl_info_t, option);
+WORD(2, iop_fpl_info_t, blockSize);
+WORD(3, iop_fpl_info_t, numBlocks);
+WORD(4, iop_fpl_info_t, freeBlocks);
+WORD(5, iop_fpl_info_t, numWaitThreads);
+WORDS(6, iop_fpl_info_t);
+IS(0, FA_THFIFO);
+IS(1, FA_THPRI);
 
 /* loadcore: what a module returns; an export table ("Tables in memory" of docs/FORMATS.md) */
 IS(0, MODULE_RESIDENT_END);

@@ -20,6 +20,7 @@ The machine is one class, whose parts stand each in a file of its own:
     loading.py       the way of a module: relocation, linking, its words, its removal
     threads.py       threads, the list of the ready ones and dispatch; thbase
     objects.py       semaphores, event flags and mailboxes; thsemap, thevent, thmsgbx
+    pools.py         pools of memory; thvpool, thfpool
     deliveries.py    alarms, delays, interrupt lines and their handlers; thbase on the clock, intrman
     services.py      which services there are, and from where they may be called; loadcore, sysmem
     formatting.py    printf and Kprintf

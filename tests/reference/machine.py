@@ -7,12 +7,13 @@ from formatting import Formatting
 from loading import Loading
 from memory import Blocks, Fault, Memory
 from objects import EventFlag, Mailbox, Objects, Semaphore
+from pools import FixedPool, Pools, VariablePool
 from processor import Processor, Registers
 from services import LIBRARIES, Services
 from threads import Thread, Threads
 
 
-class Machine(Loading, Threads, Objects, Deliveries, Services, Formatting, Processor):
+class Machine(Loading, Threads, Objects, Pools, Deliveries, Services, Formatting, Processor):
     """What the parts share, and the order in which they have their turn."""
 
     def __init__(self, files, script, size):
@@ -26,7 +27,7 @@ class Machine(Loading, Threads, Objects, Deliveries, Services, Formatting, Proce
         self.cpu = Registers(0)
         self.threads = {1: Thread(1, 0x02000000, 0, 0, 0x4000, 8, 0xC000, 0)}
         self.next_id = 2
-        self.objects = {kind: {} for kind in (Semaphore, EventFlag, Mailbox)}
+        self.objects = {kind: {} for kind in (Semaphore, EventFlag, Mailbox, VariablePool, FixedPool)}
         self.next_object = {kind: 1 for kind in self.objects}
         self.ready, self.running = [], None
         self.dispatching, self.interrupts = True, True
@@ -41,7 +42,7 @@ class Machine(Loading, Threads, Objects, Deliveries, Services, Formatting, Proce
     def kernel_area(self):
         put = lambda at, word: self.memory.ram.__setitem__(slice(at, at + 4), struct.pack("<I", word))
         for n, name in enumerate(LIBRARIES):
-            table = 0x1000 + n * 0x200
+            table = 0x1000 + n * 0x200 if n < 8 else 0x200 + (n - 8) * 0x200
             put(table, 0x41C00000)
             put(table + 8, 0x0101)
             self.memory.ram[table + 12:table + 20] = name.encode().ljust(8, b"\0")

@@ -4,7 +4,7 @@ import struct
 
 
 class Object:
-    """A semaphore, an event flag or a mailbox."""
+    """A semaphore, an event flag, a mailbox or a pool of memory."""
 
     def __init__(self, ident, attr, option, by_priority):
         self.id, self.attr, self.option, self.by_priority = ident, attr, option, by_priority
@@ -68,9 +68,10 @@ class Objects:
             thread.object.waiters.remove(thread.id)
         thread.object = thread.delay = None
 
-    def next_waiter(self, thing):
-        order = thing.waiters
-        return self.threads[min(order, key=lambda i: self.threads[i].priority) if thing.by_priority else order[0]]
+    def waiters_of(self, thing):
+        """The threads that wait for it, in the order in which they are chosen."""
+        waiters = [self.threads[i] for i in thing.waiters]
+        return sorted(waiters, key=lambda t: t.priority) if thing.by_priority else waiters
 
     def wake_waiter(self, thread, answer):
         self.leave_object(thread)
@@ -78,8 +79,8 @@ class Objects:
 
     def delete_object(self, kind, ident):
         thing = self.objects[kind].pop(ident)
-        while thing.waiters:
-            self.wake_waiter(self.next_waiter(thing), -425)
+        for thread in self.waiters_of(thing):
+            self.wake_waiter(thread, -425)
         return 0
 
     def semaphore_service(self, number):
@@ -102,7 +103,7 @@ class Objects:
             return self.delete_object(Semaphore, a)
         if number == 6:
             if semaphore.waiters:
-                self.wake_waiter(self.next_waiter(semaphore), 0)
+                self.wake_waiter(self.waiters_of(semaphore)[0], 0)
             elif semaphore.count >= semaphore.most:
                 return -420
             else:
@@ -134,7 +135,7 @@ class Objects:
             return self.delete_object(EventFlag, a)
         if number == 6:
             flag.bits |= b
-            for thread in [self.threads[i] for i in flag.waiters]:
+            for thread in self.waiters_of(flag):
                 bits, how, to = thread.wants
                 if flag.holds(bits, how):
                     if to:
@@ -191,7 +192,7 @@ class Objects:
 
     def send(self, box, message):
         if box.waiters:
-            thread = self.next_waiter(box)
+            thread = self.waiters_of(box)[0]
             self.put_words(self.memory.place(thread.wants, 4, 4), message)
             self.wake_waiter(thread, 0)
             return 0

@@ -4,7 +4,7 @@ import struct
 
 from memory import Fault
 
-LIBRARIES = ["loadcore", "sysmem", "intrman", "thbase", "thsemap", "thevent", "thmsgbx", "stdio"]
+LIBRARIES = ["loadcore", "sysmem", "intrman", "thbase", "thsemap", "thevent", "thmsgbx", "stdio", "thvpool", "thfpool"]
 
 # The services that there are, and from where they may be called: by a thread alone, by a handler alone, or by both.
 THREAD = {
@@ -14,6 +14,8 @@ THREAD = {
     "thsemap": {4, 5, 6, 8, 9, 11},
     "thevent": {4, 5, 6, 8, 10, 11, 13},
     "thmsgbx": {4, 5, 6, 8, 9, 11},
+    "thvpool": {4, 5, 6, 8, 11},
+    "thfpool": {4, 5, 6, 8, 11},
 }
 # The forms of services for handlers, and the services that they are.
 HANDLER = {
@@ -21,6 +23,8 @@ HANDLER = {
     "thsemap": {7: 6, 12: 11},
     "thevent": {7: 6, 9: 8, 14: 13},
     "thmsgbx": {7: 6, 12: 11},
+    "thvpool": {9: 8, 12: 11},
+    "thfpool": {9: 8, 12: 11},
 }
 BOTH = {
     "loadcore": {4, 5},
@@ -28,6 +32,8 @@ BOTH = {
     "intrman": {6, 7, 8, 9, 17, 18, 23},
     "thbase": {34, 39, 40},
     "stdio": {4},
+    "thvpool": {7},
+    "thfpool": {7},
 }
 
 
@@ -44,7 +50,7 @@ class Services:
         if code == 0xF02 and not self.handler and self.running == 1:
             self.end_module(self.cpu.r[2])
             return None
-        if library >= 8 or number >= 64:
+        if library >= len(LIBRARIES) or number >= 64:
             raise Fault("service")
         name = LIBRARIES[library]
         plain, forms = THREAD.get(name, set()), HANDLER.get(name, {})
@@ -57,7 +63,8 @@ class Services:
             return -1
         services = {"loadcore": self.library_service, "sysmem": self.memory_service, "intrman": self.interrupt_service,
                     "thbase": self.service, "thsemap": self.semaphore_service, "thevent": self.event_flag_service,
-                    "thmsgbx": self.mailbox_service, "stdio": lambda number: self.print_formatted()}
+                    "thmsgbx": self.mailbox_service, "stdio": lambda number: self.print_formatted(),
+                    "thvpool": self.variable_pool_service, "thfpool": self.fixed_pool_service}
         return services[name](number)
 
     def memory_service(self, number):

@@ -51,7 +51,7 @@ pub const RESERVED_WORD: &str = "
 /// A module that calls a library which the kernel does not have.
 pub const UNKNOWN_SERVICE: &str = "
     .name t
-    syscall 2048
+    syscall 0xFFF00
 ";
 
 /// A module whose high halves have no low half behind them.

@@ -4,6 +4,7 @@ pub mod FlagSteps
 pub mod KindTables
 pub mod Meetings
 pub mod ObjectChanges
+pub mod Pools
 pub mod Reads
 pub mod Refusals
 pub mod StackBlocks

@@ -7,16 +7,22 @@ use Rattle.iop_base.specs.declared.code.TheConstants.Code.{WAIT_RELEASED}
 use Rattle.iop_event.specs.WakeConditions.{settles}
 use Rattle.iop_exec.specs.Row.{reg}
 use Rattle.iop_objects.specs.Objects.{object_of, waiters_in, waiters_of, with_waiters}
+use Rattle.iop_objects.proofs.Changes.{state_of-with_waiters}
+use Rattle.iop_pools.specs.Pools.{with_ranges}
+use Rattle.iop_pools.specs.Ranges.{without}
+use Rattle.iop_pools.specs.VariablePools.{VariablePools, meets_next}
+use Rattle.iop_pools.specs.declared.met.Met.{Met}
+use Rattle.iop_pools.proofs.MetNext.{met_next}
 use Rattle.iop_queues.specs.declared.queued.Queued.{Queued}
 use Rattle.iop_objects.specs.declared.waiter.Waiter.{Waiter}
 use Rattle.iop_stubs.specs.Stubs.{Memory}
 use Rattle.iop_thread.specs.declared.kind.Kind.{Kind}
-use Rattle.iop_thread.specs.declared.kind.Kind.TheVariants.{Semaphore, EventFlag, Mailbox}
+use Rattle.iop_thread.specs.declared.kind.Kind.TheVariants.{Semaphore, EventFlag, Mailbox, VariablePool, FixedPool}
 use Rattle.iop_thread.specs.declared.wait.Wait.{Wait}
 use Rattle.iop_thread.specs.declared.wait.Wait.TheVariants.{Object}
 use Rattle.iop_kernel.specs.Kinds.{State, Wants, Live, Table, table, with_table, waits_by_priority, is_by_priority}
 use Rattle.iop_kernel.specs.Serving.{services}
-use Rattle.iop_kernel.specs.System.{Kernel, System, with_threads, opened}
+use Rattle.iop_kernel.specs.System.{Kernel, System, with_threads, with_variable_pools, opened}
 use Rattle.iop_kernel.specs.WaiterPlaces.{HasPlace, HavePlaces}
 use Rattle.iop_kernel.specs.Waits.{leaves_object, requeues_at, wakes_with}
 use Rattle.iop_kernel.specs.declared.after.After.{After}
@@ -24,7 +30,8 @@ use Rattle.iop_kernel.proofs.Bodies.KindTables.{each_table}
 use Rattle.iop_kernel.proofs.Keeping.Handlers.{gives_to}
 use Rattle.iop_kernel.proofs.Overdue.Objects.{HoldsOfEach, found_holds, each_changes, each_with_waiters, each_with_state, each_creates, each_deletes}
 use Rattle.iop_kernel.proofs.Placing.Moves.{settled_flag, settled_rest}
-use Rattle.iop_kernel.proofs.Placing.ObjectsKept.{NoOthers, all_others, none_without, none_requeued, none_chosen_new}
+use Rattle.iop_kernel.proofs.Placing.ObjectsKept.{NoOthers, all_others, none_without, none_requeued, none_chosen_new, none_taken_new}
+use Rattle.iop_kernel.proofs.Walk.Meeting.{meets_last}
 use Rattle.iop_kernel.proofs.Walk.Moves.{Moves, CallMoves}
 use Rattle.iop_kernel.proofs.Walk.Services.{services_go, asked_not}
 
@@ -90,6 +97,18 @@ module _ (memory : Memory) where
         (none_requeued (is_by_priority kind t id) thread priority (waiters_of t id)))
     requeues_have thread priority other = h
 
+  -- one is met, and its memory taken
+  met_has : (k : Kernel) → EachKind k → (id : ℕ) (met : Met) (left : VariablePools)
+      → meets_next k.variable_pools id ≡ (Some met, left) → Each VariablePool left
+  met_has k h id met left is =
+      let m = met_next k.variable_pools id met left is in
+      let rest = others_have VariablePool k.variable_pools (h VariablePool) id m.one.others
+      (none_taken_new m.taken) in
+      subst (Each VariablePool) (sym m.leaves)
+      (each_with_state (AllHave VariablePool) (with_waiters k.variable_pools id m.one.others)
+      rest id _
+      (rest id m.x (state_of-with_waiters k.variable_pools id m.x m.known m.one.others)))
+
 module _ (s : System) (h : EachKind s.memory s.core.kernel) where
   abbrev k : Kernel
   k = s.core.kernel
@@ -145,13 +164,13 @@ module _ (s : System) (h : EachKind s.memory s.core.kernel) where
       delays = λ moment thread is may leave. h;
     };
     objects = λ kind own_library. let t = table kind k in record {
-      makes = λ x legal. with_others s.memory k h kind _
+      makes = λ x blocks legal made. with_others s.memory k h kind _
           (each_creates (AllHave s.memory kind) t (h kind) x (All-nil (Has s.memory kind)));
-      deletes = λ o found. with_others s.memory k h kind _
+      deletes = λ o blocks found gone. with_others s.memory k h kind _
           (each_deletes (AllHave s.memory kind) t (h kind) o.id);
       changes = λ id x y known how. with_others s.memory k h kind _
           (each_with_state (AllHave s.memory kind) t (h kind) id y (h kind id x known));
-      wakes = λ id x one known chosen. with_others s.memory k h kind _
+      wakes = λ id word x one known chosen is. with_others s.memory k h kind _
           (others_have s.memory kind t (h kind) id _
           (none_chosen_new (waits_by_priority kind x) (waiters_of t id) one chosen));
       waits = λ id thread x wants is may known must place leave.
@@ -164,6 +183,15 @@ module _ (s : System) (h : EachKind s.memory s.core.kernel) where
         (settled_flag settled) (λ u. refl)
         (λ u is. settled_rest (Has s.memory EventFlag) (bit_or o.state.pattern bits) o.waiters
         (found_holds (AllHave s.memory EventFlag) k.event_flags (h EventFlag) o.id o found)));
+    meets = λ own_library id block x known there.
+        meets_last (λ d. EachKind s.memory d.kernel) id
+        (λ c met left is now.
+        with_others s.memory c.kernel now VariablePool left (met_has s.memory c.kernel now id met left is))
+        (with_variable_pools s.core
+        (with_ranges k.variable_pools id x (without block x.ranges)))
+        (with_others s.memory k h VariablePool _
+        (each_with_state (AllHave s.memory VariablePool) k.variable_pools (h VariablePool) id _
+        (h VariablePool id x known)));
   }
 
   place_calls : CallMoves P Q ⊤ s
@@ -183,6 +211,8 @@ place_in : (old new : Memory) → length new.ram ≡ length old.ram → (kind : 
 place_in old new size Semaphore wants has = tt
 place_in old new size EventFlag wants has = rw size has
 place_in old new size Mailbox at has = rw size has
+place_in old new size VariablePool wants has = tt
+place_in old new size FixedPool wants has = tt
 
 pub places_in : (old new : Memory) (k : Kernel) → length new.ram ≡ length old.ram
     → HavePlaces old k → HavePlaces new k

@@ -7,7 +7,9 @@ pub mod Order
 pub mod Overdue
 pub mod KeptPlaces
 pub mod Placing
+mod PoolRequests
 pub mod Readings
+pub mod SoundPools
 pub mod Requests
 pub mod Switching
 pub mod WaitsBegin

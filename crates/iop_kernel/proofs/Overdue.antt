@@ -1,4 +1,5 @@
 pub mod Kernels
 pub mod Kinds
+pub mod Meeting
 pub mod Objects
 pub mod Services

@@ -9,6 +9,8 @@ use Rattle.iop_base.specs.declared.line.Line.TheVariants as lines
 use Rattle.iop_exec.specs.Row.{reg}
 use Rattle.iop_stubs.specs.Stubs.{Memory, met_stubs, stub_lines, store_lines}
 use Rattle.iop_stubs.specs.declared.live_stub.Stub.{Stub}
+use Rattle.iop_pools.specs.Pools.{with_ranges}
+use Rattle.iop_pools.specs.Ranges.{without}
 use Rattle.iop_thread.specs.Operations as threads
 use Rattle.iop_thread.specs.Placing.{IsPlaced}
 use Rattle.iop_thread.specs.ThreadTable.{ThreadTable, is_it, has_priority, running_thread}
@@ -19,14 +21,15 @@ use Rattle.iop_thread.proofs.Waits.{moves_waits}
 use Rattle.iop_kernel.specs.Deliveries.{Delivered, delivers}
 use Rattle.iop_kernel.specs.ObjectServices.{threads_in_order}
 use Rattle.iop_kernel.specs.SwitchLaws.{IsNoRun, text, line, SwitchesNone, DispatchesAloneSwitch}
-use Rattle.iop_kernel.specs.System.{Kernel, Core, System, running_registers, with_threads, opened, answered, code_word}
+use Rattle.iop_kernel.specs.System.{Kernel, Core, System, running_registers, with_threads, with_variable_pools, opened, answered, code_word}
 use Rattle.iop_kernel.specs.ThreadStarts.{ended}
 use Rattle.iop_kernel.specs.Waits.{core_leaves, core_requeues, wakes_all, wakes_with}
 use Rattle.iop_kernel.specs.declared.after.After.{After}
-use Rattle.iop_kernel.proofs.Keeping.Goes.{woken_running}
+use Rattle.iop_kernel.proofs.Keeping.Goes.{woken_running, met_running}
 use Rattle.iop_kernel.proofs.Keeping.Handlers.{gives_to}
 use Rattle.iop_kernel.proofs.Keeping.Meetings.{met_of, threads_met}
 use Rattle.iop_kernel.proofs.Keeping.RunningThread.{RunsOn}
+use Rattle.iop_kernel.proofs.Walk.Meeting.{all_met}
 use Rattle.iop_kernel.proofs.Walk.Moves.{Moves, CallMoves}
 use Rattle.iop_kernel.proofs.Walk.Services.{services_go, asked_not}
 use Rattle.iop_kernel.proofs.Walk.Steps.{delivers_goes}
@@ -194,14 +197,19 @@ module _ (s : System) (placed : IsPlaced s.core.kernel.threads) where
       delays = λ moment thread is may leave. waiting _;
     };
     objects = λ kind own. record {
-      makes = λ x legal. nothing;
-      deletes = λ o found. woken (threads_in_order kind o) (code_word OBJECT_DELETED);
+      makes = λ x blocks legal made. nothing;
+      deletes = λ o blocks found gone. woken (threads_in_order kind o) (code_word OBJECT_DELETED);
       changes = λ id x y known how. nothing;
-      wakes = λ id x one known chosen.
-          on _ ((moves_waits table placed).wakes one.one.item.thread (code_word OK)).running;
+      wakes = λ id word x one known chosen is.
+          on _ ((moves_waits table placed).wakes one.one.item.thread word).running;
       waits = λ id thread x wants is may known must place leave. waiting _;
     };
     sets = λ own bits o found. woken (threads_met (met_of o bits)) (code_word OK);
+    meets = λ own id block x known there.
+        let met = all_met id (with_variable_pools now
+        (with_ranges now.kernel.variable_pools id x (without block x.ranges))) in
+        subst (λ (c : Core). SwitchesNone table c.kernel.threads []) (sym met.core)
+        (on _ (met_running met.met table placed));
   }
 
   switch_calls : CallMoves P Q ⊤ s

@@ -1,2 +1,4 @@
+pub mod Begins
 pub mod Left
+pub mod Pools
 pub mod Where

@@ -1,3 +1,4 @@
 pub mod Deletions
+mod Met
 pub mod Services
 pub mod Waiters

@@ -5,11 +5,13 @@ use Rattle.iop_exec.specs.declared.cpu.Cpu.{Cpu}
 use Rattle.iop_services.specs.Table.{row_of, allows}
 use Rattle.iop_services.specs.declared.row.Row.{Row}
 use Rattle.iop_services.specs.declared.service.Service.{Service}
-use Rattle.iop_services.specs.declared.service.Service.TheVariants.{Thbase, Thsemap, Thevent, Thmsgbx}
+use Rattle.iop_services.specs.declared.service.Service.TheVariants.{Thbase, Thsemap, Thevent, Thmsgbx, Thvpool, Thfpool}
 use Rattle.iop_services.specs.declared.thbase_service.ThbaseService.TheVariants.{ExitThread, ExitDeleteThread, RotateThreadReadyQueue, SleepThread, DelayThread}
 use Rattle.iop_services.specs.declared.thevent_service.TheventService.TheVariants.{WaitEventFlag}
+use Rattle.iop_services.specs.declared.thfpool_service.ThfpoolService.TheVariants.{AllocateFpl}
 use Rattle.iop_services.specs.declared.thmsgbx_service.ThmsgbxService.TheVariants.{ReceiveMbx}
 use Rattle.iop_services.specs.declared.thsemap_service.ThsemapService.TheVariants.{WaitSema}
+use Rattle.iop_services.specs.declared.thvpool_service.ThvpoolService.TheVariants.{AllocateVpl}
 use Rattle.iop_thread.specs.Placing.{times, is_in_state}
 use Rattle.iop_thread.specs.States.{is_dormant}
 use Rattle.iop_thread.specs.ThreadTable.{ThreadTable}
@@ -48,6 +50,8 @@ may_leave (Thbase DelayThread) = true
 may_leave (Thsemap WaitSema) = true
 may_leave (Thevent WaitEventFlag) = true
 may_leave (Thmsgbx ReceiveMbx) = true
+may_leave (Thvpool AllocateVpl) = true
+may_leave (Thfpool AllocateFpl) = true
 may_leave other = false
 
 -- whether the caller does not go on, though its call does not fault

@@ -9,17 +9,19 @@ use Rattle.iop_kernel.specs.declared.call.Call.{Call}
 use Rattle.iop_kernel.specs.declared.call.Call.TheVariants.{Library, ThreadReturn, HandlerReturn, ModuleReturn}
 use Rattle.iop_objects.specs.Objects.{Objects, state_of, waiters_of}
 use Rattle.iop_objects.specs.declared.waiter.Waiter.{Waiter}
-use Rattle.iop_services.specs.declared.codes.TheConstants.{LOADCORE, SYSMEM, INTRMAN, THBASE, THMSGBX}
+use Rattle.iop_services.specs.declared.codes.TheConstants.{LOADCORE, SYSMEM, INTRMAN, THBASE, THMSGBX, THVPOOL, THFPOOL}
 use Rattle.iop_services.specs.declared.service.Service.{Service}
-use Rattle.iop_services.specs.declared.service.Service.TheVariants.{Thsemap, Thevent, Thmsgbx}
+use Rattle.iop_services.specs.declared.service.Service.TheVariants.{Thsemap, Thevent, Thmsgbx, Thvpool, Thfpool}
 use Rattle.iop_thread.specs.declared.kind.Kind.{Kind}
-use Rattle.iop_thread.specs.declared.kind.Kind.TheVariants.{Semaphore, EventFlag, Mailbox}
+use Rattle.iop_thread.specs.declared.kind.Kind.TheVariants.{Semaphore, EventFlag, Mailbox, VariablePool, FixedPool}
 
 -- whether a service is one of the library of a kind of objects
 abbrev pub is_of_kind : Kind → Service → Bool
 is_of_kind Semaphore (Thsemap x) = true
 is_of_kind EventFlag (Thevent x) = true
 is_of_kind Mailbox (Thmsgbx x) = true
+is_of_kind VariablePool (Thvpool x) = true
+is_of_kind FixedPool (Thfpool x) = true
 is_of_kind kind other = false
 
 -- whether one is called
@@ -43,9 +45,14 @@ abbrev pub ends_handler : Option Call → Bool
 ends_handler (Some HandlerReturn) = true
 ends_handler other = false
 
+-- whether a library is one of pools
+abbrev pub serves_pools : ℕ → Bool
+serves_pools library = library == THVPOOL || library == THFPOOL
+
 -- whether the libraries of threads and of what they wait for are called
 abbrev pub serves_threads : ℕ → Bool
-serves_threads library = nat_le THBASE library && nat_le library THMSGBX
+serves_threads library =
+    nat_le THBASE library && nat_le library THMSGBX || serves_pools library
 
 abbrev pub calls_threads : Option Call → Bool
 calls_threads (Some (Library library number)) = serves_threads library
@@ -53,7 +60,8 @@ calls_threads other = ends_thread other
 
 -- whether a library is one of interrupts, or of threads and of what they wait for
 abbrev pub serves_kernel : ℕ → Bool
-serves_kernel library = nat_le INTRMAN library && nat_le library THMSGBX
+serves_kernel library =
+    nat_le INTRMAN library && nat_le library THMSGBX || serves_pools library
 
 -- whether the libraries of interrupts, of threads and of what they wait for are called, which alone
 -- may write memory
@@ -102,9 +110,11 @@ pub record CodeStaysApart (s : System) (call : Option Call) (left : System) : Ty
   pub dispatching : calls_into THBASE call ≡ false → ends_thread call ≡ false
       → left.core.kernel.dispatching ≡ s.core.kernel.dispatching
   pub clock : left.core.kernel.clock ≡ s.core.kernel.clock
-  -- libraries are registered by loadcore alone, blocks taken and freed by sysmem and thbase alone
+  -- libraries are registered by loadcore alone, blocks taken and freed by sysmem, thbase and the
+  -- libraries of pools alone
   pub libraries : calls_into LOADCORE call ≡ false → left.libraries ≡ s.libraries
   pub blocks : calls_into SYSMEM call ≡ false → calls_into THBASE call ≡ false
+      → calls_into THVPOOL call ≡ false → calls_into THFPOOL call ≡ false
       → left.blocks ≡ s.blocks
   -- loadcore, sysmem, stdio and the returns write nothing
   pub memory : may_write call ≡ false → left.memory ≡ s.memory

@@ -1,6 +1,6 @@
 -- What the laws of the kernel say: what holds of it at all times, and what its services,
 -- deliveries and dispatch leave as it was.
-use Rattle.std.specs.Prelude.{◌≡◌, ℕ, ◌+◌, ◌≤◌, true, Some, None, IfSome, List, [], ◌∷◌, ◌++◌, length, All, Contains}
+use Rattle.std.specs.Prelude.{◌≡◌, ℕ, ◌+◌, ◌^◌, ◌<◌, ◌≤◌, true, Some, None, IfSome, List, [], ◌∷◌, ◌++◌, length, All, Contains}
 use Rattle.iop_base.specs.Piece.{Piece, Traced}
 use Rattle.iop_base.specs.Text.{line_bytes}
 use Rattle.iop_base.specs.declared.guest_fault.GuestFault.{GuestFault}
@@ -11,6 +11,7 @@ use Rattle.iop_kernel.specs.Callers.{HasLeft, HasAnswer}
 use Rattle.iop_kernel.specs.Dispatching.{Dispatched, dispatches}
 use Rattle.iop_kernel.specs.Overdue.{NoneOverdue}
 use Rattle.iop_kernel.specs.Placing.{IsPlaced}
+use Rattle.iop_kernel.specs.PoolMemory.{PoolsAreSound}
 use Rattle.iop_kernel.specs.Serving.{services, calls_library}
 use Rattle.iop_kernel.specs.System.{Kernel, Core, System, Served, is_active, may_dispatch, caller, opened}
 use Rattle.iop_kernel.specs.WaiterPlaces.{HavePlaces}
@@ -121,6 +122,9 @@ pub record ServiceKeeps (s : System) (d : Served) : Type 0 where
   -- each thread that waits has a place for what it is told
   pub places : HavePlaces s.memory s.core.kernel
       → HavePlaces d.left.state.memory d.left.state.core.kernel
+  -- the ranges that are out of each pool stay apart and inside of it
+  pub pools : AreBlocks s.blocks → s.blocks.size < 2 ^ 32 → PoolsAreSound s.core.kernel
+      → PoolsAreSound d.left.state.core.kernel
   pub blocks : AreKept s.blocks d.left.state.blocks
 
 abbrev pub ServicesKeep : Type 0

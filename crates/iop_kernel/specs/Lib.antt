@@ -35,6 +35,11 @@ pub mod CodeLaws
 pub mod Boards
 pub mod EventFlags
 pub mod Mailboxes
+pub mod PoolServices
+pub mod PoolMemory
+pub mod PoolLaws
+pub mod VariablePools
+pub mod FixedPools
 pub mod Placing
 pub mod Semaphores
 pub mod Waits

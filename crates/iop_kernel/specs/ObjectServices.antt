@@ -1,16 +1,17 @@
--- What the services of all kinds of objects have alike (ps2sdk: thsemap.h, thevent.h, thmsgbx.h;
--- the codes are those of its kerr.h): how a thread waits for an object, how one is deleted, and how
--- its status is told. The order of the refusals is this project's own profile.
+-- What the services of all kinds of objects have alike (ps2sdk: thsemap.h, thevent.h, thmsgbx.h,
+-- thvpool.h, thfpool.h; the codes are those of its kerr.h): how a thread waits for an object, how
+-- one is deleted, and how its status is told. The order of the refusals is this project's own
+-- profile.
 use Rattle.std.specs.Prelude.{ℕ, Option, Some, None, List}
 use Rattle.iop_base.specs.declared.code.Code.{Code}
-use Rattle.iop_base.specs.declared.code.TheConstants.Code.{OK, UNKNOWN_SEMAPHORE, UNKNOWN_EVENT_FLAG, UNKNOWN_MAILBOX, OBJECT_DELETED}
+use Rattle.iop_base.specs.declared.code.TheConstants.Code.{OK, UNKNOWN_SEMAPHORE, UNKNOWN_EVENT_FLAG, UNKNOWN_MAILBOX, UNKNOWN_VARIABLE_POOL, UNKNOWN_FIXED_POOL, OBJECT_DELETED}
 use Rattle.iop_base.specs.declared.guest_fault.GuestFault.TheVariants.{Address, Service}
 use Rattle.iop_objects.specs.Objects as objects
 use Rattle.iop_objects.specs.Objects.{object_of, state_of}
 use Rattle.iop_queues.specs.Queue.{in_order}
 use Rattle.iop_thread.specs.ThreadTable.{priority_of}
 use Rattle.iop_thread.specs.declared.kind.Kind.{Kind}
-use Rattle.iop_thread.specs.declared.kind.Kind.TheVariants.{Semaphore, EventFlag, Mailbox}
+use Rattle.iop_thread.specs.declared.kind.Kind.TheVariants.{Semaphore, EventFlag, Mailbox, VariablePool, FixedPool}
 use Rattle.iop_thread.specs.declared.wait.Wait.TheVariants.{Object}
 use Rattle.iop_kernel.specs.Boards.{Board, quiet, writes}
 use Rattle.iop_kernel.specs.Kinds.{State, Wants, Live, Table, table, with_objects, waits_by_priority}
@@ -23,6 +24,8 @@ abbrev pub unknown : Kind → Code
 unknown Semaphore = UNKNOWN_SEMAPHORE
 unknown EventFlag = UNKNOWN_EVENT_FLAG
 unknown Mailbox = UNKNOWN_MAILBOX
+unknown VariablePool = UNKNOWN_VARIABLE_POOL
+unknown FixedPool = UNKNOWN_FIXED_POOL
 
 -- the threads that wait for an object, in the order in which they would be chosen
 abbrev pub threads_in_order : (kind : Kind) → Live kind → List ℕ
@@ -56,7 +59,7 @@ module _ (kind : Kind) (c : Core) where
       let left = objects.deletes (table kind c.kernel) o.id in
       answers (with_objects kind (with_threads c woken) left) OK
 
-  -- DeleteSema, DeleteEventFlag and DeleteMbx
+  -- DeleteSema, DeleteEventFlag, DeleteMbx, DeleteVpl and DeleteFpl, but for the memory of these
   abbrev pub delete_object : (id : ℕ) → Left Core
   delete_object id = deletes_object (object_of (table kind c.kernel).live id)
 
@@ -72,6 +75,7 @@ module _ (kind : Kind) (words : Live kind → List ℕ) (b : Board) where
   refers_at id None = quiet b.memory (faults b.core Address)
   refers_at id (Some place) = refers_to place (object_of (table kind b.core.kernel).live id)
 
-  -- ReferSemaStatus, ReferEventFlagStatus and ReferMbxStatus, of so many words
+  -- ReferSemaStatus, ReferEventFlagStatus, ReferMbxStatus, ReferVplStatus and ReferFplStatus, of so
+  -- many words
   abbrev pub refer_status : (count id at : ℕ) → Done Board
   refer_status count id at = refers_at id (words_place b.memory at count)

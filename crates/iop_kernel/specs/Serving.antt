@@ -14,11 +14,12 @@ use Rattle.iop_services.specs.declared.codes.TheConstants.{LIBRARY_CODES, SERVIC
 use Rattle.iop_services.specs.declared.loadcore_service.LoadcoreService.{LoadcoreService}
 use Rattle.iop_services.specs.declared.row.Row.{Row}
 use Rattle.iop_services.specs.declared.service.Service.{Service}
-use Rattle.iop_services.specs.declared.service.Service.TheVariants.{Loadcore, Sysmem, Intrman, Thbase, Thsemap, Thevent, Thmsgbx, Stdio}
+use Rattle.iop_services.specs.declared.service.Service.TheVariants.{Loadcore, Sysmem, Intrman, Thbase, Thsemap, Thevent, Thmsgbx, Stdio, Thvpool, Thfpool}
 use Rattle.iop_services.specs.declared.stdio_service.StdioService.{StdioService}
 use Rattle.iop_services.specs.declared.sysmem_service.SysmemService.{SysmemService}
 use Rattle.iop_kernel.specs.Boards.{board_of, on_board}
 use Rattle.iop_kernel.specs.EventFlags.{serves_thevent}
+use Rattle.iop_kernel.specs.FixedPools.{serves_thfpool}
 use Rattle.iop_kernel.specs.Handlers.{return_handler}
 use Rattle.iop_kernel.specs.Interrupts.{serves_intrman}
 use Rattle.iop_kernel.specs.Mailboxes.{serves_thmsgbx}
@@ -26,6 +27,7 @@ use Rattle.iop_kernel.specs.Semaphores.{serves_thsemap}
 use Rattle.iop_kernel.specs.System.{Left, System, Served, in_handler, resumes, answers, faults, silent, on_core}
 use Rattle.iop_kernel.specs.Thbase.{serves_thbase}
 use Rattle.iop_kernel.specs.ThreadStarts.{exit_thread, return_module}
+use Rattle.iop_kernel.specs.VariablePools.{serves_thvpool}
 use Rattle.iop_kernel.specs.declared.call.Call.{Call}
 use Rattle.iop_kernel.specs.declared.call.Call.TheVariants.{Library, ThreadReturn, HandlerReturn, ModuleReturn}
 use Rattle.iop_kernel.specs.declared.call.TheConstants.{THREAD_RETURN_CALL, HANDLER_RETURN_CALL, MODULE_RETURN_CALL}
@@ -85,6 +87,8 @@ serves s (Thsemap x) = on_board s (serves_thsemap (board_of s) x)
 serves s (Thevent x) = on_board s (serves_thevent (board_of s) x)
 serves s (Thmsgbx x) = on_board s (serves_thmsgbx (board_of s) x)
 serves s (Stdio x) = serves_stdio s x
+serves s (Thvpool x) = serves_thvpool s x
+serves s (Thfpool x) = serves_thfpool s x
 
 module _ (library number : ℕ) where
   -- by the row of a number; one that is not listed answers -1 and is told

@@ -33,7 +33,8 @@ IsCause (Alarm number) = ⊤
 
 -- the objects of a kind that the program's kernel has
 abbrev pub held : {R : Type 0} → (kind : Kind) → Program R → Table kind
-held kind p = of_kind kind p.semaphores p.event_flags p.mailboxes
+held kind p =
+    of_kind kind p.semaphores p.event_flags p.mailboxes p.variable_pools p.fixed_pools
 
 module _ {R : Type 0} (stands_for : R → List Entry → Type 0) where
   -- it holds what the kernel has
@@ -47,6 +48,8 @@ module _ {R : Type 0} (stands_for : R → List Entry → Type 0) where
     pub semaphores : s.semaphores ≡ k.semaphores
     pub event_flags : s.event_flags ≡ k.event_flags
     pub mailboxes : s.mailboxes ≡ k.mailboxes
+    pub variable_pools : s.variable_pools ≡ k.variable_pools
+    pub fixed_pools : s.fixed_pools ≡ k.fixed_pools
     pub timers : s.timers ≡ k.timers
     pub irqs : s.irqs ≡ k.irqs
 
@@ -82,6 +85,8 @@ module _ {R : Type 0} (stands_for : R → List Entry → Type 0) where
     pub semaphores : k.handler ≡ None → waiting k.semaphores < MOST_WAITERS
     pub event_flags : k.handler ≡ None → waiting k.event_flags < MOST_WAITERS
     pub mailboxes : k.handler ≡ None → waiting k.mailboxes < MOST_WAITERS
+    pub variable_pools : k.handler ≡ None → waiting k.variable_pools < MOST_WAITERS
+    pub fixed_pools : k.handler ≡ None → waiting k.fixed_pools < MOST_WAITERS
 
   -- the kernel and its processor after a call which answered what becomes of its caller
   pub record TakesCore (left : Left Core) (after : After) (k : Program R) (cpu : Cpu) : Type 0 where

@@ -12,6 +12,8 @@ use Rattle.iop_intr.specs.declared.irqs.TheConstants.{IRQ_LINES}
 pub use Rattle.iop_libs.specs.Calls.{code_word}
 use Rattle.iop_mbx.specs.Mailboxes.{Mailboxes}
 use Rattle.iop_objects.specs.Objects.{no_objects}
+use Rattle.iop_pools.specs.FixedPools.{FixedPools}
+use Rattle.iop_pools.specs.VariablePools.{VariablePools}
 use Rattle.iop_registry.specs.declared.registry.Entry.{Entry}
 use Rattle.iop_sema.specs.Semaphores.{Semaphores}
 use Rattle.iop_stubs.specs.Stubs.{Memory, after_store, range_place, store_lines}
@@ -37,6 +39,8 @@ pub record Kernel : Type 0 where
   pub semaphores : Semaphores
   pub event_flags : EventFlags
   pub mailboxes : Mailboxes
+  pub variable_pools : VariablePools
+  pub fixed_pools : FixedPools
   -- the alarms and the delays
   pub timers : Timers
   -- the interrupt lines, by their numbers
@@ -54,6 +58,8 @@ beginning = record {
   semaphores = no_objects;
   event_flags = no_objects;
   mailboxes = no_objects;
+  variable_pools = no_objects;
+  fixed_pools = no_objects;
   timers = no_timers;
   irqs = replicate IRQ_LINES idle;
 }
@@ -90,6 +96,12 @@ with_event_flags c flags = record c { kernel = record c.kernel { event_flags = f
 
 abbrev pub with_mailboxes : Core → Mailboxes → Core
 with_mailboxes c mailboxes = record c { kernel = record c.kernel { mailboxes = mailboxes } }
+
+abbrev pub with_variable_pools : Core → VariablePools → Core
+with_variable_pools c pools = record c { kernel = record c.kernel { variable_pools = pools } }
+
+abbrev pub with_fixed_pools : Core → FixedPools → Core
+with_fixed_pools c pools = record c { kernel = record c.kernel { fixed_pools = pools } }
 
 abbrev pub with_timers : Core → Timers → Core
 with_timers c timers = record c { kernel = record c.kernel { timers = timers } }

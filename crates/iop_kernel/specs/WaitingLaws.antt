@@ -1,22 +1,26 @@
 -- What the laws of waits that begin say: where the thread that calls a service does not go on, and
 -- what the service left of it then.
-use Rattle.std.specs.Prelude.{◌≡◌, ◌≢◌, ◌⊎◌, ⊤, ℕ, true, false, Option, Some, None, ◌∷◌, [], ◌++◌}
+use Rattle.std.specs.Prelude.{◌≡◌, ◌≢◌, ◌⊎◌, ⊤, ℕ, ◌≤◌, true, false, Option, Some, None, ◌∷◌, [], ◌++◌}
 use Rattle.iop_event.specs.EventFlags.{is_taken}
 use Rattle.iop_event.specs.WakeConditions.{holds}
 use Rattle.iop_exec.specs.Row.{with_reg}
 use Rattle.iop_objects.specs.Objects.{state_of, waiters_of, with_waiters}
+use Rattle.iop_pools.specs.Pools.{place_for}
+use Rattle.iop_pools.specs.VariablePools.{place_of}
 use Rattle.iop_ready.specs.Priorities.{priority_of as priority_of_word}
 use Rattle.iop_services.specs.declared.service.Service.{Service}
-use Rattle.iop_services.specs.declared.service.Service.TheVariants.{Thbase, Thsemap, Thevent, Thmsgbx}
+use Rattle.iop_services.specs.declared.service.Service.TheVariants.{Thbase, Thsemap, Thevent, Thmsgbx, Thvpool, Thfpool}
 use Rattle.iop_services.specs.declared.thbase_service.ThbaseService.TheVariants.{RotateThreadReadyQueue, SleepThread, DelayThread}
 use Rattle.iop_services.specs.declared.thevent_service.TheventService.TheVariants.{WaitEventFlag}
+use Rattle.iop_services.specs.declared.thfpool_service.ThfpoolService.TheVariants.{AllocateFpl}
 use Rattle.iop_services.specs.declared.thmsgbx_service.ThmsgbxService.TheVariants.{ReceiveMbx}
 use Rattle.iop_services.specs.declared.thsemap_service.ThsemapService.TheVariants.{WaitSema}
+use Rattle.iop_services.specs.declared.thvpool_service.ThvpoolService.TheVariants.{AllocateVpl}
 use Rattle.iop_thread.specs.Changes.{TurnsInPlace}
 use Rattle.iop_thread.specs.ThreadTable.{ThreadTable, thread_of, priority_of}
 use Rattle.iop_thread.specs.Waking.{state_in}
 use Rattle.iop_thread.specs.declared.kind.Kind.{Kind}
-use Rattle.iop_thread.specs.declared.kind.Kind.TheVariants.{Semaphore, EventFlag, Mailbox}
+use Rattle.iop_thread.specs.declared.kind.Kind.TheVariants.{Semaphore, EventFlag, Mailbox, VariablePool, FixedPool}
 use Rattle.iop_thread.specs.declared.state.State.{State}
 use Rattle.iop_thread.specs.declared.state.State.TheVariants.{Ready, Waiting}
 use Rattle.iop_thread.specs.declared.thread.Thread.{Thread}
@@ -61,6 +65,20 @@ abbrev pub InState : (System → State) → System → Core → (thread : ℕ) �
 InState state s left thread =
     Stops s.core.kernel.threads left.kernel.threads thread (state s)
 
+-- a size that a variable pool can have fits nowhere in it
+pub record VariablePoolIsFull (s : System) : Type 0 where
+  pub x : KindState VariablePool
+  pub known : state_of s.core.kernel.variable_pools (argument s.core 0) ≡ Some x
+  pub some : argument s.core 1 ≢ 0
+  pub within : argument s.core 1 ≤ x.size
+  pub full : place_of x (argument s.core 1) ≡ None
+
+-- no block of a fixed pool is free
+pub record FixedPoolIsFull (s : System) : Type 0 where
+  pub x : KindState FixedPool
+  pub known : state_of s.core.kernel.fixed_pools (argument s.core 0) ≡ Some x
+  pub full : place_for x x.unit ≡ None
+
 -- where a call answers nothing yet: its caller waits for what the arguments name, or gives way
 pub record WaitsBeginSo : Type 0 where
   pub sleeps : LeavesSo (Thbase SleepThread) (InState (λ s. Waiting Sleep s.core.cpu))
@@ -86,6 +104,14 @@ pub record WaitsBeginSo : Type 0 where
       (λ s left thread.
       WaitsFor Mailbox s.core left (argument s.core 1) (argument s.core 0) thread
       × ((place : ℕ) × (words_place s.memory (argument s.core 0) 1 ≡ Some place)))
+  -- for so many bytes as the second argument says, where they fit nowhere
+  pub variable_pool : LeavesSo (Thvpool AllocateVpl)
+      (λ s left thread.
+      WaitsFor VariablePool s.core left (argument s.core 0) (argument s.core 1) thread
+      × VariablePoolIsFull s)
+  pub fixed_pool : LeavesSo (Thfpool AllocateFpl)
+      (λ s left thread. WaitsFor FixedPool s.core left (argument s.core 0) tt thread
+      × FixedPoolIsFull s)
 
 -- a live thread calls, and another one may run
 pub record MayStop (c : Core) (thread : ℕ) (t : Thread) : Type 0 where
@@ -136,3 +162,5 @@ pub record WaitsBeginWhere : Type 0 where
   pub semaphore : StopsWhere (Thsemap WaitSema) (λ s t. IsZero s)
   pub flag : StopsWhere (Thevent WaitEventFlag) (λ s t. IsUnmet s)
   pub mailbox : StopsWhere (Thmsgbx ReceiveMbx) (λ s t. IsEmpty s)
+  pub variable_pool : StopsWhere (Thvpool AllocateVpl) (λ s t. VariablePoolIsFull s)
+  pub fixed_pool : StopsWhere (Thfpool AllocateFpl) (λ s t. FixedPoolIsFull s)

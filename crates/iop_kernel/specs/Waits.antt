@@ -1,6 +1,6 @@
--- How the waits of threads end and change (ps2sdk: thbase, thsemap, thevent, thmsgbx). That a
--- waiter of another priority comes behind the others, where they are chosen by priority, is this
--- project's own profile.
+-- How the waits of threads end and change (ps2sdk: thbase, thsemap, thevent, thmsgbx, thvpool,
+-- thfpool). That a waiter of another priority comes behind the others, where they are chosen by
+-- priority, is this project's own profile.
 use Rattle.std.specs.Prelude.{ℕ, ◌==◌, Bool, Option, Some, List, [], ◌∷◌, map}
 use Rattle.iop_base.specs.declared.code.Code.{Code}
 use Rattle.iop_objects.specs.Objects.{drops, requeues}
@@ -22,10 +22,13 @@ is_code code other = code_word code == code_word other
 abbrev pub threads_of : {W : Type 0} → List (Queued (Waiter W)) → List ℕ
 threads_of waiters = map (λ x. x.item.thread) waiters
 
--- the wait of a thread ends, with a code as its answer
+-- the wait of a thread ends, with a word as its answer
+abbrev pub wakes_word : Core → (thread word : ℕ) → Core
+wakes_word c thread word = with_threads c (threads.wakes c.kernel.threads thread word)
+
+-- the same, with a code
 abbrev pub wakes_with : Core → (thread : ℕ) → Code → Core
-wakes_with c thread code =
-    with_threads c (threads.wakes c.kernel.threads thread (code_word code))
+wakes_with c thread code = wakes_word c thread (code_word code)
 
 -- those of several threads, one after the other
 abbrev pub wakes_all : ThreadTable → List ℕ → (word : ℕ) → ThreadTable

@@ -14,6 +14,7 @@ use iop_event::EventFlags;
 use iop_exec::Cpu;
 use iop_intr::Irqs;
 use iop_mbx::Mailboxes;
+use iop_pools::{FixedPools, VariablePools};
 use iop_ready::Ready;
 use iop_sema::Semaphores;
 use iop_thread::Threads;
@@ -33,6 +34,8 @@ pub struct Kernel<R> {
     pub(crate) semaphores: Semaphores,
     pub(crate) event_flags: EventFlags,
     pub(crate) mailboxes: Mailboxes,
+    pub(crate) variable_pools: VariablePools,
+    pub(crate) fixed_pools: FixedPools,
     pub(crate) timers: Clock,
     pub(crate) irqs: Irqs,
 }
@@ -57,6 +60,8 @@ impl<R: Ready> Kernel<R> {
             semaphores: Semaphores::new(alloc)?,
             event_flags: EventFlags::new(alloc)?,
             mailboxes: Mailboxes::new(alloc)?,
+            variable_pools: VariablePools::new(alloc)?,
+            fixed_pools: FixedPools::new(alloc)?,
             timers: Clock::new(alloc)?,
             irqs: Irqs::new(),
         })

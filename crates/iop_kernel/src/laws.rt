@@ -10,6 +10,7 @@ ghost use Rattle.iop_kernel.specs.Laws.{ServicesKeep, LibrariesFaultAtAddresses,
 ghost use Rattle.iop_kernel.specs.LibraryRequests.{LibraryRequestsAreServed};
 ghost use Rattle.iop_kernel.specs.MakerLaws.{MadeAsGiven};
 ghost use Rattle.iop_kernel.specs.ObjectRequests.{ObjectRequestsAreServed};
+ghost use Rattle.iop_kernel.specs.PoolLaws.{PoolsAreMade, PoolRequestsAreServed, PoolsWriteNothing, VariablePoolStatusIsRead, FixedPoolStatusIsRead};
 ghost use Rattle.iop_kernel.specs.StatusLaws.{StatusIsRead, SemaphoreStatusIsRead, FlagStatusIsRead, MailboxStatusIsRead};
 ghost use Rattle.iop_kernel.specs.SwitchLaws.{DispatchesAloneSwitch};
 ghost use Rattle.iop_kernel.specs.ThreadRequests.{ThreadRequestsAreServed};
@@ -26,7 +27,7 @@ ghost use Rattle.iop_kernel.specs.WordLaws.{WordsAreRead};
 /// thread never does; the loader's thread alone returns from a module, and a fault changes nothing.
 /// A handler goes on after `Resume`, with a word in `$v0`, and has returned after `Switch`. A
 /// service takes no time and one number at most; it stores ranges of bytes inside RAM, and tells of
-/// each live stub that they meet.
+/// each live stub that they meet. What is out of a pool stays inside of it, and no two ranges meet.
 pub fn services_keep()
     ensures { ServicesKeep }
 {}
@@ -37,9 +38,10 @@ pub fn services_keep()
 /// threads and of what they wait for, and by the return of a thread or a module. No service begins
 /// or ends a handler. Whether interrupts are on changes by the services of intrman and thbase and
 /// by returns, whether dispatch is enabled by those of thbase and by the return of a thread or a
-/// module; libraries by loadcore's, blocks by sysmem's and thbase's. Services of loadcore, sysmem
-/// and stdio write nothing and leave the kernel as it was; those of intrman change nothing of it
-/// but whether interrupts are on, and their lines; returns write nothing, and time does not pass.
+/// module; libraries by loadcore's, blocks by sysmem's, thbase's and those of pools. Services of
+/// loadcore, sysmem and stdio write nothing and leave the kernel as it was; those of intrman change
+/// nothing of it but whether interrupts are on, and their lines; returns write nothing, and time
+/// does not pass.
 pub fn codes_stay_apart()
     ensures { CodesStayApart }
 {}
@@ -51,9 +53,9 @@ pub fn libraries_fault_at_addresses()
 {}
 
 /// Whatever the code of a `syscall`, who calls goes on, or the `syscall` faults, but for the return
-/// of a thread or a module while no handler runs, that of a handler while one does, and eight
+/// of a thread or a module while no handler runs, that of a handler while one does, and ten
 /// services where their rows allow them: two end a thread, one gives way to others of a priority,
-/// and five wait.
+/// and seven wait.
 pub fn callers_go_on()
     ensures { CallersGoOn }
 {}
@@ -82,6 +84,12 @@ pub fn made_as_given()
     ensures { MadeAsGiven }
 {}
 
+/// CreateVpl and CreateFpl make a pool of what their words say, each in its place, on a block of
+/// its own, of which nothing is out.
+pub fn pools_are_made()
+    ensures { PoolsAreMade }
+{}
+
 /// Each service of thbase that makes nothing and does not wait does with its words what their
 /// places say: on which thread it works, what it answers, and that nothing else changes.
 /// DeleteThread and ExitDeleteThread free the thread's stack. For ChangeThreadPriority and
@@ -103,6 +111,23 @@ pub fn interrupt_requests_are_served()
 /// the byte behind the message's first word as its priority where the mailbox looks at it.
 pub fn object_requests_are_served()
     ensures { ObjectRequestsAreServed }
+{}
+
+/// AllocateVpl, pAllocateVpl, AllocateFpl and pAllocateFpl take memory of the pool of the id, for
+/// the size of their second argument where it is a variable one. FreeVpl and FreeFpl refuse an
+/// address at which nothing is out, and a block for which no thread waits is free then. DeleteVpl
+/// and DeleteFpl free the block that begins at the pool's base, and answer 0. Each service of pools
+/// that is refused answers the code alone, and nothing else changes: also where no live pool has
+/// the id, where the words of a new pool are not good, and where there is no room for one more pool
+/// or no block for its memory.
+pub fn pool_requests_are_served()
+    ensures { PoolRequestsAreServed }
+{}
+
+/// Each service of pools but ReferVplStatus and ReferFplStatus leaves memory as it was, and gives
+/// no line: no word in a pool's memory keeps its books.
+pub fn pools_write_nothing()
+    ensures { PoolsWriteNothing }
 {}
 
 /// Each service of loadcore, sysmem and stdio, and the return of a module or of its thread, does
@@ -155,6 +180,17 @@ pub fn mailbox_status_is_read()
     ensures { MailboxStatusIsRead }
 {}
 
+/// The words that ReferVplStatus writes are those of the variable pool of the id, each in its
+/// place.
+pub fn variable_pool_status_is_read()
+    ensures { VariablePoolStatusIsRead }
+{}
+
+/// The words that ReferFplStatus writes are those of the fixed pool of the id, each in its place.
+pub fn fixed_pool_status_is_read()
+    ensures { FixedPoolStatusIsRead }
+{}
+
 /// The two words that GetSystemTime writes are the moment.
 pub fn system_time_is_read()
     ensures { SystemTimeIsRead }
@@ -180,18 +216,19 @@ pub fn words_are_read()
     ensures { WordsAreRead }
 {}
 
-/// Where DeleteSema, DeleteEventFlag or DeleteMbx deletes a live object, all threads that wait for
-/// it are woken with `OBJECT_DELETED`, in the order in which they would be chosen. None waits for
-/// it any more, and it is no longer live.
+/// Where DeleteSema, DeleteEventFlag, DeleteMbx, DeleteVpl or DeleteFpl deletes a live object, all
+/// threads that wait for it are woken with `OBJECT_DELETED`, in the order in which they would be
+/// chosen. None waits for it any more, and it is no longer live.
 pub fn deletions_wake_all()
     ensures { DeletionsWakeAll }
 {}
 
 /// How the waits of threads begin, where a call does not go on: SleepThread, DelayThread, WaitSema,
-/// WaitEventFlag and ReceiveMbx leave their caller waiting with the registers of its call, for what
-/// the arguments name: until the moment behind its microseconds, or behind all others that wait for
-/// the object, with its priority and what it asks for. RotateThreadReadyQueue leaves it ready
-/// behind all others, with 0 in `$v0`. Nothing else of a thread changes, and none runs.
+/// WaitEventFlag, ReceiveMbx, AllocateVpl and AllocateFpl leave their caller waiting with the
+/// registers of its call, for what the arguments name: until the moment behind its microseconds, or
+/// behind all others that wait for the object, with its priority and what it asks for.
+/// RotateThreadReadyQueue leaves it ready behind all others, with 0 in `$v0`. Nothing else of a
+/// thread changes, and none runs.
 pub fn waits_begin_so()
     ensures { WaitsBeginSo }
 {}
@@ -199,7 +236,8 @@ pub fn waits_begin_so()
 /// A live thread that calls waits, or gives way, where another one may run: SleepThread where it
 /// has no wakeup, DelayThread however short the delay is, RotateThreadReadyQueue for 0 and its own
 /// priority, WaitSema where the count is 0, WaitEventFlag where some bits are asked for, no other
-/// thread is in the way and the condition does not hold, and ReceiveMbx where there is no message.
+/// thread is in the way and the condition does not hold, ReceiveMbx where there is no message,
+/// AllocateVpl where a size that the pool has fits nowhere, and AllocateFpl where no block is free.
 pub fn waits_begin_where()
     ensures { WaitsBeginWhere }
 {}
@@ -207,8 +245,10 @@ pub fn waits_begin_where()
 /// How the waits of threads end: SignalSema and SendMbx wake the first in order of those that wait,
 /// SetEventFlag all whose conditions its bits meet, in their order, WakeupThread one that sleeps,
 /// and a delay that comes due its thread, each with 0, and ReleaseWaitThread one with
-/// `WAIT_RELEASED`. A thread that is woken is ready behind all others, or suspended alone, with the
-/// answer in `$v0`; nothing else of it and of all other threads changes.
+/// `WAIT_RELEASED`. FreeFpl wakes the first in order with the address of the block, and FreeVpl,
+/// one after the other, each whose size then fits, with the address of its memory. A thread that is
+/// woken is ready behind all others, or suspended alone, with the answer in `$v0`; nothing else of
+/// it and of all other threads changes.
 pub fn waits_end_so()
     ensures { WaitsEndSo }
 {}

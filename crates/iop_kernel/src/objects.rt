@@ -31,6 +31,8 @@ impl<R: Ready> Kernel<R> {
             Kind::Semaphore => self.semaphores.pop_waiter(id),
             Kind::EventFlag => self.event_flags.pop_waiter(id),
             Kind::Mailbox => self.mailboxes.pop_waiter(id),
+            Kind::VariablePool => self.variable_pools.pop_waiter(id),
+            Kind::FixedPool => self.fixed_pools.pop_waiter(id),
         }
     }
 
@@ -43,6 +45,8 @@ impl<R: Ready> Kernel<R> {
             Kind::Semaphore => self.semaphores.drop_waiter(id, thread),
             Kind::EventFlag => self.event_flags.drop_waiter(id, thread),
             Kind::Mailbox => self.mailboxes.drop_waiter(id, thread),
+            Kind::VariablePool => self.variable_pools.drop_waiter(id, thread),
+            Kind::FixedPool => self.fixed_pools.drop_waiter(id, thread),
         }
     }
 
@@ -56,6 +60,8 @@ impl<R: Ready> Kernel<R> {
             Kind::Semaphore => self.semaphores.requeue(id, thread, priority),
             Kind::EventFlag => self.event_flags.requeue(id, thread, priority),
             Kind::Mailbox => self.mailboxes.requeue(id, thread, priority),
+            Kind::VariablePool => self.variable_pools.requeue(id, thread, priority),
+            Kind::FixedPool => self.fixed_pools.requeue(id, thread, priority),
         }
     }
 
@@ -72,6 +78,8 @@ impl<R: Ready> Kernel<R> {
             Kind::Semaphore => self.semaphores.delete(id),
             Kind::EventFlag => self.event_flags.delete(id),
             Kind::Mailbox => self.mailboxes.delete(id),
+            Kind::VariablePool => self.variable_pools.delete(id),
+            Kind::FixedPool => self.fixed_pools.delete(id),
         }
     }
 

@@ -56,6 +56,8 @@ impl<R: Ready> Kernel<R> {
                 let word = serve_stdio(service, cpu, guest, lines);
                 answer_word(cpu, word)
             }
+            Service::Thvpool(service) => self.serve_thvpool(service, cpu, guest, blocks, lines),
+            Service::Thfpool(service) => self.serve_thfpool(service, cpu, guest, blocks, lines),
         }
     }
 

@@ -5,7 +5,7 @@ ghost use Rattle.iop_exec.specs.declared.cpu.Cpu.{Cpu as Processor};
 ghost use Rattle.iop_thread.specs.ThreadTable.{priority_of};
 ghost use Rattle.iop_kernel.specs.System.{Kernel as State};
 ghost use Rattle.iop_kernel.specs.Standing.{Holds, IsHeld, core};
-ghost use Rattle.iop_kernel.specs.Waits.{leaves_object, requeues_at, wakes_with};
+ghost use Rattle.iop_kernel.specs.Waits.{wakes_word, leaves_object, requeues_at, wakes_with};
 
 use crate::kernel::Kernel;
 use iop_base::Code;
@@ -13,6 +13,15 @@ use iop_ready::{Priority, Ready};
 use iop_thread::Wait;
 
 impl<R: Ready> Kernel<R> {
+    /// Ends the wait of a thread, with a word as its answer.
+    pub(crate) fn wake_with(&mut self, thread: u32, word: u32)
+        requires sound { IsHeld R.stands self.old }
+        ensures { (k : State) (cpu : Processor) → Holds R.stands self.old k
+            → Holds R.stands self.new (wakes_word (core k cpu) thread word).kernel }
+    {
+        self.threads.wake(thread, word);
+    }
+
     /// Ends the wait of a thread, with a code as its answer.
     pub(crate) fn wake(&mut self, thread: u32, code: Code)
         requires sound { IsHeld R.stands self.old }

@@ -1,6 +1,6 @@
--- What stands in the kernel's area, and stays there.
-use Rattle.std.proofs.Common.{◌≡◌, ℕ, zero, suc, ◌+◌, ◌*◌, ◌<◌, ◌≤◌, nat_eq, true, List, [], ◌++◌, length, take, drop, replicate, append-nil, append_assoc, refl, ap, sym, ◌∙◌, subst, arith, inl, inr}
-use Rattle.std.specs.Prelude.{◌⊎◌, slice_index_or}
+-- What stands in the kernel's area.
+use Rattle.std.proofs.Common.{◌≡◌, ℕ, zero, suc, ◌+◌, ◌*◌, ◌<◌, ◌≤◌, nat_eq, true, List, [], ◌++◌, length, take, drop, replicate, append-nil, append_assoc, refl, ap, sym, ◌∙◌, subst, arith}
+use Rattle.std.specs.Prelude.{slice_index_or}
 use Rattle.std.proofs.lemmas.Bool.Decides.{nat_tests}
 use Rattle.std.proofs.lemmas.List.{length-append, length-drop, drop-append-le, take-append-le, length-replicate, take-take, drop-drop, drop-take}
 use Rattle.std.proofs.lemmas.List.Elements.{All-get_or}
@@ -10,15 +10,14 @@ use borrow.Author.Count.{below_more}
 use Rattle.iop_base.specs.Numbers.{with_bytes, bytes_of}
 use Rattle.iop_base.specs.declared.libraries.TheConstants.{KERNEL_LIBRARIES}
 use Rattle.iop_base.specs.declared.words.TheConstants.{EXPORT_MAGIC}
-use Rattle.iop_base.proofs.Lists.{bytes_inside, bytes_before, bytes_behind}
+use Rattle.iop_base.proofs.Lists.{bytes_inside, bytes_before}
 use Rattle.iop_base.proofs.Memory.{length-with_bytes}
-use Rattle.iop_registry.specs.declared.registry.TheConstants.{KERNEL_TABLES_AT, KERNEL_TABLE_LEN}
+use Rattle.iop_registry.specs.declared.registry.TheConstants.{KERNEL_TABLES_AT, KERNEL_TABLE_LEN, LATER_TABLES_AT}
 use Rattle.iop_services.specs.declared.codes.TheConstants.{SERVICES}
 use Rattle.iop_stubs.specs.Stubs.{Memory}
 use Rattle.iop_thread.specs.declared.thread.TheConstants.{THREAD_RETURN}
-use Rattle.iop_machine.specs.declared.arguments.TheConstants.{ARGUMENTS, ARGUMENTS_LEN}
 use Rattle.iop_machine.specs.declared.kernel_area.TheConstants.{AREA_LEN, VERSION, TABLE_REST, SERVICES_AT, SERVICES_LEN, SERVICE_LEN}
-use Rattle.iop_machine.specs.KernelArea.{each, function_of, table_of, service_of, services_of, tables, returns, services, kernel_area}
+use Rattle.iop_machine.specs.KernelArea.{each, function_of, table_of, service_of, services_of, tables, first_tables, later_tables, returns, services, with_tables, kernel_area}
 use Rattle.iop_machine.specs.World.{zeros}
 
 pub length-zeros : (n : ℕ) → length (zeros n) ≡ n
@@ -109,7 +108,7 @@ stored_in_front memory first bytes p inside =
     (sym (length-with_bytes first p bytes inside))
 
 -- a part of the first of two lists
-part_of_first : (a b : List ℕ) (p n : ℕ) → p + n ≤ length a
+pub part_of_first : (a b : List ℕ) (p n : ℕ) → p + n ≤ length a
     → take n (drop p (a ++ b)) ≡ take n (drop p a)
 part_of_first a b p n fits =
     ap (take n) (drop-append-le p a b (omega arith))
@@ -157,26 +156,52 @@ table_is old library = simp append_assoc
 pub length-services : (library : ℕ) → length (services_of library) ≡ SERVICES_LEN
 length-services library = length-each (service_of library) SERVICE_LEN SERVICES (λ i lt. refl)
 
-pub length-tables : length tables ≡ length KERNEL_LIBRARIES * KERNEL_TABLE_LEN
-length-tables = length-each table_of KERNEL_TABLE_LEN (length KERNEL_LIBRARIES) length-table
+-- those of libraries that there are
+abbrev pub AreThere : (first count : ℕ) → Type 0
+AreThere first count = first + count ≤ length KERNEL_LIBRARIES
+
+pub length-table_from : (first count i : ℕ) → AreThere first count → i < count
+    → length (table_of (first + i)) ≡ KERNEL_TABLE_LEN
+length-table_from first count i there below =
+    length-table (first + i) (omega (arith, there, below))
+
+pub length-tables : (first count : ℕ) → AreThere first count
+    → length (tables first count) ≡ count * KERNEL_TABLE_LEN
+length-tables first count there =
+    length-each (λ i. table_of (first + i)) KERNEL_TABLE_LEN count
+    (λ i below. length-table_from first count i there below)
+
+pub length-first_tables : length first_tables ≡ 0x1000
+length-first_tables = omega (arith, length-tables 0 8 (omega arith))
+
+pub length-later_tables : length later_tables ≡ 0x400
+length-later_tables = omega (arith, length-tables 8 2 (omega arith))
 
 pub length-all_services : length services ≡ length KERNEL_LIBRARIES * SERVICES_LEN
 length-all_services =
     length-each services_of SERVICES_LEN (length KERNEL_LIBRARIES) (λ i lt. length-services i)
 
 -- the area as it is written, one region after the other
-abbrev with_tables : List ℕ
-with_tables = with_bytes (zeros AREA_LEN) KERNEL_TABLES_AT tables
+abbrev with_later : List ℕ
+with_later = with_bytes (zeros AREA_LEN) LATER_TABLES_AT later_tables
 
 abbrev with_returns : List ℕ
 with_returns = with_bytes with_tables THREAD_RETURN returns
 
-tables_fit : KERNEL_TABLES_AT + length tables ≤ length (zeros AREA_LEN)
-tables_fit = omega (arith, length-tables, length-zeros AREA_LEN)
+later_fit : LATER_TABLES_AT + length later_tables ≤ length (zeros AREA_LEN)
+later_fit = omega (arith, length-later_tables, length-zeros AREA_LEN)
+
+length-with_later : length with_later ≡ AREA_LEN
+length-with_later =
+    length-with_bytes (zeros AREA_LEN) LATER_TABLES_AT later_tables later_fit
+    ∙ length-zeros AREA_LEN
+
+first_fit : KERNEL_TABLES_AT + length first_tables ≤ length with_later
+first_fit = omega (arith, length-first_tables, length-with_later)
 
 length-with_tables : length with_tables ≡ AREA_LEN
 length-with_tables =
-    length-with_bytes (zeros AREA_LEN) KERNEL_TABLES_AT tables tables_fit ∙ length-zeros AREA_LEN
+    length-with_bytes with_later KERNEL_TABLES_AT first_tables first_fit ∙ length-with_later
 
 returns_fit : THREAD_RETURN + length returns ≤ length with_tables
 returns_fit = omega (arith, length-with_tables)
@@ -194,13 +219,16 @@ length-kernel_area =
     length-with_bytes with_returns SERVICES_AT services services_fit ∙ length-with_returns
 
 area_written : (ram : List ℕ)
-    → with_bytes (with_bytes
-    (with_bytes (with_bytes ram 0 (zeros AREA_LEN)) KERNEL_TABLES_AT tables)
-    THREAD_RETURN returns) SERVICES_AT services ≡ with_bytes ram 0 kernel_area
+    → with_bytes (with_bytes (with_bytes
+    (with_bytes (with_bytes ram 0 (zeros AREA_LEN)) LATER_TABLES_AT later_tables) KERNEL_TABLES_AT
+    first_tables) THREAD_RETURN returns) SERVICES_AT services ≡ with_bytes ram 0 kernel_area
 unfolding kernel_area
 area_written ram =
-    ap (λ m. with_bytes (with_bytes m THREAD_RETURN returns) SERVICES_AT services)
-    (stored_in_front ram (zeros AREA_LEN) tables KERNEL_TABLES_AT tables_fit)
+    ap (λ m. with_bytes (with_bytes (with_bytes m KERNEL_TABLES_AT first_tables) THREAD_RETURN
+    returns) SERVICES_AT services)
+    (stored_in_front ram (zeros AREA_LEN) later_tables LATER_TABLES_AT later_fit)
+    ∙ ap (λ m. with_bytes (with_bytes m THREAD_RETURN returns) SERVICES_AT services)
+    (stored_in_front ram with_later first_tables KERNEL_TABLES_AT first_fit)
     ∙ ap (λ m. with_bytes m SERVICES_AT services)
     (stored_in_front ram with_tables returns THREAD_RETURN returns_fit)
     ∙ stored_in_front ram with_returns services SERVICES_AT services_fit
@@ -210,32 +238,51 @@ abbrev pub with_region : Memory → ℕ → List ℕ → Memory
 with_region memory at bytes = record memory { ram = with_bytes memory.ram at bytes }
 
 -- the area stored region by region is the area stored as one
-pub area_stored : (old cleared first second new : Memory) (a b c : List ℕ)
+pub area_stored : (old cleared later first second new : Memory) (d a b c : List ℕ)
     → cleared ≡ with_region old 0 (zeros AREA_LEN)
-    → first ≡ with_region cleared KERNEL_TABLES_AT a → a ≡ tables
+    → later ≡ with_region cleared LATER_TABLES_AT d → d ≡ later_tables
+    → first ≡ with_region later KERNEL_TABLES_AT a → a ≡ first_tables
     → second ≡ with_region first THREAD_RETURN b → b ≡ returns
     → new ≡ with_region second SERVICES_AT c → c ≡ services → new ≡ with_region old 0 kernel_area
-area_stored old cleared first second new a b c zeroed one a_is two b_is three c_is =
-    let to_first = one ∙ ap (with_region cleared KERNEL_TABLES_AT) a_is
-    ∙ ap (λ m. with_region m KERNEL_TABLES_AT tables) zeroed in
+area_stored old cleared later first second new d a b c zeroed start d_is one a_is two b_is three
+    c_is =
+    let to_later = start ∙ ap (with_region cleared LATER_TABLES_AT) d_is
+    ∙ ap (λ m. with_region m LATER_TABLES_AT later_tables) zeroed in
+    let to_first = one ∙ ap (with_region later KERNEL_TABLES_AT) a_is
+    ∙ ap (λ m. with_region m KERNEL_TABLES_AT first_tables) to_later in
     let to_second = two ∙ ap (with_region first THREAD_RETURN) b_is
     ∙ ap (λ m. with_region m THREAD_RETURN returns) to_first in
     three ∙ ap (with_region second SERVICES_AT) c_is
     ∙ ap (λ m. with_region m SERVICES_AT services) to_second
     ∙ ap (λ ram. record old { ram = ram }) (area_written old.ram)
 
--- each region stands in the area
-pub has_tables : HasBytes kernel_area KERNEL_TABLES_AT tables
+-- the area has the tables
+has_with_tables : (at : ℕ) (bytes : List ℕ) → at + length bytes ≤ THREAD_RETURN
+    → HasBytes with_tables at bytes → HasBytes kernel_area at bytes
 unfolding kernel_area
-has_tables =
-    let n = length tables in
+has_with_tables at bytes before there =
+    let n = length bytes in
     record {
-      part = bytes_before with_returns SERVICES_AT services services_fit KERNEL_TABLES_AT n
-          (omega (arith, length-tables))
-          ∙ bytes_before with_tables THREAD_RETURN returns returns_fit KERNEL_TABLES_AT n
-          (omega (arith, length-tables))
-          ∙ bytes_inside (zeros AREA_LEN) KERNEL_TABLES_AT tables tables_fit;
+      part = bytes_before with_returns SERVICES_AT services services_fit at n
+          (omega (arith, before))
+          ∙ bytes_before with_tables THREAD_RETURN returns returns_fit at n before ∙ there.part;
     }
+
+-- each region stands in the area
+pub has_later_tables : HasBytes kernel_area LATER_TABLES_AT later_tables
+has_later_tables =
+    let n = length later_tables in
+    has_with_tables LATER_TABLES_AT later_tables (omega (arith, length-later_tables)) (record {
+      part = bytes_before with_later KERNEL_TABLES_AT first_tables first_fit LATER_TABLES_AT n
+          (omega (arith, length-later_tables))
+          ∙ bytes_inside (zeros AREA_LEN) LATER_TABLES_AT later_tables later_fit;
+    })
+
+pub has_first_tables : HasBytes kernel_area KERNEL_TABLES_AT first_tables
+has_first_tables =
+    has_with_tables KERNEL_TABLES_AT first_tables (omega (arith, length-first_tables)) (record {
+      part = bytes_inside with_later KERNEL_TABLES_AT first_tables first_fit;
+    })
 
 pub has_returns : HasBytes kernel_area THREAD_RETURN returns
 unfolding kernel_area
@@ -248,51 +295,3 @@ has_returns = record {
 pub has_services : HasBytes kernel_area SERVICES_AT services
 unfolding kernel_area
 has_services = record { part = bytes_inside with_returns SERVICES_AT services services_fit }
-
--- a part of the area that meets no byte of the argument block
-pub record IsFixed (p n : ℕ) : Type 0 where
-  pub below : p + n ≤ AREA_LEN
-  pub apart : (p + n ≤ ARGUMENTS) ⊎ (ARGUMENTS + ARGUMENTS_LEN ≤ p)
-
--- memory has the area there
-pub record HoldsArea (memory : List ℕ) : Type 0 where
-  pub long : AREA_LEN ≤ length memory
-  pub same : (p n : ℕ) → IsFixed p n → take n (drop p memory) ≡ take n (drop p kernel_area)
-
-pub holds_bytes : {memory : List ℕ} (p : ℕ) (bytes : List ℕ) → HoldsArea memory
-    → IsFixed p (length bytes) → HasBytes kernel_area p bytes → HasBytes memory p bytes
-holds_bytes p bytes holds fixed there =
-    record { part = holds.same p (length bytes) fixed ∙ there.part }
-
-pub area_holds : (ram : List ℕ) → HoldsArea (with_bytes ram 0 kernel_area)
-area_holds ram =
-    let rest = drop (0 + length kernel_area) ram in
-    record {
-      long = omega (arith, length-kernel_area, length-append kernel_area rest);
-      same = λ p n fixed.
-          part_of_first kernel_area rest p n (omega (arith, fixed.below, length-kernel_area));
-    }
-
--- bytes that were stored behind the area, or into the argument block
-abbrev pub IsOutside : ℕ → ℕ → Type 0
-IsOutside p len = (AREA_LEN ≤ p) ⊎ ((ARGUMENTS ≤ p) × (p + len ≤ ARGUMENTS + ARGUMENTS_LEN))
-
-module _ (memory : List ℕ) (p : ℕ) (bytes : List ℕ) (inside : p + length bytes ≤ length memory)
-  where
-    stays_there : (q n : ℕ) → IsFixed q n → IsOutside p (length bytes)
-        → take n (drop q (with_bytes memory p bytes)) ≡ take n (drop q memory)
-    stays_there q n fixed (inl behind) =
-        bytes_before memory p bytes inside q n (omega (arith, fixed.below))
-    stays_there q n fixed (inr block) = by fixed.apart
-      where
-        by : (q + n ≤ ARGUMENTS) ⊎ (ARGUMENTS + ARGUMENTS_LEN ≤ q)
-            → take n (drop q (with_bytes memory p bytes)) ≡ take n (drop q memory)
-        by (inl before) = bytes_before memory p bytes inside q n (omega (arith, block.0))
-        by (inr after) = bytes_behind memory p bytes inside q n (omega (arith, block.1))
-
-    pub store_holds : HoldsArea memory → IsOutside p (length bytes)
-        → HoldsArea (with_bytes memory p bytes)
-    store_holds holds outside = record {
-      long = omega (arith, holds.long, length-with_bytes memory p bytes inside);
-      same = λ q n fixed. stays_there q n fixed outside ∙ holds.same q n fixed;
-    }

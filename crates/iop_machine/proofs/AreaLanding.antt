@@ -16,7 +16,7 @@ use Rattle.iop_machine.specs.Modules.{Module, HasRoom, argument_block}
 use Rattle.iop_machine.specs.Stepping.{Boots}
 use Rattle.iop_machine.specs.Storing.{fills, stores_bytes}
 use Rattle.iop_machine.specs.World.{beginning}
-use Rattle.iop_machine.proofs.Area.{HoldsArea, area_holds, store_holds}
+use Rattle.iop_machine.proofs.AreaHolding.{HoldsArea, area_holds, store_holds}
 use Rattle.iop_machine.proofs.AreaReading.{area_is_read}
 use Rattle.iop_machine.proofs.ArgumentReading.{length-argument_block, stored}
 use Rattle.iop_machine.proofs.KeepingMachine.{area_blocks, begins_sound}

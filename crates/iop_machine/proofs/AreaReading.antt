@@ -1,6 +1,6 @@
 -- The kernel's area as the linker and the processor read it.
-use Rattle.std.proofs.Common.{◌≡◌, ℕ, ◌+◌, ◌*◌, ◌^◌, ◌<◌, Some, None, List, [], ◌++◌, length, take, drop, get_or, refl, ap, sym, ◌∙◌, subst, arith, nat_eq, cond, inl, inr, replicate}
-use Rattle.std.proofs.lemmas.Bool.{eq-eqb}
+use Rattle.std.proofs.Common.{◌≡◌, ℕ, ◌+◌, ◌-◌, ◌*◌, ◌^◌, ◌<◌, ◌≤◌, nat_lt, Some, None, List, [], ◌++◌, length, take, drop, get_or, refl, ap, sym, ◌∙◌, subst, arith, nat_eq, cond, inl, inr, replicate}
+use Rattle.std.proofs.lemmas.Bool.{cond_both, eq-eqb}
 use Rattle.std.proofs.lemmas.Bool.Decides.{nat_tests}
 use Rattle.std.proofs.lemmas.List.{get_or-drop, get_or-map, get_or-take, length-append}
 use Rattle.std.proofs.lemmas.List.FromFn.{get_or-enumerate_from}
@@ -16,9 +16,9 @@ use Rattle.iop_isa.specs.Table.{row_of}
 use Rattle.iop_isa.specs.Words.{opcode_of, n_of, function_of as function_field}
 use Rattle.iop_isa.specs.declared.instruction.Inst.TheVariants.{Jr, Syscall}
 use Rattle.iop_kernel.specs.declared.call.TheConstants.{THREAD_RETURN_CALL, HANDLER_RETURN_CALL, MODULE_RETURN_CALL}
-use Rattle.iop_registry.specs.KernelLibraries.{kernel_library, kernel_libraries}
+use Rattle.iop_registry.specs.KernelLibraries.{kernel_table, kernel_library, kernel_libraries}
 use Rattle.iop_registry.specs.declared.registry.Entry.{Entry}
-use Rattle.iop_registry.specs.declared.registry.TheConstants.{KERNEL_TABLES_AT, KERNEL_TABLE_LEN}
+use Rattle.iop_registry.specs.declared.registry.TheConstants.{KERNEL_TABLES_AT, KERNEL_TABLE_LEN, FIRST_LIBRARIES, LATER_TABLES_AT}
 use Rattle.iop_services.specs.Codes.{service_code}
 use Rattle.iop_services.specs.declared.codes.TheConstants.{SERVICES}
 use Rattle.iop_thread.specs.declared.thread.TheConstants.{THREAD_RETURN}
@@ -27,10 +27,12 @@ use Rattle.irx_tables.specs.Exports.{header_of, functions}
 use Rattle.irx_tables.specs.Places.{name_at}
 use Rattle.irx_tables.specs.declared.words.TheConstants.{HEADER_BYTES}
 use Rattle.iop_machine.specs.AreaLaws.{HasCall, HasService, HasLibrary, HasKernel, KernelAreaIsRead}
-use Rattle.iop_machine.specs.KernelArea.{syscall_word, service_at, table_at, each, function_of, table_of, service_of, services_of, return_of, tables, returns, services}
+use Rattle.iop_machine.specs.KernelArea.{syscall_word, service_at, each, function_of, table_of, service_of, services_of, return_of, tables, returns, services, kernel_area}
 use Rattle.iop_machine.specs.World.{zeros}
-use Rattle.iop_machine.specs.declared.kernel_area.TheConstants.{VERSION, TABLE_REST, SERVICES_AT, SERVICES_LEN, SERVICE_LEN}
-use Rattle.iop_machine.proofs.Area.{HasBytes, has_first, has_second, has_item, HoldsArea, area_holds, length-name, length-functions, length-table, length-tables, length-services, length-all_services, has_tables, has_returns, has_services, holds_bytes}
+use Rattle.iop_machine.specs.declared.arguments.TheConstants.{ARGUMENTS}
+use Rattle.iop_machine.specs.declared.kernel_area.TheConstants.{VERSION, TABLE_REST, LATER_LIBRARIES, SERVICES_AT, SERVICES_LEN, SERVICE_LEN}
+use Rattle.iop_machine.proofs.Area.{HasBytes, has_first, has_second, has_item, length-name, length-functions, AreThere, length-table_from, length-tables, length-services, length-all_services, has_first_tables, has_later_tables, has_returns, has_services}
+use Rattle.iop_machine.proofs.AreaHolding.{HoldsArea, area_holds, holds_bytes}
 
 calls_with : (word code : ℕ) → word ≡ syscall_word code → code < 2 ^ 20
     → inst_of word ≡ Some (Syscall code)
@@ -183,13 +185,41 @@ module _ {memory : List ℕ} (holds : HoldsArea memory) where
       (return_of MODULE_RETURN_CALL) all_returns
 
   module _ (library : ℕ) (below : library < length KERNEL_LIBRARIES) where
-    table_there : HasBytes memory (table_at library) (table_of library)
+    -- one of those that stand one behind the other
+    table_among : (at first count i : ℕ) → AreThere first count
+        → HasBytes kernel_area at (tables first count) → at + count * KERNEL_TABLE_LEN ≤ ARGUMENTS
+        → i < count → HasBytes memory (at + i * KERNEL_TABLE_LEN) (table_of (first + i))
+    table_among at first count i there has fits few =
+        let long = length-tables first count there in
+        has_item (λ i. table_of (first + i)) KERNEL_TABLE_LEN count i
+        (λ i below. length-table_from first count i there below) few
+        (holds_bytes at (tables first count) holds (record {
+          below = omega (arith, long, fits);
+          apart = inl (omega (arith, long, fits));
+        }) has)
+
+    table_there : HasBytes memory (kernel_table library) (table_of library)
     table_there =
-        has_item table_of KERNEL_TABLE_LEN (length KERNEL_LIBRARIES) library length-table below
-        (holds_bytes KERNEL_TABLES_AT tables holds (record {
-          below = omega (arith, length-tables);
-          apart = inl (omega (arith, length-tables));
-        }) has_tables)
+        cond_both (nat_lt library FIRST_LIBRARIES) _ _
+        (λ at. HasBytes memory at (table_of library))
+        (λ first. let few : library < FIRST_LIBRARIES = grind (arith, nat_tests, first) in
+        subst (λ n. HasBytes memory (KERNEL_TABLES_AT + library * KERNEL_TABLE_LEN) (table_of n))
+        (omega arith)
+        (table_among KERNEL_TABLES_AT 0 FIRST_LIBRARIES library (omega arith) has_first_tables
+        (omega arith) few))
+        (λ later. let least : FIRST_LIBRARIES ≤ library = grind (arith, nat_tests, later) in
+        let i = library - FIRST_LIBRARIES in
+        subst (λ n. HasBytes memory (LATER_TABLES_AT + i * KERNEL_TABLE_LEN) (table_of n))
+        (omega (arith, least))
+        (table_among LATER_TABLES_AT FIRST_LIBRARIES LATER_LIBRARIES i (omega arith)
+        has_later_tables (omega arith) (omega (arith, least, below))))
+
+    table_ends : kernel_table library + KERNEL_TABLE_LEN ≤ ARGUMENTS
+    table_ends =
+        cond_both (nat_lt library FIRST_LIBRARIES) _ _ (λ at. at + KERNEL_TABLE_LEN ≤ ARGUMENTS)
+        (λ first. let few : library < FIRST_LIBRARIES = grind (arith, nat_tests, first) in
+        omega (arith, few))
+        (λ later. omega (arith, below))
 
     service_there : (number : ℕ) → number < SERVICES
         → HasBytes memory (service_at library number) (service_of library number)
@@ -203,25 +233,25 @@ module _ {memory : List ℕ} (holds : HoldsArea memory) where
         }) has_services))
 
     function_in_table : (number : ℕ) → number < SERVICES
-        → word_at memory (table_at library + HEADER_BYTES + 4 * number)
+        → word_at memory (kernel_table library + HEADER_BYTES + 4 * number)
         ≡ service_at library number
     function_in_table number few =
-        function_there (table_at library) library below table_there number few (omega arith)
+        function_there (kernel_table library) library below table_there number few (omega arith)
 
-    count_is : length (functions memory (table_at library)) ≡ SERVICES
+    count_is : length (functions memory (kernel_table library)) ≡ SERVICES
     count_is =
         let long = holds.long in
-        sym (functions_are memory (table_at library) SERVICES (omega arith)
+        sym (functions_are memory (kernel_table library) SERVICES (omega (arith, table_ends, long))
         (λ j few. let word = function_in_table j few in grind (arith, nat_tests))
-        (λ more. eq-eqb _ _ (end_there (table_at library) library below table_there)))
+        (λ more. eq-eqb _ _ (end_there (kernel_table library) library below table_there)))
 
     library_is : HasLibrary memory library
         (kernel_library (library, slice_index_or KERNEL_LIBRARIES library []))
     library_is = record {
-      header = header_is (table_at library) library below table_there;
+      header = header_is (kernel_table library) library below table_there;
       count = count_is;
       function = λ number few.
-          function_is memory (table_at library) number (omega (arith, count_is))
+          function_is memory (kernel_table library) number (omega (arith, count_is))
           ∙ ap Some (function_in_table number few);
       service = λ number few.
           service_is library number (omega arith) (service_there number few);

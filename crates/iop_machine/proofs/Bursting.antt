@@ -57,6 +57,8 @@ stands_after {m} {s} cpu memory clock h = record {
       semaphores = h.kernel.holds.semaphores;
       event_flags = h.kernel.holds.event_flags;
       mailboxes = h.kernel.holds.mailboxes;
+      variable_pools = h.kernel.holds.variable_pools;
+      fixed_pools = h.kernel.holds.fixed_pools;
       timers = h.kernel.holds.timers;
       irqs = h.kernel.holds.irqs;
     };

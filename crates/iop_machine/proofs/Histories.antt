@@ -6,7 +6,7 @@ use Rattle.iop_kernel.specs.Histories.{Called, called}
 use Rattle.iop_kernel.specs.Laws.{IsCore}
 use Rattle.iop_kernel.specs.Serving.{services}
 use Rattle.iop_kernel.specs.System.{Kernel, System, beginning as kernel_beginning}
-use Rattle.iop_kernel.specs.WaiterPlaces.{HavePlaces}
+use Rattle.iop_kernel.specs.WaiterPlaces.{HavePlacesFor, HavePlaces}
 use Rattle.iop_kernel.proofs.Histories.CountedHistories.{IsHistory, history_grows}
 use Rattle.iop_kernel.proofs.Histories.Counts.{services_count}
 use Rattle.iop_kernel.proofs.Histories.DeliveredHistories.{IsDeliveryHistory, delivery_history_grows}
@@ -24,7 +24,7 @@ use Rattle.iop_machine.specs.Stepping.{step, steps}
 use Rattle.iop_machine.specs.World.{World, beginning}
 use Rattle.iop_machine.proofs.Landing.{runs_stay_sound}
 use Rattle.iop_machine.proofs.ObjectSteps.{AllObjects, objects, ObjectsGo, stay, served, taken_objects, step_objects}
-use Rattle.iop_machine.proofs.PlacesKept.{calling_have}
+use Rattle.iop_machine.proofs.ObjectsHold.{calling_holds}
 
 -- a history tells what has become of the objects
 record Tells (all : AllObjects) (history : List Called) : Type 0 where
@@ -78,7 +78,7 @@ goes_grow s new places (stay same) history h =
 goes_grow s new places (served code core same) history h =
     let system = calling (takes_events s) in
     told_so (longer history (called system code)) same
-    (serves_grow system code core (calling_have s new places) history
+    (serves_grow system code core (calling_holds (HavePlacesFor s.memory) s new places) history
     (told_so history (taken_objects s) h))
 
 -- over whole runs

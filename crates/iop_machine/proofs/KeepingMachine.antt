@@ -6,9 +6,11 @@ use Rattle.iop_base.proofs.Memory.{length-with_bytes}
 use Rattle.iop_exec.specs.Row.{row}
 use Rattle.iop_kernel.specs.Laws.{IsCore}
 use Rattle.iop_kernel.specs.System as kernel
-use Rattle.iop_kernel.specs.WaiterPlaces.{HasPlace, HavePlaces}
+use Rattle.iop_kernel.specs.PoolMemory.{AreSound, PoolsAreSound}
+use Rattle.iop_kernel.specs.WaiterPlaces.{HasPlace, HavePlacesFor, HavePlaces}
 use Rattle.iop_kernel.proofs.Keeping.Steps.{opening_core}
-use Rattle.iop_kernel.proofs.KeptPlaces.{places_in}
+use Rattle.iop_kernel.proofs.KeptPlaces.{places_in, services_have_places}
+use Rattle.iop_kernel.proofs.SoundPools.{services_sound}
 use Rattle.iop_modload.specs.Laws.{HasBlocks}
 use Rattle.iop_script.specs.declared.raise.Raise.{Raise}
 use Rattle.iop_stubs.specs.Binding.{IsBound}
@@ -16,7 +18,7 @@ use Rattle.iop_stubs.specs.Stubs.{Memory}
 use Rattle.iop_stubs.specs.declared.live_stub.Stub.{Stub}
 use Rattle.iop_sysmem.specs.BlockMap.{AreBlocks, IsBlockSize, block_of, end_of}
 use Rattle.iop_sysmem.specs.declared.blocks.TheConstants.{KERNEL}
-use Rattle.iop_thread.specs.declared.kind.Kind.TheVariants.{Semaphore, EventFlag, Mailbox}
+use Rattle.iop_thread.specs.declared.kind.Kind.TheVariants.{Semaphore, EventFlag, Mailbox, VariablePool, FixedPool}
 use Rattle.iop_thread.proofs.KeptSteadily.{begun_steady}
 use Rattle.iop_machine.specs.Events.{CanCome}
 use Rattle.iop_machine.specs.Iop.{Iop, Transition, core_of}
@@ -25,6 +27,7 @@ use Rattle.iop_machine.specs.Laws.{IsSoundWorld, IsMachine}
 use Rattle.iop_machine.specs.Loading.{with_kernel, loads_first, boots}
 use Rattle.iop_machine.specs.Looking.{takes_events, next_coming}
 use Rattle.iop_machine.specs.Modules.{Module}
+use Rattle.iop_machine.specs.Services.{calling}
 use Rattle.iop_machine.specs.Stepping.{step, steps, executed, Turn, Stays as StaysTurn, Boots, turn_of, takes_turn, performs, waits_by}
 use Rattle.iop_machine.specs.World.{World, reset, beginning, zeros}
 use Rattle.iop_machine.proofs.Area.{length-zeros, length-kernel_area}
@@ -34,7 +37,7 @@ use Rattle.iop_machine.proofs.LoadingLands.{events_after, turn_events}
 use Rattle.iop_machine.proofs.LookingLemmas.{taken_clock}
 use Rattle.iop_machine.proofs.Moving.{step_moves}
 use Rattle.iop_machine.proofs.ObjectSteps.{step_objects}
-use Rattle.iop_machine.proofs.PlacesKept.{go_with_places}
+use Rattle.iop_machine.proofs.ObjectsHold.{calling_holds, go_holding}
 use Rattle.iop_machine.proofs.Stepping.{IsTurn, stopped, unbooted, delivery, dispatch, execution, waiting, turn_is}
 
 -- memory behind the kernel's area
@@ -107,6 +110,27 @@ turn_none : (w : World) (t : Turn) → (w.is_new ≡ true → w.iop.memory.live 
 turn_none w StaysTurn none = none
 turn_none w other none = λ new. absurd (cc new)
 
+-- threads that wait keep their places
+step_places : (w : World) → IsSoundWorld w → HavePlaces w.iop.memory (step w).state.iop.kernel
+step_places w h =
+    let s = w.iop in let places = HavePlacesFor s.memory in let new = (step w).state.iop.kernel in
+    go_holding places s new h.places (step_objects w h.core) (λ code.
+    services_have_places (calling (takes_events s)) code (calling_holds places s new h.places))
+
+-- what is out of each pool stays apart and inside of it
+step_pools : (w : World) → IsSoundWorld w → PoolsAreSound (step w).state.iop.kernel
+step_pools w h =
+    let s = w.iop in let new = (step w).state.iop.kernel in
+    let ends : s.blocks.size < 2 ^ 32 =
+    omega (arith, h.whole.same_size, short (length s.memory.ram) h.whole.sound.sized) in
+    go_holding AreSound s new h.pools (step_objects w h.core) (λ code.
+    services_sound (calling (takes_events s)) h.whole.are_blocks ends
+    (calling_holds AreSound s new h.pools) code)
+  where
+    short : (size : ℕ) → IsRamSize size → size < 2 ^ 32
+    short size (inl e) = omega (arith, e)
+    short size (inr e) = omega (arith, e)
+
 pub step_keeps : (w : World) → IsSoundWorld w → StepKeeps w (step w)
 unfolding step
 step_keeps w h =
@@ -118,8 +142,8 @@ step_keeps w h =
         none_live = turn_none w (turn_of w) h.none_live;
         core = (step_moves w h.core).core;
         places = places_in w.iop.memory (step w).state.iop.memory (step w).state.iop.kernel
-            stays.size (go_with_places w.iop (step w).state.iop.kernel h.places
-            (step_objects w h.core));
+            stays.size (step_places w h);
+        pools = step_pools w h;
       };
     }
 
@@ -198,6 +222,16 @@ none_waits : (memory : Memory) → HavePlaces memory kernel.beginning
 none_waits memory Semaphore id = All-nil (λ x. HasPlace Semaphore memory x.item.wants)
 none_waits memory EventFlag id = All-nil (λ x. HasPlace EventFlag memory x.item.wants)
 none_waits memory Mailbox id = All-nil (λ x. HasPlace Mailbox memory x.item.wants)
+none_waits memory VariablePool id = All-nil (λ x. HasPlace VariablePool memory x.item.wants)
+none_waits memory FixedPool id = All-nil (λ x. HasPlace FixedPool memory x.item.wants)
+
+-- and there is no pool
+no_pools : PoolsAreSound kernel.beginning
+no_pools Semaphore id x known = tt
+no_pools EventFlag id x known = tt
+no_pools Mailbox id x known = tt
+no_pools VariablePool id x known = absurd (cc known)
+no_pools FixedPool id x known = absurd (cc known)
 
 module _ (size : ℕ) (modules : List Module) (events : List Raise) (sized : IsRamSize size) where
   pub begins_sound : IsSoundWorld (beginning size modules events)
@@ -215,6 +249,7 @@ module _ (size : ℕ) (modules : List Module) (events : List Raise) (sized : IsR
     none_live = λ e. refl;
     core = begins_as_core size modules events;
     places = none_waits (reset size modules events).memory;
+    pools = no_pools;
   }
 
   -- it begins as a machine

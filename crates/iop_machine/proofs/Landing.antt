@@ -2,8 +2,12 @@
 use Rattle.std.proofs.Common.{◌⊎◌, inl, inr, ℕ, zero, suc, List, ◌++◌, Contains, arith}
 use Rattle.std.proofs.lemmas.List.Elements.{Contains-append_cases, Contains-append_left, Contains-append_right}
 use Rattle.iop_base.specs.Places.{IsRamSize}
+use Rattle.iop_pools.specs.declared.fixed_pool.TheConstants.{MOST_BLOCKS}
+use Rattle.iop_pools.specs.declared.variable_pool.TheConstants.{MOST_RANGES}
+use Rattle.iop_pools.proofs.LeastPlaces.{pools_apart}
 use Rattle.iop_script.specs.declared.raise.Raise.{Raise}
 use Rattle.iop_stubs.specs.declared.live_stub.Stub.{Stub}
+use Rattle.iop_thread.specs.declared.kind.Kind.TheVariants.{VariablePool, FixedPool}
 use Rattle.iop_machine.specs.Iop.{Transition, and_then}
 use Rattle.iop_machine.specs.Laws.{IsSoundWorld, StaysSound, RunsStaySound}
 use Rattle.iop_machine.specs.Modules.{Module}
@@ -102,6 +106,8 @@ reached size modules events k sized =
       ];
       core = h.sound.core;
       places = h.sound.places;
+      variable_pools = λ id x live. pools_apart.apart MOST_RANGES x (h.sound.pools VariablePool id x live);
+      fixed_pools = λ id x live. pools_apart.apart MOST_BLOCKS x (h.sound.pools FixedPool id x live);
     }
 
 pub runs_stay_sound : RunsStaySound

@@ -35,12 +35,13 @@ pub mod Landing
 mod Strict
 mod Switching
 mod ObjectSteps
-mod PlacesKept
+mod ObjectsHold
 mod ObjectsLeft
 mod EventsTaken
 mod EventsChange
 mod Histories
 mod Area
+mod AreaHolding
 mod AreaReading
 mod AreaLanding
 mod ArgumentReading

@@ -16,6 +16,8 @@ use Rattle.iop_kernel.specs.declared.after.After.TheVariants.{Resume, Switch, Mo
 use Rattle.iop_kernel.proofs.Keeping.Outcomes.{services_alone}
 use Rattle.iop_kernel.proofs.Order.First.{deliveries_are_in_order}
 use Rattle.iop_mbx.specs.Mailboxes.{Mailboxes}
+use Rattle.iop_pools.specs.FixedPools.{FixedPools}
+use Rattle.iop_pools.specs.VariablePools.{VariablePools}
 use Rattle.iop_sema.specs.Semaphores.{Semaphores}
 use Rattle.iop_thread.specs.declared.kind.Kind.{Kind}
 use Rattle.iop_machine.specs.Histories.{call_at, call_by, call_in}
@@ -32,14 +34,14 @@ use Rattle.iop_machine.proofs.Stepping.{IsTurn, stopped, unbooted, delivery, dis
 
 -- the objects of all kinds
 abbrev pub AllObjects : Type 0
-AllObjects = Semaphores × EventFlags × Mailboxes
+AllObjects = Semaphores × EventFlags × Mailboxes × VariablePools × FixedPools
 
 abbrev pub objects : Kernel → AllObjects
-objects k = (k.semaphores, k.event_flags, k.mailboxes)
+objects k = (k.semaphores, k.event_flags, k.mailboxes, k.variable_pools, k.fixed_pools)
 
 -- those of one kind
 abbrev pub objects_in : (kind : Kind) → AllObjects → Table kind
-objects_in kind all = of_kind kind all.0 all.1 all.2
+objects_in kind (semaphores, flags, boxes, vpls, fpls) = of_kind kind semaphores flags boxes vpls fpls
 
 -- what a step leaves of the objects, by the call that it makes
 pub data ObjectsGo (s : Iop) (new : Kernel) : Option Called → Type 0 where

@@ -7,8 +7,8 @@ use Rattle.iop_base.specs.declared.libraries.TheConstants.{KERNEL_LIBRARIES}
 use Rattle.iop_base.specs.declared.words.TheConstants.{EXPORT_MAGIC, JUMP_BACK}
 use Rattle.iop_kernel.specs.declared.call.TheConstants.{THREAD_RETURN_CALL, HANDLER_RETURN_CALL, MODULE_RETURN_CALL}
 use Rattle.iop_machine.specs.World.{zeros}
-use Rattle.iop_machine.specs.declared.kernel_area.TheConstants.{AREA_LEN, VERSION, TABLE_REST, SERVICES_AT, SERVICES_LEN, SERVICE_LEN}
-use Rattle.iop_registry.specs.declared.registry.TheConstants.{KERNEL_TABLES_AT, KERNEL_TABLE_LEN}
+use Rattle.iop_machine.specs.declared.kernel_area.TheConstants.{AREA_LEN, VERSION, TABLE_REST, LATER_LIBRARIES, SERVICES_AT, SERVICES_LEN, SERVICE_LEN}
+use Rattle.iop_registry.specs.declared.registry.TheConstants.{KERNEL_TABLES_AT, FIRST_LIBRARIES, LATER_TABLES_AT}
 use Rattle.iop_services.specs.Codes.{service_code}
 use Rattle.iop_services.specs.declared.codes.TheConstants.{SERVICES}
 use Rattle.iop_thread.specs.declared.thread.TheConstants.{THREAD_RETURN}
@@ -16,10 +16,6 @@ use Rattle.iop_thread.specs.declared.thread.TheConstants.{THREAD_RETURN}
 -- syscall code
 abbrev pub syscall_word : ℕ → ℕ
 syscall_word code = code * 2 ^ 6 + 0xC
-
--- the place of the export table of a library
-abbrev pub table_at : ℕ → ℕ
-table_at library = KERNEL_TABLES_AT + library * KERNEL_TABLE_LEN
 
 -- the place of a service
 abbrev pub service_at : (library number : ℕ) → ℕ
@@ -54,10 +50,17 @@ services_of library = each (service_of library) SERVICES
 abbrev pub return_of : ℕ → List ℕ
 return_of code = bytes_of 4 (syscall_word code) ++ replicate 12 0
 
--- the export tables of all kernel libraries, the three returns, and the services of all libraries
-abbrev pub tables : List ℕ
-tables = each table_of (length KERNEL_LIBRARIES)
+-- the export tables of so many kernel libraries from one on
+abbrev pub tables : (first count : ℕ) → List ℕ
+tables first count = each (λ i. table_of (first + i)) count
 
+abbrev pub first_tables : List ℕ
+first_tables = tables 0 FIRST_LIBRARIES
+
+abbrev pub later_tables : List ℕ
+later_tables = tables FIRST_LIBRARIES LATER_LIBRARIES
+
+-- the three returns, and the services of all libraries
 abbrev pub returns : List ℕ
 returns =
     return_of THREAD_RETURN_CALL ++ return_of HANDLER_RETURN_CALL ++ return_of MODULE_RETURN_CALL
@@ -65,9 +68,11 @@ returns =
 abbrev pub services : List ℕ
 services = each services_of (length KERNEL_LIBRARIES)
 
--- each of the three in its place, over zeros
+-- each of these in its place, over zeros
+abbrev pub with_tables : List ℕ
+with_tables =
+    with_bytes (with_bytes (zeros AREA_LEN) LATER_TABLES_AT later_tables) KERNEL_TABLES_AT
+    first_tables
+
 unfoldable pub kernel_area : List ℕ
-kernel_area =
-    with_bytes
-    (with_bytes (with_bytes (zeros AREA_LEN) KERNEL_TABLES_AT tables) THREAD_RETURN returns)
-    SERVICES_AT services
+kernel_area = with_bytes (with_bytes with_tables THREAD_RETURN returns) SERVICES_AT services

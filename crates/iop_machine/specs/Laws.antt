@@ -7,6 +7,9 @@ use Rattle.iop_base.specs.declared.stop.Stop.TheVariants.{Quiet}
 use Rattle.iop_script.specs.declared.raise.Raise.{Raise}
 use Rattle.iop_stubs.specs.declared.live_stub.Stub.{Stub}
 use Rattle.iop_modload.specs.Laws.{HasBlocks}
+use Rattle.iop_objects.specs.Objects.{state_of}
+use Rattle.iop_pools.specs.Laws.{Apart}
+use Rattle.iop_pools.specs.Pools.{Pool}
 use Rattle.iop_machine.specs.Histories.{calls_in}
 use Rattle.iop_machine.specs.Events.{CanCome}
 use Rattle.iop_machine.specs.Looking.{takes_events, next_coming, at_moment}
@@ -18,6 +21,7 @@ use Rattle.iop_kernel.specs.Laws.{IsCore, IsSwitch}
 use Rattle.iop_kernel.specs.Deliveries.{Delivered, delivers}
 use Rattle.iop_kernel.specs.Dispatching.{Dispatched, dispatches}
 use Rattle.iop_kernel.specs.Overdue.{NoMomentHasCome}
+use Rattle.iop_kernel.specs.PoolMemory.{PoolsAreSound}
 use Rattle.iop_kernel.specs.System.{Core, in_handler, is_active, may_dispatch}
 use Rattle.iop_kernel.specs.WaiterPlaces.{HavePlaces}
 use Rattle.iop_thread.specs.Laws.{IsSettled}
@@ -62,6 +66,8 @@ pub record IsSoundWorld (w : World) : Type 0 where
   pub core : IsCore (core_of w.iop)
   -- each thread that waits has a place in memory for what it is told
   pub places : HavePlaces w.iop.memory w.iop.kernel
+  -- what is out of each pool is apart and inside of it
+  pub pools : PoolsAreSound w.iop.kernel
 
 -- what holds of every machine
 pub record IsMachine (w : World) : Type 0 where
@@ -108,6 +114,9 @@ pub record StaysSound (stubs : List Stub) (s : Iop) : Type 0 where
   pub core : IsCore (core_of s)
   -- each thread that waits has a place for what it is told
   pub places : HavePlaces s.memory s.kernel
+  -- no two ranges of memory that are out of a pool meet, and all are inside of it
+  pub variable_pools : (id : ℕ) (x : Pool) → state_of s.kernel.variable_pools id ≡ Some x → Apart x
+  pub fixed_pools : (id : ℕ) (x : Pool) → state_of s.kernel.fixed_pools id ≡ Some x → Apart x
 
 abbrev pub RunsStaySound : Type 0
 RunsStaySound =

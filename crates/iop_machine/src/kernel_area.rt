@@ -8,11 +8,10 @@ ghost use Rattle.iop_machine.specs.KernelArea.{syscall_word, table_of, service_o
 ghost use Rattle.iop_machine.specs.World.{zeros};
 ghost use Rattle.iop_services.specs.Codes.{service_code};
 
-use crate::arguments::ARGUMENTS;
 use arrayvec::ArrayVec;
 use iop_base::{EXPORT_MAGIC, JUMP_BACK, KERNEL_LIBRARIES, Lines};
 use iop_kernel::{HANDLER_RETURN_CALL, MODULE_RETURN_CALL, THREAD_RETURN_CALL};
-use iop_registry::{KERNEL_TABLE_LEN, KERNEL_TABLES_AT};
+use iop_registry::{FIRST_LIBRARIES, KERNEL_TABLE_LEN, KERNEL_TABLES_AT, LATER_TABLES_AT};
 use iop_services::{SERVICES, service_code};
 use iop_stubs::Guest;
 use iop_text::append;
@@ -25,8 +24,14 @@ pub(crate) const AREA_LEN: u32 = 0x10000;
 /// The version of the kernel's libraries, and mode 0.
 pub(crate) const VERSION: u32 = 0x0101;
 
-/// How many bytes the export tables may have: they end where the argument block begins.
-const TABLES_LEN: usize = (ARGUMENTS - KERNEL_TABLES_AT) as usize;
+/// How many libraries have their export tables from `LATER_TABLES_AT` on.
+pub(crate) const LATER_LIBRARIES: u32 = KERNEL_LIBRARIES.len() as u32 - FIRST_LIBRARIES;
+
+/// How many bytes the export tables of the first libraries have.
+const FIRST_TABLES_LEN: usize = (FIRST_LIBRARIES * KERNEL_TABLE_LEN) as usize;
+
+/// How many bytes those of the later libraries have.
+const LATER_TABLES_LEN: usize = (LATER_LIBRARIES * KERNEL_TABLE_LEN) as usize;
 
 /// How many zeros stand between an export table, which ends with a word 0, and the next one.
 pub(crate) const TABLE_REST: usize = (KERNEL_TABLE_LEN - HEADER_BYTES - 4 * SERVICES - 4) as usize;
@@ -68,9 +73,9 @@ fn append_word<const ROOM: usize>(bytes: &mut ArrayVec<u8, ROOM>, word: u32)
 
 /// Appends the export table of a kernel library, whose functions are its services.
 #[tactic(auto, using(crate::proofs::Area::rows))]
-fn append_table(tables: &mut ArrayVec<u8, TABLES_LEN>, library: u32)
+fn append_table<const ROOM: usize>(tables: &mut ArrayVec<u8, ROOM>, library: u32)
     requires library { library < length KERNEL_LIBRARIES }
-    requires room { array_vec_len tables.old + KERNEL_TABLE_LEN ≤ TABLES_LEN }
+    requires room { array_vec_len tables.old + KERNEL_TABLE_LEN ≤ ROOM }
     ensures bytes { tables.new.items ≡ tables.old.items ++ table_of library }
     ensures long { array_vec_len tables.new ≡ array_vec_len tables.old + KERNEL_TABLE_LEN }
 {
@@ -86,14 +91,16 @@ fn append_table(tables: &mut ArrayVec<u8, TABLES_LEN>, library: u32)
     append(tables, &[0; TABLE_REST]);
 }
 
-/// Makes the export tables of the kernel's libraries.
+/// Makes the export tables of so many of the kernel's libraries, from one on.
 #[tactic(auto, using(crate::proofs::Area::rows))]
-fn tables() -> ArrayVec<u8, TABLES_LEN>
-    ensures { result.items ≡ tables }
+fn tables<const ROOM: usize>(first: u32, count: u32) -> ArrayVec<u8, ROOM>
+    requires libraries { first + count ≤ length KERNEL_LIBRARIES }
+    requires room { KERNEL_TABLE_LEN * count ≤ ROOM }
+    ensures { result.items ≡ tables first count }
 {
     let mut tables = ArrayVec::new();
-    for library in 0..KERNEL_LIBRARIES.len() {
-        append_table(&mut tables, library as u32);
+    for library in 0..count {
+        append_table(&mut tables, first + library);
     }
     tables
 }
@@ -188,7 +195,10 @@ pub(crate) fn write_kernel_area<L: Lines>(guest: &mut Guest, lines: &mut L)
     ensures same_size { length guest.new.ram ≡ length guest.old.ram }
 {
     clear(guest, AREA_LEN, lines);
-    store(guest, KERNEL_TABLES_AT, &tables(), lines);
+    let later_tables: ArrayVec<u8, LATER_TABLES_LEN> = tables(FIRST_LIBRARIES, LATER_LIBRARIES);
+    store(guest, LATER_TABLES_AT, &later_tables, lines);
+    let first_tables: ArrayVec<u8, FIRST_TABLES_LEN> = tables(0, FIRST_LIBRARIES);
+    store(guest, KERNEL_TABLES_AT, &first_tables, lines);
     store(guest, THREAD_RETURN, &returns(), lines);
     store(guest, SERVICES_AT, &services(), lines);
 }

@@ -95,7 +95,7 @@ pub fn modules_begin_with()
 /// of that memory, each live stub is one that a linking has bound on the way, threads stand where
 /// their states say, no wait is overdue, and outside a delay slot the next instruction of each is
 /// the one behind. What is pending of a load is for a register but 0, and nothing is pending where
-/// a thread waits.
+/// a thread waits. No two ranges of memory that are out of a pool meet, and all are inside of it.
 pub fn runs_stay_sound()
     ensures { RunsStaySound }
 {}

@@ -1,7 +1,7 @@
 -- A range that is given back.
-use Rattle.std.proofs.Common.{◌≡◌, ◌≢◌, ℕ, ◌∙◌, Bool, true, false, Some, None, is_some, List, ap, sym, refl, subst, ◌+◌, ◌<◌, if◌then◌else◌}
-use Rattle.iop_objects.specs.Objects.{Objects, object_of}
-use Rattle.iop_pools.specs.Pools.{Pools, ranges_in, with_ranges, has_out, frees}
+use Rattle.std.proofs.Common.{◌≡◌, ◌≢◌, ℕ, ◌∙◌, Bool, true, false, Option, Some, None, is_some, List, ap, sym, subst, ◌+◌, ◌<◌, if◌then◌else◌}
+use Rattle.iop_objects.specs.Objects.{Objects, AreObjects, object_of, state_of}
+use Rattle.iop_pools.specs.Pools.{Pool, Pools, with_ranges, has_out, frees_it, frees}
 use Rattle.iop_pools.specs.Ranges.{is_out, without}
 use Rattle.iop_pools.specs.Standing.{ranges_of, pools_in, AreInOrder, ArePlaced, IsTable}
 use Rattle.iop_pools.specs.Walks.{is_this, without_out}
@@ -9,8 +9,8 @@ use Rattle.iop_pools.specs.declared.layout.Layout.{Layout}
 use Rattle.iop_pools.specs.declared.out.Out.{Out}
 use Rattle.iop_pools.proofs.Gaps.{order-without, placed-without}
 use Rattle.iop_pools.proofs.Outs.{found-is, ranges_of-without, ranges_of-without_other}
-use Rattle.iop_pools.proofs.Sound.{ranges_in-is}
-use Rattle.iop_pools.proofs.Tables.{Keeps, pools_in-changed, IsTable-changed, All-without_out}
+use Rattle.iop_pools.proofs.Sound.{pool, state_is, state_none, ranges_in-is}
+use Rattle.iop_pools.proofs.Tables.{Keeps, pools_in-changed, IsTable-changed, All-without_out, one_alone}
 use Rattle.std.specs.List.{position}
 
 module _ {W : Type 0} (objects : Objects Layout W) (outs : List Out) (most : ℕ)
@@ -46,49 +46,44 @@ module _ {W : Type 0} (objects : Objects Layout W) (outs : List Out) (most : ℕ
       table.owned)
       (All-without_out (λ o. o.pool < objects.next) id block outs table.given)
 
-  abbrev outcome : Bool → Bool × Pools W
-  outcome b =
-      if b then (true, with_ranges own id (without block (ranges_in own id))) else (false, own)
-
-  out_is : has_out own id block ≡ is_some (position (is_this id block) outs)
-  out_is =
-      ap (is_out block) (ranges_in-is objects outs most table id) ∙ sym (found-is id block outs)
-
   pub has_out-is : is_some (position (is_this id block) outs) ≡ has_out own id block
-  has_out-is = sym out_is
+  has_out-is =
+      found-is id block outs
+      ∙ ap (is_out block) (sym (ranges_in-is objects outs most table id))
 
-  module _ (place : ℕ) (at : Some place ≡ position (is_this id block) outs) where
-    here : has_out own id block ≡ true
-    here = out_is ∙ ap is_some (sym at)
+  -- no pool of this id is live
+  pub frees_unknown : None ≡ state_of objects id → frees own id block ≡ (None, own)
+  frees_unknown none = ap (frees_it own id block) (state_none objects outs most table id none)
 
-    pub freed_answer : true ≡ (frees own id block).0
-    freed_answer = sym (by (has_out own id block) here)
-      where
-        by : (b : Bool) → b ≡ true
-            → (outcome b).0 ≡ true
-        by true e = refl
-        by false e = cc
+  module _ (x : Layout) (live : Some x ≡ state_of objects id) where
+    abbrev one : Pool
+    one = pool objects outs most table id x live
 
-    pub freed_left : pools_in objects left ≡ (frees own id block).1
-    freed_left =
-        pools_in-changed objects id outs left others
-        ∙ ap (with_ranges own id) (ranges_of-without id block outs
-        ∙ ap (without block) (sym (ranges_in-is objects outs most table id)))
-        ∙ sym (by (has_out own id block) here)
-      where
-        by : (b : Bool) → b ≡ true
-            → (outcome b).1 ≡ with_ranges own id (without block (ranges_in own id))
-        by true e = refl
-        by false e = cc
+    abbrev outcome : Bool → Option Bool × Pools W
+    outcome b =
+        if b then (Some true, with_ranges own id one (without block one.ranges))
+        else (Some false, own)
 
-  module _ (none : None ≡ position (is_this id block) outs) where
-    not_here : has_out own id block ≡ false
-    not_here = out_is ∙ ap is_some (sym none)
+    frees_is : (b : Bool) → b ≡ is_some (position (is_this id block) outs)
+        → frees own id block ≡ outcome b
+    frees_is b is =
+        ap (frees_it own id block) (state_is objects outs most table id x live)
+        ∙ ap outcome (sym (is ∙ found-is id block outs))
 
-    pub not_freed : frees own id block ≡ (false, own)
-    not_freed = by (has_out own id block) not_here
-      where
-        by : (b : Bool) → b ≡ false
-            → outcome b ≡ outcome false
-        by true e = cc
-        by false e = refl
+    module _ (place : ℕ) (at : Some place ≡ position (is_this id block) outs) where
+      freed : frees own id block ≡ outcome true
+      freed = frees_is true (ap is_some at)
+
+      pub freed_answer : Some true ≡ (frees own id block).0
+      freed_answer = sym (ap (λ t. t.0) freed)
+
+      pub freed_left : AreObjects objects → pools_in objects left ≡ (frees own id block).1
+      freed_left are =
+          pools_in-changed objects id outs left others x
+          (one_alone id objects.live x are.ids (sym live))
+          ∙ ap (with_ranges own id one) (ranges_of-without id block outs)
+          ∙ sym (ap (λ t. t.1) freed)
+
+    pub not_freed : None ≡ position (is_this id block) outs
+        → frees own id block ≡ (Some false, own)
+    not_freed none = frees_is false (ap is_some none)

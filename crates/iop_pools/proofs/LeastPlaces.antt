@@ -6,11 +6,12 @@ use Rattle.std.specs.List.{list_all, range_with_len}
 use Rattle.std.proofs.lemmas.Bool.{eqb-true, leb-true, leb-false, le-leb}
 use Rattle.std.proofs.lemmas.Bool.Decides.{Decides-and, Decides-or, Decides-by_and}
 use Rattle.std.proofs.lemmas.List.Elements.{All-nil, All-cons, All-weaker}
-use Rattle.iop_pools.specs.Laws.{Apart, IsFree, TakesLeast, IsFull, IsFreed, PoolsAreApart}
+use Rattle.iop_pools.specs.Laws.{range_of, Apart, IsFree, TakesLeast, IsFull, IsFreed, PoolsAreApart}
 use Rattle.iop_pools.specs.Pools.{Pool, Pools, length_for, place_for, units_of}
 use Rattle.iop_pools.specs.Ranges.{end_of, is_apart, is_free, is_out, without}
 use Rattle.iop_pools.specs.Standing.{AreInOrder, IsPlace, IsPool, ArePools}
 use Rattle.iop_pools.specs.declared.range.Range.{Range}
+use Rattle.iop_pools.proofs.GreatestFree.{greatest_is_most}
 use Rattle.iop_pools.proofs.RangesOf.{order-le}
 use Rattle.iop_pools.proofs.Taking.{ceil_some}
 
@@ -44,6 +45,7 @@ all_disjoint from end (r ∷ rs) order (suc i) (suc j) d less below =
 -- what is given back meets none of the others
 pub record Freed (block from end : ℕ) (rs : List Range) : Type 0 where
   pub range : Range
+  pub is : range_of block rs ≡ Some range
   pub start : range.start ≡ block
   pub some : 0 < range.size
   pub behind : from ≤ block
@@ -64,6 +66,7 @@ freed_range block from end (r ∷ rs) order is =
         let start = eqb-true r.start block here in
         record {
           range = r;
+          is = rw here refl;
           start = start;
           some = order.1;
           behind = omega (arith, order.0, start);
@@ -78,6 +81,7 @@ freed_range block from end (r ∷ rs) order is =
         let rest = later e in
         record {
           range = rest.range;
+          is = rw here rest.is;
           start = rest.start;
           some = rest.some;
           behind = omega (arith, order.0, order.1, rest.behind);
@@ -236,13 +240,21 @@ module _ (most : ℕ) (x : Pool) (sound : IsPool most x) where
       let one = freed_range block x.base (x.base + x.size) x.ranges sound.order is in
       record {
         range = one.range;
+        is = one.is;
         start = one.start;
         some = one.some;
         free = record { inside = omega (arith, one.inside, one.start); apart = one.apart };
       }
 
 pub pools_apart : PoolsAreApart
-pools_apart = record { apart = apart; takes = takes'; full = full'; freed = freed }
+pools_apart =
+    record {
+      apart = apart;
+      takes = takes';
+      full = full';
+      freed = freed;
+      greatest = greatest_is_most;
+    }
   where
     takes' : (most : ℕ) (x : Pool) → IsPool most x → (size place : ℕ) → 0 < size
         → place_for x size ≡ Some place → TakesLeast x size place

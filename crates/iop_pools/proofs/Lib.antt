@@ -8,9 +8,18 @@ pub mod Sound
 pub mod Freeing
 pub mod Capacity
 pub mod Taking
+pub mod Sizes
 pub mod Making
 pub mod Meeting
+pub mod MetNext
+pub mod Fuller
+pub mod KeptPools
 pub mod Layouts
+pub mod GreatestFree
 pub mod LeastPlaces
 mod ChangesOne
 mod NextMet
+mod MemoryOut
+mod MeetsNext
+mod Giving
+mod Takes

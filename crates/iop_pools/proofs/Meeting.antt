@@ -183,7 +183,7 @@ module _ {T : Type 0} (p : T → Bool) where
       by false here None rest e = cc
       by false here (Some d) rest e = first e (rest d refl)
 
-  next_holds : (b : Bool) (queue : List (Queued T)) (c : Choice T)
+  pub next_holds : (b : Bool) (queue : List (Queued T)) (c : Choice T)
       → chooses_next_where b p queue ≡ Some c → p c.one.item ≡ true
   next_holds true queue c e = best_holds queue c e
   next_holds false queue c e = (first_where p queue c e).holds

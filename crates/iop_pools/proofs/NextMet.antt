@@ -1,8 +1,6 @@
--- The thread that is next of those whose size fits is the one that is chosen among them.
+-- The next one of which a condition holds is the one that is chosen among those of which it does.
 use Rattle.std.proofs.Common.{◌≡◌, Bool, true, false, cond, nat_lt, Option, Some, None, option_map, List, [], ◌∷◌, refl, ap, sym, ◌∙◌}
 use Rattle.std.specs.Prelude.{if◌then◌else◌}
-use Rattle.iop_pools.specs.Laws.{NextIsMet}
-use Rattle.iop_pools.specs.VariablePools.{fits}
 use Rattle.iop_queues.specs.Queue.{Choice, chooses, chooses_behind, chooses_best, chooses_best_where, chooses_between, chooses_first, chooses_next_where, chooses_where}
 use Rattle.iop_queues.specs.Queues.{those_where}
 use Rattle.iop_queues.specs.declared.queued.Queued.{Queued}
@@ -58,11 +56,8 @@ module _ {T : Type 0} (p : T → Bool) where
       by true later = refl
       by false later = behind x (chooses_where p xs) ∙ later
 
-  next : (by_priority : Bool) (queue : List (Queued T))
+  pub next : (by_priority : Bool) (queue : List (Queued T))
       → one (chooses_next_where by_priority p queue)
       ≡ one (chooses by_priority (those_where p queue))
   next true queue = best queue
   next false queue = first queue
-
-pub next_met : NextIsMet
-next_met = record { next = λ x by_priority queue. next (fits x) by_priority queue }

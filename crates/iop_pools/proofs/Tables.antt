@@ -4,9 +4,9 @@ use Rattle.std.specs.Prelude.{◌==◌}
 use Rattle.std.proofs.lemmas.Bool.{eqb-true, eqb-false}
 use Rattle.std.proofs.lemmas.List.Elements.{All-nil, All-cons, All-head, All-tail, All-weaker}
 use Rattle.iop_base.proofs.Searching.{AllPairs-head, AllPairs-tail}
-use Rattle.iop_objects.specs.Objects.{Object, Objects, object_of}
+use Rattle.iop_objects.specs.Objects.{Object, Objects, object_of, with_state}
 use Rattle.iop_objects.proofs.Tables.{table_of}
-use Rattle.iop_pools.specs.Pools.{Pool, with_ranges}
+use Rattle.iop_pools.specs.Pools.{Pool}
 use Rattle.iop_pools.specs.Standing.{ranges_of, pool_with, pool_in, pools_in, IsPool, IsTable}
 use Rattle.iop_pools.specs.Walks.{is_this, is_behind, with_out, without_out}
 use Rattle.iop_pools.specs.declared.layout.Layout.{Layout}
@@ -72,7 +72,7 @@ module _ {A W : Type 0} where
       by None e = cc
       by (Some o) e = refl
 
-  abbrev IsOwn : ℕ → A → Object A W → Type 0
+  abbrev pub IsOwn : ℕ → A → Object A W → Type 0
   IsOwn id x p = p.id ≡ id → p.state ≡ x
 
   -- no other object has its id
@@ -100,26 +100,32 @@ module _ {W : Type 0} (objects : Objects Layout W) (id : ℕ) (outs left : List 
   abbrev pool : Object Layout W → List Range → Object Pool W
   pool o rs = record { id = o.id; state = pool_with o.state rs; waiters = o.waiters }
 
-  abbrev changed : Object Pool W → Object Pool W
-  changed o = record o { state = record o.state { ranges = ranges_of id left } }
+  module _ (x : Layout) where
+    abbrev changed : Object Pool W → Object Pool W
+    changed o = record o { state = pool_with x (ranges_of id left) }
 
-  each : (live : List (Object Layout W))
-      → map (pool_in left) live
-      ≡ map (λ o. if o.id == id then changed o else o) (map (pool_in outs) live)
-  each [] = refl
-  each (o ∷ live) =
-      ap (λ p. p ∷ map (pool_in left) live) (by (o.id == id) refl)
-      ∙ ap (λ l. (if o.id == id then changed (pool_in outs o) else pool_in outs o) ∷ l) (each live)
-    where
-      by : (b : Bool) → (o.id == id) ≡ b
-          → pool_in left o ≡ (if b then changed (pool_in outs o) else pool_in outs o)
-      by true is = ap (λ n. pool o (ranges_of n left)) (eqb-true o.id id is)
-      by false is = ap (pool o) (others o.id (eqb-false o.id id is))
+    each : (live : List (Object Layout W)) → All (IsOwn id x) live
+        → map (pool_in left) live
+        ≡ map (λ o. if o.id == id then changed o else o) (map (pool_in outs) live)
+    each [] own = refl
+    each (o ∷ live) own =
+        ap (λ p. p ∷ map (pool_in left) live)
+        (by (o.id == id) refl (All-head (IsOwn id x) o live own))
+        ∙ ap (λ l. (if o.id == id then changed (pool_in outs o) else pool_in outs o) ∷ l)
+        (each live (All-tail (IsOwn id x) o live own))
+      where
+        by : (b : Bool) → (o.id == id) ≡ b → IsOwn id x o
+            → pool_in left o ≡ (if b then changed (pool_in outs o) else pool_in outs o)
+        by true is own =
+            ap (λ n. pool o (ranges_of n left)) (eqb-true o.id id is)
+            ∙ ap (λ (y : Layout). pool (record o { state = y }) (ranges_of id left))
+            (own (eqb-true o.id id is))
+        by false is own = ap (pool o) (others o.id (eqb-false o.id id is))
 
-  -- the ranges of one pool are others
-  pub pools_in-changed : pools_in objects left
-      ≡ with_ranges (pools_in objects outs) id (ranges_of id left)
-  pools_in-changed = ap (λ l. table_of l objects.next) (each objects.live)
+    -- the ranges of one pool are others
+    pub pools_in-changed : All (IsOwn id x) objects.live → pools_in objects left
+        ≡ with_state (pools_in objects outs) id (pool_with x (ranges_of id left))
+    pools_in-changed own = ap (λ l. table_of l objects.next) (each objects.live own)
 
   module _ (most : ℕ) where
     -- a pool of this layout stays sound with the ranges that are left

@@ -110,12 +110,6 @@ module _ {W : Type 0} (objects : Objects Layout W) (outs : List Out) (most : ℕ
       pub takes_answer : Some p ≡ (takes_place own id size).0
       takes_answer = sym (ap (λ t. t.0) (takes_by (Some p) gap))
 
-      pub takes_left : pools_in objects left ≡ (takes_place own id size).1
-      takes_left =
-          pools_in-changed objects id outs left others ∙ ap (with_ranges own id) ranges_left
-          ∙ ap (λ n. with_ranges own id (with_range (range_at p n) ranges)) len_is
-          ∙ sym (ap (λ t. t.1) (takes_by (Some p) gap))
-
       first : IsPlace x.base x.unit p
       first =
           placed-gap x.base x.unit x.base end len p ranges (0, omega arith) sound.placed (sym gap)
@@ -139,6 +133,14 @@ module _ {W : Type 0} (objects : Objects Layout W) (outs : List Out) (most : ℕ
       }
 
       module _ (are : AreObjects objects) where
+        pub takes_left : pools_in objects left ≡ (takes_place own id size).1
+        takes_left =
+            pools_in-changed objects id outs left others x
+            (one_alone id objects.live x are.ids (sym live))
+            ∙ ap (with_ranges own id one) ranges_left
+            ∙ ap (λ n. with_ranges own id one (with_range (range_at p n) ranges)) len_is
+            ∙ sym (ap (λ t. t.1) (takes_by (Some p) gap))
+
         pub IsTable-took : IsTable objects left most
         IsTable-took =
             IsTable-changed objects id outs left others most table

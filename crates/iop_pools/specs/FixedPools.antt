@@ -7,8 +7,8 @@ use Rattle.iop_base.specs.declared.code.TheConstants.Code.{OK, NO_MEMORY, ILLEGA
 use Rattle.iop_objects.specs.Objects as objects
 use Rattle.iop_objects.specs.Objects.{state_of, waiters_of, takes_next}
 use Rattle.iop_objects.specs.declared.waiter.Waiter.{Waiter}
-use Rattle.iop_pools.specs.Pools.{Pool, Pools, is_attribute, by_priority, units_of, takes_place, frees, has_out}
-use Rattle.iop_pools.specs.Ranges.{rounded}
+use Rattle.iop_pools.specs.Pools.{Pool, Pools, is_attribute, by_priority, units_of, takes_place, with_ranges}
+use Rattle.iop_pools.specs.Ranges.{rounded, is_out, without}
 use Rattle.iop_pools.specs.declared.fixed_pool.FixedPool.{FixedPool}
 use Rattle.iop_pools.specs.declared.fixed_pool.TheConstants.{FIXED_UNIT, MOST_BLOCK_BYTES, MOST_BLOCKS}
 
@@ -28,19 +28,18 @@ bytes attr size count =
     then Err ILLEGAL_SIZE
     else Ok (block_for size * count)
 
-module _ (s : FixedPools) where
-  -- what is known of a pool
-  abbrev pub status_of : ℕ → Pool → FixedPool
-  status_of id x = record {
-    attr = x.attr;
-    option = x.option;
-    base = x.base;
-    size = x.unit;
-    count = units_of x;
-    free = units_of x - length x.ranges;
-    waiters = length (waiters_of s id);
-  }
+-- what is known of a pool
+abbrev pub status_of : Pool → FixedPool
+status_of x = record {
+  attr = x.attr;
+  option = x.option;
+  base = x.base;
+  size = x.unit;
+  count = units_of x;
+  free = units_of x - length x.ranges;
+}
 
+module _ (s : FixedPools) where
   -- a pool is made
   abbrev pub creates : (attr option size count base : ℕ) → Result ℕ Code × FixedPools
   creates attr option size count base = objects.creates s (record {
@@ -73,15 +72,15 @@ module _ (s : FixedPools) where
   takes id = takes_it id (state_of s id)
 
   -- a block is given back: it goes to the next thread that waits, or is free
-  abbrev pub gives_to : (id block : ℕ) → Option (Waiter ⊤) × FixedPools
+  abbrev pub gives_to : (id block : ℕ) → Pool → Option (Waiter ⊤) × FixedPools
       → Result (Option ℕ) Code × FixedPools
-  gives_to id block (None, left) = (Ok None, (frees s id block).1)
-  gives_to id block (Some waiter, left) = (Ok (Some waiter.thread), left)
+  gives_to id block x (None, left) = (Ok None, with_ranges s id x (without block x.ranges))
+  gives_to id block x (Some waiter, left) = (Ok (Some waiter.thread), left)
 
   abbrev pub gives_it : (id block : ℕ) → Option Pool → Result (Option ℕ) Code × FixedPools
   gives_it id block None = (Err UNKNOWN_FIXED_POOL, s)
   gives_it id block (Some x) =
-      if has_out s id block then gives_to id block (takes_next s id (by_priority x))
+      if is_out block x.ranges then gives_to id block x (takes_next s id (by_priority x))
       else (Err ILLEGAL_BLOCK, s)
 
   abbrev pub gives : (id block : ℕ) → Result (Option ℕ) Code × FixedPools

@@ -5,3 +5,6 @@ pub mod Walks
 pub mod VariablePools
 pub mod FixedPools
 pub mod Laws
+pub mod MeetingLaws
+pub mod GivingLaws
+pub mod TakingLaws

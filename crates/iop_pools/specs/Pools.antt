@@ -2,7 +2,7 @@
 -- (ps2sdk: thvpool, thfpool; the codes are those of its kerr.h). A pool is so many bytes from its
 -- base on. What is out of it begins and ends so many units behind the base.
 use Rattle.std.specs.Prelude.{ℕ, ◌+◌, ◌*◌, ◌/◌, ◌==◌, nat_le, Bool, true, false, if◌then◌else◌, Option, Some, None, option_map, unwrap_or, List, []}
-use Rattle.iop_objects.specs.Objects.{Objects, state_of, changes}
+use Rattle.iop_objects.specs.Objects.{Objects, state_of, with_state}
 use Rattle.iop_pools.specs.Ranges.{rounded, with_range, without, is_out, first_free, gaps, greatest, total}
 use Rattle.iop_pools.specs.declared.attribute.TheConstants.{BY_PRIORITY}
 use Rattle.iop_pools.specs.declared.range.Range.{Range}
@@ -62,18 +62,16 @@ module _ {W : Type 0} (s : Pools W) where
   abbrev pub is_by_priority : ℕ → Bool
   is_by_priority id = unwrap_or (option_map by_priority (state_of s id)) false
 
-  -- other ranges are out of the pool of an id
-  abbrev pub with_ranges : ℕ → List Range → Pools W
-  with_ranges id ranges = changes s id (λ o. record o {
-    state = record o.state { ranges = ranges };
-  })
+  -- other ranges are out of a pool
+  abbrev pub with_ranges : (id : ℕ) → Pool → List Range → Pools W
+  with_ranges id x ranges = with_state s id (record x { ranges = ranges })
 
   -- memory for a size is taken at the least place where it is free
   abbrev pub takes_at : (id size : ℕ) → Pool → Option ℕ → Option ℕ × Pools W
   takes_at id size x None = (None, s)
   takes_at id size x (Some place) = (
     Some place,
-    with_ranges id (with_range (record { start = place; size = length_for x size }) x.ranges),
+    with_ranges id x (with_range (record { start = place; size = length_for x size }) x.ranges),
   )
 
   abbrev pub takes_of : (id size : ℕ) → Option Pool → Option ℕ × Pools W
@@ -92,7 +90,11 @@ module _ {W : Type 0} (s : Pools W) where
   has_out id block = is_out block (ranges_in id)
 
   -- it is out no more; whether there was one
-  abbrev pub frees : (id block : ℕ) → Bool × Pools W
-  frees id block =
-      if has_out id block then (true, with_ranges id (without block (ranges_in id)))
-      else (false, s)
+  abbrev pub frees_it : (id block : ℕ) → Option Pool → Option Bool × Pools W
+  frees_it id block None = (None, s)
+  frees_it id block (Some x) =
+      if is_out block x.ranges then (Some true, with_ranges id x (without block x.ranges))
+      else (Some false, s)
+
+  abbrev pub frees : (id block : ℕ) → Option Bool × Pools W
+  frees id block = frees_it id block (state_of s id)

@@ -1,7 +1,7 @@
 -- Variable pools (ps2sdk: thvpool.h; the codes are those of its kerr.h). Which sizes are accepted,
 -- that they are rounded up to 16 bytes, the place that is taken, and that a thread whose size fits
 -- is answered before earlier ones whose size does not, is this project's own profile.
-use Rattle.std.specs.Prelude.{ℕ, ◌==◌, nat_lt, Bool, ◌||◌, not, if◌then◌else◌, is_some, Option, Some, None, Result, Ok, Err, [], length}
+use Rattle.std.specs.Prelude.{ℕ, ◌==◌, nat_lt, Bool, ◌||◌, not, if◌then◌else◌, is_some, Option, Some, None, Result, Ok, Err, []}
 use Rattle.iop_base.specs.declared.code.Code.{Code}
 use Rattle.iop_base.specs.declared.code.TheConstants.Code.{OK, NO_MEMORY, ILLEGAL_ATTRIBUTE, UNKNOWN_VARIABLE_POOL, ILLEGAL_BLOCK, ILLEGAL_SIZE}
 use Rattle.iop_objects.specs.Objects as objects
@@ -35,19 +35,18 @@ place_of x size = if size == 0 then None else place_for x size
 abbrev pub fits : Pool → Waiter ℕ → Bool
 fits x waiter = is_some (place_of x waiter.wants)
 
-module _ (s : VariablePools) where
-  -- what is known of a pool
-  abbrev pub status_of : ℕ → Pool → VariablePool
-  status_of id x = record {
-    attr = x.attr;
-    option = x.option;
-    base = x.base;
-    size = x.size;
-    free = free_of x;
-    greatest = greatest_free x;
-    waiters = length (waiters_of s id);
-  }
+-- what is known of a pool
+abbrev pub status_of : Pool → VariablePool
+status_of x = record {
+  attr = x.attr;
+  option = x.option;
+  base = x.base;
+  size = x.size;
+  free = free_of x;
+  greatest = greatest_free x;
+}
 
+module _ (s : VariablePools) where
   -- a pool is made
   abbrev pub creates : (attr option size base : ℕ) → Result ℕ Code × VariablePools
   creates attr option size base = objects.creates s (record {
@@ -82,15 +81,12 @@ module _ (s : VariablePools) where
   takes id size = takes_it id size (state_of s id)
 
   -- memory is given back
-  abbrev pub given : Bool × VariablePools → Code × VariablePools
-  given (was_out, left) = (if was_out then OK else ILLEGAL_BLOCK, left)
-
-  abbrev pub gives_it : (id block : ℕ) → Option Pool → Code × VariablePools
-  gives_it id block None = (UNKNOWN_VARIABLE_POOL, s)
-  gives_it id block (Some x) = given (frees s id block)
+  abbrev pub given : Option Bool × VariablePools → Code × VariablePools
+  given (None, left) = (UNKNOWN_VARIABLE_POOL, left)
+  given (Some was_out, left) = (if was_out then OK else ILLEGAL_BLOCK, left)
 
   abbrev pub gives : (id block : ℕ) → Code × VariablePools
-  gives id block = gives_it id block (state_of s id)
+  gives id block = given (frees s id block)
 
   -- a thread waits for memory
   abbrev pub waits : (id thread priority size : ℕ) → VariablePools

@@ -28,8 +28,6 @@ pub struct FixedPool {
     pub count: u32,
     /// How many of them are free.
     pub free: u32,
-    /// How many threads wait for one.
-    pub waiters: usize,
 }
 
 /// Tells how many bytes a block of a size has.

@@ -42,7 +42,7 @@ impl FixedPools {
 
     /// Reads what is known of a pool. None exactly where none of this id is live.
     pub fn get(&self, id: u32) -> Option<FixedPool>
-        ensures status { result ≡ option_map (status_of self.now id) (state_of self.now id) }
+        ensures status { result ≡ option_map status_of (state_of self.now id) }
         ensures apart { All (λ o. Apart o.state) self.now.live }
     {
         let layout = self.pools.layout(id)?;
@@ -55,7 +55,6 @@ impl FixedPools {
             size: layout.unit,
             count,
             free: count - taken as u32,
-            waiters: self.pools.waiters(id),
         })
     }
 
@@ -143,7 +142,7 @@ impl FixedPools {
         }
     }
 
-    /// Lets a thread wait for a block of a live pool, behind all others. None is free.
+    /// Lets a thread wait for a block of a live pool, behind all others.
     pub fn wait(&mut self, id: u32, thread: u32, priority: u8)
         requires live { is_some (object_of self.old.live id) ≡ true }
         requires room { waiting self.old < MOST_WAITERS }

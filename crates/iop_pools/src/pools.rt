@@ -172,16 +172,18 @@ impl<W: Copy, const MOST: usize> Pools<W, MOST> {
     }
 
     /// Gives the range of a pool back that starts at an address, and says whether there was one.
-    pub(crate) fn give_back(&mut self, id: u32, block: u32) -> bool
+    /// None exactly where no pool of this id is live.
+    pub(crate) fn give_back(&mut self, id: u32, block: u32) -> Option<bool>
         ensures answer { result ≡ (frees self.old id block).0 }
         ensures left { self.new ≡ (frees self.old id block).1 }
     {
+        let _ = self.objects.state(id)?;
         match walks::place_of(&self.outs, id, block) {
             Some(place) => {
                 self.outs.remove(place);
-                true
+                Some(true)
             }
-            None => false,
+            None => Some(false),
         }
     }
 

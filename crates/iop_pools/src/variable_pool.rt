@@ -15,7 +15,7 @@ pub const LEAST_BYTES: u32 = 16;
 pub const MOST_BYTES: u32 = 0x1_0000;
 
 /// The most ranges that can be out of one variable pool.
-pub const MOST_RANGES: usize = 4096;
+pub const MOST_RANGES: usize = (MOST_BYTES / VARIABLE_UNIT) as usize;
 
 /// What is known of a variable pool.
 #[derive(Clone, Copy, Debug, Drop, PartialEq, Eq)]
@@ -32,8 +32,6 @@ pub struct VariablePool {
     pub free: u32,
     /// The size of its greatest free range.
     pub greatest: u32,
-    /// How many threads wait for it.
-    pub waiters: usize,
 }
 
 /// Tells how many bytes a pool of a size has.

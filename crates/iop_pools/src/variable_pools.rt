@@ -58,7 +58,7 @@ impl VariablePools {
 
     /// Reads what is known of a pool. None exactly where none of this id is live.
     pub fn get(&self, id: u32) -> Option<VariablePool>
-        ensures status { result ≡ option_map (status_of self.now id) (state_of self.now id) }
+        ensures status { result ≡ option_map status_of (state_of self.now id) }
         ensures apart { All (λ o. Apart o.state) self.now.live }
     {
         let layout = self.pools.layout(id)?;
@@ -71,7 +71,6 @@ impl VariablePools {
             size: layout.size,
             free,
             greatest,
-            waiters: self.pools.waiters(id),
         })
     }
 
@@ -180,13 +179,10 @@ impl VariablePools {
         ensures answer { result ≡ (gives self.old id block).0 }
         ensures left { self.new ≡ (gives self.old id block).1 }
     {
-        if self.pools.layout(id).is_none() {
-            return Code::UNKNOWN_VARIABLE_POOL;
-        }
-        if self.pools.give_back(id, block) {
-            Code::OK
-        } else {
-            Code::ILLEGAL_BLOCK
+        match self.pools.give_back(id, block) {
+            Some(true) => Code::OK,
+            Some(false) => Code::ILLEGAL_BLOCK,
+            None => Code::UNKNOWN_VARIABLE_POOL,
         }
     }
 

@@ -163,7 +163,6 @@ fn ranges(rt: HostRuntime) -> Result<(), Fail> {
         size: 64,
         free: 16,
         greatest: 16,
-        waiters: 0,
     };
     assert_eq!(rt; pools.get(1), Some(known));
     let rows = [
@@ -239,7 +238,6 @@ fn blocks(rt: HostRuntime) -> Result<(), Fail> {
         size: 12,
         count: 2,
         free: 0,
-        waiters: 2,
     };
     assert_eq!(rt; pools.get(1), Some(known));
     let rows = [

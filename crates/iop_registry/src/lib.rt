@@ -3,4 +3,6 @@
 
 mod registry;
 
-pub use registry::{KERNEL_TABLE_LEN, KERNEL_TABLES_AT, MOST_LIBRARIES, Registry};
+pub use registry::{
+    FIRST_LIBRARIES, KERNEL_TABLE_LEN, KERNEL_TABLES_AT, LATER_TABLES_AT, MOST_LIBRARIES, Registry,
+};

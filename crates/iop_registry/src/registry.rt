@@ -1,6 +1,6 @@
-ghost use Rattle.std.specs.Prelude.{◌≡◌, ◌<◌, IfOk, IfSome, position};
+ghost use Rattle.std.specs.Prelude.{◌≡◌, ◌<◌, IfOk, IfSome, length, position};
 ghost use Rattle.iop_registry.specs.Entries.{is_library, has_table, lies_in, table_of, library_of, register, release, drop_range, IsTable, IsRegistry};
-ghost use Rattle.iop_registry.specs.KernelLibraries.{kernel_library, kernel_libraries};
+ghost use Rattle.iop_registry.specs.KernelLibraries.{kernel_table, kernel_library, kernel_libraries};
 
 use iop_base::{Code, KERNEL_LIBRARIES};
 use std::alloc::{AllocError, Global};
@@ -14,6 +14,24 @@ pub const KERNEL_TABLES_AT: u32 = 0x1000;
 
 /// The bytes from the export table of one of the kernel's libraries to that of the next.
 pub const KERNEL_TABLE_LEN: u32 = 0x200;
+
+/// How many of the kernel's libraries have their export tables from `KERNEL_TABLES_AT` on.
+pub const FIRST_LIBRARIES: u32 = 8;
+
+/// The physical place of the export table of the kernel's first library behind these.
+pub const LATER_TABLES_AT: u32 = 0x200;
+
+/// Tells the physical place of the export table of a library of the kernel, by its number.
+fn kernel_table(number: u32) -> u32
+    requires { number < length KERNEL_LIBRARIES }
+    ensures { result ≡ kernel_table number }
+{
+    if number < FIRST_LIBRARIES {
+        KERNEL_TABLES_AT + number * KERNEL_TABLE_LEN
+    } else {
+        LATER_TABLES_AT + (number - FIRST_LIBRARIES) * KERNEL_TABLE_LEN
+    }
+}
 
 /// A registered library.
 #[derive(Clone, Copy, Drop)]
@@ -29,13 +47,13 @@ struct Entry {
 impl Entry {
     /// Makes the entry of a library of the kernel, by its number and its name.
     fn of_kernel(number: u32, name: [u8; 8]) -> Self
-        requires { number < 8 }
+        requires { number < length KERNEL_LIBRARIES }
         ensures { result ≡ kernel_library (number, name) }
     {
         Entry {
             name,
             major: 1,
-            table: KERNEL_TABLES_AT + number * KERNEL_TABLE_LEN,
+            table: kernel_table(number),
         }
     }
 
@@ -88,7 +106,7 @@ impl Model for Registry {
 }
 
 impl Registry {
-    /// Makes a registry of the eight libraries of the kernel, in their order. It takes all the
+    /// Makes a registry of the ten libraries of the kernel, in their order. It takes all the
     /// memory that the registry will need; `AllocError` where the host has less.
     pub fn new(alloc: Global) -> Result<Self, AllocError>
         ensures libraries { IfOk result (λ registry. registry ≡ kernel_libraries) }
@@ -104,6 +122,8 @@ impl Registry {
             Entry::of_kernel(5, KERNEL_LIBRARIES[5]),
             Entry::of_kernel(6, KERNEL_LIBRARIES[6]),
             Entry::of_kernel(7, KERNEL_LIBRARIES[7]),
+            Entry::of_kernel(8, KERNEL_LIBRARIES[8]),
+            Entry::of_kernel(9, KERNEL_LIBRARIES[9]),
         ])?;
         Ok(Registry { entries })
     }

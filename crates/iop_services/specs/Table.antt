@@ -1,13 +1,14 @@
 -- The services of the kernel's libraries. Libraries, names and numbers are those of ps2sdk's headers
--- (loadcore.h, sysmem.h, intrman.h, thbase.h, thsemap.h, thevent.h, thmsgbx.h, stdio.h). Which libraries
--- and numbers the kernel has, and from where each may be called, is this project's own profile.
+-- (loadcore.h, sysmem.h, intrman.h, thbase.h, thsemap.h, thevent.h, thmsgbx.h, stdio.h); of thvpool
+-- and thfpool libraries and names alone (thvpool.h, thfpool.h), their numbers are this project's own.
+-- Which libraries and numbers the kernel has, and from where each may be called, is its own profile.
 use Rattle.std.specs.Prelude.{ℕ, ◌==◌, if◌then◌else◌, Bool, true, not, Option, List, [], ◌∷◌, find, option_map}
-use Rattle.iop_services.specs.declared.codes.TheConstants.{LOADCORE, SYSMEM, INTRMAN, THBASE, THSEMAP, THEVENT, THMSGBX, STDIO}
+use Rattle.iop_services.specs.declared.codes.TheConstants.{LOADCORE, SYSMEM, INTRMAN, THBASE, THSEMAP, THEVENT, THMSGBX, STDIO, THVPOOL, THFPOOL}
 use Rattle.iop_services.specs.declared.context.Context.{Context}
 use Rattle.iop_services.specs.declared.context.Context.TheVariants.{Thread, Handler, Both}
 use Rattle.iop_services.specs.declared.row.Row.{Row}
 use Rattle.iop_services.specs.declared.service.Service.{Service}
-use Rattle.iop_services.specs.declared.service.Service.TheVariants.{Loadcore, Sysmem, Intrman, Thbase, Thsemap, Thevent, Thmsgbx, Stdio}
+use Rattle.iop_services.specs.declared.service.Service.TheVariants.{Loadcore, Sysmem, Intrman, Thbase, Thsemap, Thevent, Thmsgbx, Stdio, Thvpool, Thfpool}
 use Rattle.iop_services.specs.declared.intrman_service.IntrmanService.TheVariants.{RegisterIntrHandler, ReleaseIntrHandler, EnableIntr, DisableIntr, CpuDisableIntr, CpuEnableIntr, CpuSuspendIntr, CpuResumeIntr, QueryIntrContext}
 use Rattle.iop_services.specs.declared.loadcore_service.LoadcoreService.TheVariants.{FlushIcache, FlushDcache, RegisterLibraryEntries, ReleaseLibraryEntries}
 use Rattle.iop_services.specs.declared.stdio_service.StdioService.TheVariants.{Printf}
@@ -16,6 +17,8 @@ use Rattle.iop_services.specs.declared.thbase_service.ThbaseService.TheVariants.
 use Rattle.iop_services.specs.declared.thevent_service.TheventService.TheVariants.{CreateEventFlag, DeleteEventFlag, SetEventFlag, ClearEventFlag, WaitEventFlag, PollEventFlag, ReferEventFlagStatus}
 use Rattle.iop_services.specs.declared.thmsgbx_service.ThmsgbxService.TheVariants.{CreateMbx, DeleteMbx, SendMbx, ReceiveMbx, PollMbx, ReferMbxStatus}
 use Rattle.iop_services.specs.declared.thsemap_service.ThsemapService.TheVariants.{CreateSema, DeleteSema, SignalSema, WaitSema, PollSema, ReferSemaStatus}
+use Rattle.iop_services.specs.declared.thvpool_service.ThvpoolService.TheVariants.{CreateVpl, DeleteVpl, AllocateVpl, PAllocateVpl, FreeVpl, ReferVplStatus}
+use Rattle.iop_services.specs.declared.thfpool_service.ThfpoolService.TheVariants.{CreateFpl, DeleteFpl, AllocateFpl, PAllocateFpl, FreeFpl, ReferFplStatus}
 
 -- a number, the service that it lists, and from where it may be called
 pub record Numbered : Type 0 where
@@ -151,6 +154,32 @@ stdio =
     lists 4 Printf Both
     ∷ []
 
+abbrev pub thvpool : List Numbered
+thvpool =
+    let lists = of Thvpool in
+    lists 4 CreateVpl Thread
+    ∷ lists 5 DeleteVpl Thread
+    ∷ lists 6 AllocateVpl Thread
+    ∷ lists 7 PAllocateVpl Both
+    ∷ lists 8 FreeVpl Thread
+    ∷ lists 9 FreeVpl Handler
+    ∷ lists 11 ReferVplStatus Thread
+    ∷ lists 12 ReferVplStatus Handler
+    ∷ []
+
+abbrev pub thfpool : List Numbered
+thfpool =
+    let lists = of Thfpool in
+    lists 4 CreateFpl Thread
+    ∷ lists 5 DeleteFpl Thread
+    ∷ lists 6 AllocateFpl Thread
+    ∷ lists 7 PAllocateFpl Both
+    ∷ lists 8 FreeFpl Thread
+    ∷ lists 9 FreeFpl Handler
+    ∷ lists 11 ReferFplStatus Thread
+    ∷ lists 12 ReferFplStatus Handler
+    ∷ []
+
 -- the rows of a library by its number
 abbrev pub rows_of : ℕ → List Numbered
 rows_of library =
@@ -162,6 +191,8 @@ rows_of library =
     else if library == THEVENT then thevent
     else if library == THMSGBX then thmsgbx
     else if library == STDIO then stdio
+    else if library == THVPOOL then thvpool
+    else if library == THFPOOL then thfpool
     else []
 
 -- what the row of a number says

@@ -27,6 +27,12 @@ pub const THMSGBX: u32 = 6;
 /// The number of `stdio` among `KERNEL_LIBRARIES` of iop_base.
 pub const STDIO: u32 = 7;
 
+/// The number of `thvpool` among `KERNEL_LIBRARIES` of iop_base.
+pub const THVPOOL: u32 = 8;
+
+/// The number of `thfpool` among `KERNEL_LIBRARIES` of iop_base.
+pub const THFPOOL: u32 = 9;
+
 /// How many services a kernel library has room for.
 pub const SERVICES: u32 = 64;
 

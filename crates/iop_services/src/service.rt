@@ -4,8 +4,10 @@ use crate::stdio_service::StdioService;
 use crate::sysmem_service::SysmemService;
 use crate::thbase_service::ThbaseService;
 use crate::thevent_service::TheventService;
+use crate::thfpool_service::ThfpoolService;
 use crate::thmsgbx_service::ThmsgbxService;
 use crate::thsemap_service::ThsemapService;
+use crate::thvpool_service::ThvpoolService;
 
 /// What a call of a kernel library asks for. The names are ps2sdk's; a service that has one number for
 /// threads and one for handlers, whose name there begins with `i`, is one.
@@ -27,4 +29,8 @@ pub enum Service {
     Thmsgbx(ThmsgbxService),
     /// A service of `stdio`.
     Stdio(StdioService),
+    /// A service of `thvpool`.
+    Thvpool(ThvpoolService),
+    /// A service of `thfpool`.
+    Thfpool(ThfpoolService),
 }

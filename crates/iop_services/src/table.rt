@@ -1,9 +1,11 @@
 //! The table of services.
 
 ghost use Rattle.std.specs.Prelude.{◌≡◌};
-ghost use Rattle.iop_services.specs.Table.{find_row, row_of, loadcore, sysmem, intrman, thbase, thsemap, thevent, thmsgbx, stdio};
+ghost use Rattle.iop_services.specs.Table.{find_row, row_of, loadcore, sysmem, intrman, thbase, thsemap, thevent, thmsgbx, stdio, thvpool, thfpool};
 
-use crate::codes::{INTRMAN, LOADCORE, STDIO, SYSMEM, THBASE, THEVENT, THMSGBX, THSEMAP};
+use crate::codes::{
+    INTRMAN, LOADCORE, STDIO, SYSMEM, THBASE, THEVENT, THFPOOL, THMSGBX, THSEMAP, THVPOOL,
+};
 use crate::context::Context;
 use crate::intrman_service::IntrmanService;
 use crate::loadcore_service::LoadcoreService;
@@ -13,8 +15,10 @@ use crate::stdio_service::StdioService;
 use crate::sysmem_service::SysmemService;
 use crate::thbase_service::ThbaseService;
 use crate::thevent_service::TheventService;
+use crate::thfpool_service::ThfpoolService;
 use crate::thmsgbx_service::ThmsgbxService;
 use crate::thsemap_service::ThsemapService;
+use crate::thvpool_service::ThvpoolService;
 
 /// Finds the row of a number in those of a library: a number, a service, and from where it may be
 /// called.
@@ -179,7 +183,41 @@ fn stdio(number: u32) -> Option<Row>
     })
 }
 
-/// Finds the service of a number of a kernel library, 0 to 7 in the order of `KERNEL_LIBRARIES` of
+/// Finds the service of a number of `thvpool`. The names are those of ps2sdk's thvpool.h, the numbers
+/// this project's own.
+fn thvpool(number: u32) -> Option<Row>
+    ensures { result ≡ find_row number thvpool }
+{
+    find_row!(number Thvpool ThvpoolService {
+        4 CreateVpl Thread
+        5 DeleteVpl Thread
+        6 AllocateVpl Thread
+        7 PAllocateVpl Both
+        8 FreeVpl Thread
+        9 FreeVpl Handler
+        11 ReferVplStatus Thread
+        12 ReferVplStatus Handler
+    })
+}
+
+/// Finds the service of a number of `thfpool`. The names are those of ps2sdk's thfpool.h, the numbers
+/// this project's own.
+fn thfpool(number: u32) -> Option<Row>
+    ensures { result ≡ find_row number thfpool }
+{
+    find_row!(number Thfpool ThfpoolService {
+        4 CreateFpl Thread
+        5 DeleteFpl Thread
+        6 AllocateFpl Thread
+        7 PAllocateFpl Both
+        8 FreeFpl Thread
+        9 FreeFpl Handler
+        11 ReferFplStatus Thread
+        12 ReferFplStatus Handler
+    })
+}
+
+/// Finds the service of a number of a kernel library, 0 to 9 in the order of `KERNEL_LIBRARIES` of
 /// iop_base. None exactly where the library lists no such number, or there is no such library.
 pub fn row_of(library: u32, number: u32) -> Option<Row>
     ensures { result ≡ row_of library number }
@@ -193,6 +231,8 @@ pub fn row_of(library: u32, number: u32) -> Option<Row>
         THEVENT => thevent(number),
         THMSGBX => thmsgbx(number),
         STDIO => stdio(number),
+        THVPOOL => thvpool(number),
+        THFPOOL => thfpool(number),
         _ => None,
     }
 }

@@ -4,7 +4,7 @@ use Rattle.std.specs.Prelude.{ℕ, ◌+◌, ◌-◌, ◌^◌, Bool, true, false,
 use Rattle.iop_base.specs.Numbers.{wrapped}
 use Rattle.iop_exec.specs.declared.cpu.Cpu.{Cpu}
 use Rattle.iop_exec.specs.Row.{with_reg}
-use Rattle.iop_thread.specs.declared.kind.Kind.TheVariants.{Semaphore, EventFlag, Mailbox}
+use Rattle.iop_thread.specs.declared.kind.Kind.TheVariants.{Semaphore, EventFlag, Mailbox, VariablePool, FixedPool}
 use Rattle.iop_thread.specs.declared.state.State.{State}
 use Rattle.iop_thread.specs.declared.state.State.TheVariants.{Dormant, Running, Ready, Waiting, Suspended, WaitingSuspended}
 use Rattle.iop_thread.specs.declared.thread.Thread.{Thread}
@@ -50,6 +50,8 @@ kind_number Delay = 2
 kind_number (Object Semaphore id) = 3
 kind_number (Object EventFlag id) = 4
 kind_number (Object Mailbox id) = 5
+kind_number (Object VariablePool id) = 6
+kind_number (Object FixedPool id) = 7
 
 abbrev pub object_of : Wait → ℕ
 object_of Sleep = 0

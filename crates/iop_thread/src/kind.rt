@@ -7,4 +7,8 @@ pub enum Kind {
     EventFlag,
     /// Mailboxes.
     Mailbox,
+    /// Variable pools.
+    VariablePool,
+    /// Fixed pools.
+    FixedPool,
 }

@@ -15,7 +15,7 @@ impl Wait {
     ghost use Rattle.std.specs.Prelude.{◌≡◌};
     ghost use Rattle.iop_thread.specs.States.{kind_number, object_of};
 
-    /// Tells the number of its kind: 1 to 5 (ps2sdk: thread.h).
+    /// Tells the number of its kind: 1 to 7 (ps2sdk: thread.h).
     pub fn kind(self) -> u32
         ensures { result ≡ kind_number self }
     {
@@ -25,6 +25,8 @@ impl Wait {
             Wait::Object(Kind::Semaphore, _) => 3,
             Wait::Object(Kind::EventFlag, _) => 4,
             Wait::Object(Kind::Mailbox, _) => 5,
+            Wait::Object(Kind::VariablePool, _) => 6,
+            Wait::Object(Kind::FixedPool, _) => 7,
         }
     }
 

@@ -30,6 +30,8 @@
 #define TSW_SEMA 3      /* a semaphore */
 #define TSW_EVENTFLAG 4 /* an event flag */
 #define TSW_MBX 5       /* a mailbox */
+#define TSW_VPL 6       /* memory of a variable pool */
+#define TSW_FPL 7       /* a block of a fixed pool */
 
 /* What CreateThread takes. */
 typedef struct _iop_thread {

@@ -84,6 +84,24 @@
     .fn stdio_5 5
     .fn stdio_63 63
     .endi
+    .import thvpool 1 1
+    .fn thvpool_0 0
+    .fn thvpool_1 1
+    .fn thvpool_2 2
+    .fn thvpool_3 3
+    .fn thvpool_10 10
+    .fn thvpool_13 13
+    .fn thvpool_63 63
+    .endi
+    .import thfpool 1 1
+    .fn thfpool_0 0
+    .fn thfpool_1 1
+    .fn thfpool_2 2
+    .fn thfpool_3 3
+    .fn thfpool_10 10
+    .fn thfpool_13 13
+    .fn thfpool_63 63
+    .endi
     .data
 rows:
     .word loadcore_0, 1, 1, -1
@@ -153,6 +171,20 @@ rows:
     .word stdio_3, 1, 1, -1
     .word stdio_5, 1, 1, -1
     .word stdio_63, 1, 1, -1
+    .word thvpool_0, 1, 1, -1
+    .word thvpool_1, 1, 1, -1
+    .word thvpool_2, 1, 1, -1
+    .word thvpool_3, 1, 1, -1
+    .word thvpool_10, 1, 1, -1
+    .word thvpool_13, 1, 1, -1
+    .word thvpool_63, 1, 1, -1
+    .word thfpool_0, 1, 1, -1
+    .word thfpool_1, 1, 1, -1
+    .word thfpool_2, 1, 1, -1
+    .word thfpool_3, 1, 1, -1
+    .word thfpool_10, 1, 1, -1
+    .word thfpool_13, 1, 1, -1
+    .word thfpool_63, 1, 1, -1
     .word rows_in_handler, handler_rows, 0, 0
     .word 0
 handler_rows:
@@ -164,4 +196,6 @@ handler_rows:
     .word thevent_15, 1, 1, -1
     .word thmsgbx_13, 1, 1, -1
     .word stdio_5, 1, 1, -1
+    .word thvpool_13, 1, 1, -1
+    .word thfpool_13, 1, 1, -1
     .word 0

@@ -4,9 +4,10 @@ use Rattle.std.specs.Prelude.{option_map, unwrap_or}
 use Rattle.std.proofs.lemmas.Bool.Decides.{nat_tests}
 use Rattle.iop_mbx.specs.Mailboxes.{waiters_by_priority}
 use Rattle.iop_objects.specs.Objects.{state_of}
+use Rattle.iop_pools.specs.Pools as pools
 use Rattle.iop_sema.specs.Semaphores.{by_priority}
 use Rattle.iop_thread.specs.declared.kind.Kind.{Kind}
-use Rattle.iop_thread.specs.declared.kind.Kind.TheVariants.{Semaphore, EventFlag, Mailbox}
+use Rattle.iop_thread.specs.declared.kind.Kind.TheVariants.{Semaphore, EventFlag, Mailbox, VariablePool, FixedPool}
 use Rattle.iop_thread.specs.declared.wait.Wait.{Wait}
 use Rattle.iop_thread.specs.declared.wait.Wait.TheVariants.{Sleep, Delay, Object}
 use Rattle.iop_kernel.specs.Kinds.{is_kind, State, Table, table, with_table, waits_by_priority, is_by_priority}
@@ -18,6 +19,8 @@ same_kind : (a b : Kind) → is_kind a b ≡ true → a ≡ b
 same_kind Semaphore Semaphore is = refl
 same_kind EventFlag EventFlag is = refl
 same_kind Mailbox Mailbox is = refl
+same_kind VariablePool VariablePool is = refl
+same_kind FixedPool FixedPool is = refl
 same_kind a b is = cc
 
 -- so is each with itself
@@ -25,6 +28,8 @@ its_kind : (kind : Kind) → is_kind kind kind ≡ true
 its_kind Semaphore = refl
 its_kind EventFlag = refl
 its_kind Mailbox = refl
+its_kind VariablePool = refl
+its_kind FixedPool = refl
 
 -- what holds of the objects of each kind
 pub each_table : (Holds : (kind : Kind) → Table kind → Type 0) (kind : Kind) (k : Kernel)
@@ -34,6 +39,8 @@ pub each_table : (Holds : (kind : Kind) → Table kind → Type 0) (kind : Kind)
 each_table Holds Semaphore k left own rest Semaphore = own
 each_table Holds EventFlag k left own rest EventFlag = own
 each_table Holds Mailbox k left own rest Mailbox = own
+each_table Holds VariablePool k left own rest VariablePool = own
+each_table Holds FixedPool k left own rest FixedPool = own
 each_table Holds kind k left own rest other = rest other refl
 
 -- those of the kind are the others
@@ -42,6 +49,8 @@ pub own_table : (kind : Kind) (k : Kernel) (left : Table kind)
 own_table Semaphore k left = refl
 own_table EventFlag k left = refl
 own_table Mailbox k left = refl
+own_table VariablePool k left = refl
+own_table FixedPool k left = refl
 
 -- they are others again
 pub table_twice : (kind : Kind) (k : Kernel) (left again : Table kind)
@@ -49,12 +58,16 @@ pub table_twice : (kind : Kind) (k : Kernel) (left again : Table kind)
 table_twice Semaphore k left again = refl
 table_twice EventFlag k left again = refl
 table_twice Mailbox k left again = refl
+table_twice VariablePool k left again = refl
+table_twice FixedPool k left again = refl
 
 -- or are those that they were
 pub same_table : (kind : Kind) (k : Kernel) → with_table kind k (table kind k) ≡ k
 same_table Semaphore k = refl
 same_table EventFlag k = refl
 same_table Mailbox k = refl
+same_table VariablePool k = refl
+same_table FixedPool k = refl
 
 -- how those that wait for an object are chosen is known by what is known of it
 pub order_stays : (kind : Kind) (s t : Table kind) (id : ℕ) → state_of t id ≡ state_of s id
@@ -63,6 +76,10 @@ order_stays Semaphore s t id known = ap (λ o. unwrap_or (option_map by_priority
 order_stays EventFlag s t id known = refl
 order_stays Mailbox s t id known =
     ap (λ o. unwrap_or (option_map (λ x. waiters_by_priority x.attr) o) false) known
+order_stays VariablePool s t id known =
+    ap (λ o. unwrap_or (option_map pools.by_priority o) false) known
+order_stays FixedPool s t id known =
+    ap (λ o. unwrap_or (option_map pools.by_priority o) false) known
 
 -- how those that wait for a live object are chosen is known of it
 pub by_priority_known : (kind : Kind) (s : Table kind) (id : ℕ) (x : State kind)
@@ -72,6 +89,10 @@ by_priority_known Semaphore s id x known =
 by_priority_known EventFlag s id x known = refl
 by_priority_known Mailbox s id x known =
     ap (λ o. unwrap_or (option_map (λ x. waiters_by_priority x.attr) o) false) known
+by_priority_known VariablePool s id x known =
+    ap (λ o. unwrap_or (option_map pools.by_priority o) false) known
+by_priority_known FixedPool s id x known =
+    ap (λ o. unwrap_or (option_map pools.by_priority o) false) known
 
 -- a wait for an object is for nothing else
 pub for_object : (kind : Kind) (n : ℕ) (wait : Option Wait) → is_for kind n wait ≡ true

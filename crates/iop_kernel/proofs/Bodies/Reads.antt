@@ -16,16 +16,22 @@ no_object {A} {W} live id is = by (object_of live id) is
     by None is = refl
     by (Some o) is = absurd (cc is)
 
+-- nor where nothing is told of it
+pub none_told : {A W B : Type 0} (f : A → B) (live : List (Object A W)) (id : ℕ)
+    → None ≡ option_map f (option_map (λ o. o.state) (object_of live id))
+    → object_of live id ≡ None
+none_told {A} {W} f live id is = by (object_of live id) is
+  where
+    by : (o : Option (Object A W)) → None ≡ option_map f (option_map (λ o. o.state) o)
+        → o ≡ None
+    by None is = refl
+    by (Some o) is = cc
+
 -- no mailbox of an id is live where nothing is known of it beside its messages
 pub no_mailbox : (live : List LiveMailbox) (id : ℕ)
     → None ≡ option_map without_messages (option_map (λ o. o.state) (object_of live id))
     → object_of live id ≡ None
-no_mailbox live id is = by (object_of live id) is
-  where
-    by : (o : Option LiveMailbox)
-        → None ≡ option_map without_messages (option_map (λ o. o.state) o) → o ≡ None
-    by None is = refl
-    by (Some o) is = cc
+no_mailbox = none_told without_messages
 
 -- what was read is of something
 pub one_read : {A B : Type 0} (f : A → B) (o : Option A) {y : B} → Some y ≡ option_map f o

@@ -7,13 +7,15 @@ use Rattle.iop_event.specs.EventFlags.{EventFlags}
 use Rattle.iop_exec.specs.declared.cpu.Cpu.{Cpu}
 use Rattle.iop_intr.specs.InterruptLines.{IrqLine}
 use Rattle.iop_mbx.specs.Mailboxes.{Mailboxes}
+use Rattle.iop_pools.specs.FixedPools.{FixedPools}
+use Rattle.iop_pools.specs.VariablePools.{VariablePools}
 use Rattle.iop_ready.specs.declared.entry.Entry.{Entry}
 use Rattle.iop_sema.specs.Semaphores.{Semaphores}
 use Rattle.iop_stubs.specs.Stubs.{Memory}
 use Rattle.iop_thread.specs.Standing as threads
 use Rattle.iop_thread.specs.ThreadTable.{ThreadTable}
 use Rattle.iop_thread.specs.declared.kind.Kind.{Kind}
-use Rattle.iop_thread.specs.declared.kind.Kind.TheVariants.{Semaphore, EventFlag, Mailbox}
+use Rattle.iop_thread.specs.declared.kind.Kind.TheVariants.{Semaphore, EventFlag, Mailbox, VariablePool, FixedPool}
 use Rattle.iop_thread.specs.declared.threads.Threads.{Threads}
 use Rattle.iop_time.specs.Timers.{Timers}
 use Rattle.iop_kernel.specs.Boards.{Board, quiet}
@@ -35,6 +37,8 @@ kernel_of p threads = record {
   semaphores = p.semaphores;
   event_flags = p.event_flags;
   mailboxes = p.mailboxes;
+  variable_pools = p.variable_pools;
+  fixed_pools = p.fixed_pools;
   timers = p.timers;
   irqs = p.irqs;
 }
@@ -53,6 +57,8 @@ over stands_for {p} P so k h =
       h.semaphores,
       h.event_flags,
       h.mailboxes,
+      h.variable_pools,
+      h.fixed_pools,
       h.timers,
       h.irqs,
     ) refl in
@@ -84,6 +90,16 @@ module _ {R : Type 0} (stands_for : R → List Entry → Type 0) {p : Program R}
       → Holds stands_for (record p { mailboxes = t }) (record k { mailboxes = s })
   holds_mailboxes h now = search rules
 
+  -- other variable pools
+  pub holds_variable : {t s : VariablePools} → Holds stands_for p k → s ≡ t
+      → Holds stands_for (record p { variable_pools = t }) (record k { variable_pools = s })
+  holds_variable h now = search rules
+
+  -- other fixed pools
+  pub holds_fixed : {t s : FixedPools} → Holds stands_for p k → s ≡ t
+      → Holds stands_for (record p { fixed_pools = t }) (record k { fixed_pools = s })
+  holds_fixed h now = search rules
+
   -- other alarms and delays
   pub holds_timers : {t s : Timers} → Holds stands_for p k → s ≡ t
       → Holds stands_for (record p { timers = t }) (record k { timers = s })
@@ -104,6 +120,8 @@ module _ {R : Type 0} (stands_for : R → List Entry → Type 0) {p : Program R}
   holds_table h Semaphore = h.semaphores
   holds_table h EventFlag = h.event_flags
   holds_table h Mailbox = h.mailboxes
+  holds_table h VariablePool = h.variable_pools
+  holds_table h FixedPool = h.fixed_pools
 
 -- after a dispatch, made or not, it stands for some kernel
 pub sound_after_dispatch : {R : Type 0} (stands_for : R → List Entry → Type 0) (c : Core)

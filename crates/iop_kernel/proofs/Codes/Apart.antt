@@ -78,7 +78,9 @@ module _ (s : System) where
           dispatching = λ other ends. h.dispatching (differs _ _ other);
           clock = clock;
           libraries = λ other. h.libraries (differs _ _ other);
-          blocks = λ other another. h.blocks (differs _ _ other) (differs _ _ another);
+          blocks = λ other another vpl fpl.
+              h.blocks (differs _ _ other) (differs _ _ another) (differs _ _ vpl)
+              (differs _ _ fpl);
           memory = library_writes_nothing s library number;
         }
 
@@ -114,7 +116,7 @@ module _ (s : System) where
     dispatching = λ other ends. absurd (cc (ends, ending));
     clock = ap (λ (l : Kernel). l.clock) only;
     libraries = λ other. refl;
-    blocks = λ other another. refl;
+    blocks = λ other another vpl fpl. refl;
     memory = λ none. refl;
   }
 
@@ -132,7 +134,7 @@ module _ (s : System) where
     dispatching = λ other ends. refl;
     clock = refl;
     libraries = λ other. refl;
-    blocks = λ other another. refl;
+    blocks = λ other another vpl fpl. refl;
     memory = λ none. refl;
   }
 
@@ -156,7 +158,7 @@ module _ (s : System) where
         dispatching = λ other ends. ap (λ (l : Kernel). l.dispatching) is;
         clock = ap (λ (l : Kernel). l.clock) is;
         libraries = λ other. refl;
-        blocks = λ other another. refl;
+        blocks = λ other another vpl fpl. refl;
         memory = λ none. refl;
       }
 

@@ -1,29 +1,33 @@
 -- What the services of a library leave as it was: the kernel's parts, the registered libraries and
 -- the blocks are changed by the services of their own libraries alone.
-use Rattle.std.proofs.Common.{◌≡◌, ◌≢◌, ℕ, Bool, true, false, Option, Some, List, refl, ap, sym, ◌∙◌}
+use Rattle.std.proofs.Common.{◌≡◌, ◌≢◌, ℕ, Bool, true, false, Option, Some, List, refl, ap, sym, ◌∙◌, subst}
 use Rattle.std.specs.Prelude.{⊤}
 use Rattle.iop_base.specs.Piece.{Piece}
 use Rattle.iop_base.specs.declared.code.TheConstants.Code.{WAIT_RELEASED}
 use Rattle.iop_intr.specs.InterruptLines.{IrqLine}
 use Rattle.iop_registry.specs.declared.registry.Entry.{Entry}
-use Rattle.iop_services.specs.declared.codes.TheConstants.{LOADCORE, SYSMEM, INTRMAN, THBASE}
+use Rattle.iop_services.specs.declared.codes.TheConstants.{LOADCORE, SYSMEM, INTRMAN, THBASE, THVPOOL, THFPOOL}
 use Rattle.iop_services.specs.declared.service.Service.{Service}
 use Rattle.iop_services.proofs.Rows.{home}
 use Rattle.iop_sysmem.specs.BlockMap.{BlockMap}
+use Rattle.iop_pools.specs.VariablePools.{VariablePools}
 use Rattle.iop_thread.specs.ThreadTable.{ThreadTable}
 use Rattle.iop_thread.specs.declared.kind.Kind.{Kind}
-use Rattle.iop_thread.specs.declared.kind.Kind.TheVariants.{Semaphore, EventFlag, Mailbox}
+use Rattle.iop_thread.specs.declared.kind.Kind.TheVariants.{Semaphore, EventFlag, Mailbox, VariablePool, FixedPool}
 use Rattle.iop_thread.specs.declared.wait.Wait.{Wait}
 use Rattle.iop_thread.specs.declared.wait.Wait.TheVariants.{Delay, Object}
 use Rattle.iop_kernel.specs.CodeLaws.{KeepsObjects, serves_kernel}
-use Rattle.iop_kernel.specs.Kinds.{Table, table, with_table, library_of, is_by_priority}
+use Rattle.iop_kernel.specs.Kinds.{State, Table, table, with_table, library_of, is_by_priority}
 use Rattle.iop_kernel.specs.Serving.{serves, calls_library}
-use Rattle.iop_kernel.specs.System.{Kernel, System, caller, with_threads, opened}
+use Rattle.iop_kernel.specs.System.{Kernel, Core, System, caller, with_threads, with_variable_pools, opened}
 use Rattle.iop_kernel.specs.ThreadStarts.{exit_thread}
+use Rattle.iop_kernel.specs.VariablePools.{meets_all}
 use Rattle.iop_kernel.specs.Waits.{leaves_object, requeues_at, wakes_with}
 use Rattle.iop_kernel.specs.declared.after.After.{After}
 use Rattle.iop_kernel.proofs.Bodies.KindTables.{each_table}
 use Rattle.iop_kernel.proofs.Placing.ObjectsKept.{same_objects, drops_keep, requeues_keep}
+use Rattle.iop_kernel.proofs.Walk.Changes.{IsMadeOn, GoesFrom}
+use Rattle.iop_kernel.proofs.Walk.Meeting.{wakes_met, all_met}
 use Rattle.iop_kernel.proofs.Walk.Moves.{Moves}
 use Rattle.iop_kernel.proofs.Walk.Services.{serves_goes, library_goes, asked_not}
 use Rattle.iop_kernel.proofs.Walk.Threads.{exits_go}
@@ -71,11 +75,15 @@ kind_serves : (kind : Kind) → serves_kernel (library_of kind) ≡ true
 kind_serves Semaphore = refl
 kind_serves EventFlag = refl
 kind_serves Mailbox = refl
+kind_serves VariablePool = refl
+kind_serves FixedPool = refl
 
 kind_not_intrman : (kind : Kind) → library_of kind ≢ INTRMAN
 kind_not_intrman Semaphore is = cc is
 kind_not_intrman EventFlag is = cc is
 kind_not_intrman Mailbox is = cc is
+kind_not_intrman VariablePool is = cc is
+kind_not_intrman FixedPool is = cc is
 
 module _ (s : System) (library : ℕ) where
   abbrev k : Kernel
@@ -92,7 +100,8 @@ module _ (s : System) (library : ℕ) where
     pub dispatching : library ≢ THBASE → left.dispatching ≡ k.dispatching
     pub handler : left.handler ≡ k.handler
     pub libraries : library ≢ LOADCORE → entries ≡ s.libraries
-    pub blocks : library ≢ SYSMEM → library ≢ THBASE → used ≡ s.blocks
+    pub blocks : library ≢ SYSMEM → library ≢ THBASE → library ≢ THVPOOL → library ≢ THFPOOL
+        → used ≡ s.blocks
     pub objects : (kind : Kind) → library ≢ library_of kind
         → KeepsObjects (table kind k) (table kind left)
 
@@ -104,7 +113,8 @@ module _ (s : System) (library : ℕ) where
 
   -- the kernel is left
   still : (entries : List Entry) (blocks : BlockMap) → (library ≢ LOADCORE → entries ≡ s.libraries)
-      → (library ≢ SYSMEM → library ≢ THBASE → blocks ≡ s.blocks) → IsApart k entries blocks
+      → (library ≢ SYSMEM → library ≢ THBASE → library ≢ THVPOOL → library ≢ THFPOOL
+      → blocks ≡ s.blocks) → IsApart k entries blocks
   still entries blocks libraries same_blocks = record {
     kernel = λ other. refl;
     intrman = λ own. refl;
@@ -120,7 +130,7 @@ module _ (s : System) (library : ℕ) where
 
   -- nothing changes
   nothing : IsApart k s.libraries s.blocks
-  nothing = still s.libraries s.blocks (λ other. refl) (λ other another. refl)
+  nothing = still s.libraries s.blocks (λ other. refl) (λ other another vpl fpl. refl)
 
   -- a library that serves the kernel may change it
   serving : (n : ℕ) → serves_kernel n ≡ true → library ≡ n → {A : Type 0}
@@ -130,7 +140,7 @@ module _ (s : System) (library : ℕ) where
   -- sysmem changes the blocks
   by_sysmem : library ≡ SYSMEM → (blocks : BlockMap) → IsApart k s.libraries blocks
   by_sysmem own blocks =
-      still s.libraries blocks (λ other. refl) (λ other another. absurd (other own))
+      still s.libraries blocks (λ other. refl) (λ other another vpl fpl. absurd (other own))
 
   -- intrman changes whether interrupts are on, and the lines
   by_intrman : library ≡ INTRMAN → (interrupts : Bool) (irqs : List IrqLine)
@@ -144,7 +154,7 @@ module _ (s : System) (library : ℕ) where
     dispatching = λ other. refl;
     handler = refl;
     libraries = λ other. refl;
-    blocks = λ other another. refl;
+    blocks = λ other another vpl fpl. refl;
     objects = λ kind other. same_tables k kind;
   }
 
@@ -160,14 +170,19 @@ module _ (s : System) (library : ℕ) where
     dispatching = λ other. absurd (other own);
     handler = rest.1;
     libraries = λ other. refl;
-    blocks = λ other another. absurd (another own);
+    blocks = λ other another vpl fpl. absurd (another own);
     objects = λ kind other. rest.2 kind;
   }
 
-  -- those of objects their own, and the threads
-  by_kind : (kind : Kind) → library ≡ library_of kind → (threads : ThreadTable) (left : Table kind)
-      → IsApart (with_table kind (record k { threads = threads }) left) s.libraries s.blocks
-  by_kind kind own threads left = record {
+  -- those of objects their own, the threads, and the blocks where an object has one
+  abbrev HasOwn : Kind → BlockMap → Type 0
+  HasOwn kind blocks =
+      library_of kind ≢ THVPOOL → library_of kind ≢ THFPOOL → blocks ≡ s.blocks
+
+  by_blocks : (kind : Kind) → library ≡ library_of kind → (threads : ThreadTable)
+      (left : Table kind) (blocks : BlockMap) → HasOwn kind blocks
+      → IsApart (with_table kind (record k { threads = threads }) left) s.libraries blocks
+  by_blocks kind own threads left blocks has = record {
     kernel = serving (library_of kind) (kind_serves kind) own;
     intrman = λ same. absurd (kind_not_intrman kind (sym own ∙ same));
     irqs = λ other. refl;
@@ -176,11 +191,39 @@ module _ (s : System) (library : ℕ) where
     dispatching = λ other. refl;
     handler = refl;
     libraries = λ other. refl;
-    blocks = λ other another. refl;
+    blocks = λ other another vpl fpl. has (λ same. vpl (own ∙ same)) (λ same. fpl (own ∙ same));
     objects =
         each_table (λ other t. library ≢ library_of other → KeepsObjects (table other k) t) kind k
         left (λ other. absurd (other own)) (λ other apart another. same_tables k other);
   }
+
+  by_kind : (kind : Kind) → library ≡ library_of kind → (threads : ThreadTable) (left : Table kind)
+      → IsApart (with_table kind (record k { threads = threads }) left) s.libraries s.blocks
+  by_kind kind own threads left = by_blocks kind own threads left s.blocks (λ vpl fpl. refl)
+
+  made_own : (kind : Kind) (x : State kind) (blocks : BlockMap) → IsMadeOn kind x s.blocks blocks
+      → HasOwn kind blocks
+  made_own Semaphore x blocks same vpl fpl = same
+  made_own EventFlag x blocks same vpl fpl = same
+  made_own Mailbox x blocks same vpl fpl = same
+  made_own VariablePool x blocks taken vpl fpl = absurd (vpl refl)
+  made_own FixedPool x blocks taken vpl fpl = absurd (fpl refl)
+
+  gone_own : (kind : Kind) (x : State kind) (blocks : BlockMap) → GoesFrom kind x s.blocks blocks
+      → HasOwn kind blocks
+  gone_own Semaphore x blocks same vpl fpl = same
+  gone_own EventFlag x blocks same vpl fpl = same
+  gone_own Mailbox x blocks same vpl fpl = same
+  gone_own VariablePool x blocks freed vpl fpl = absurd (vpl refl)
+  gone_own FixedPool x blocks freed vpl fpl = absurd (fpl refl)
+
+  -- those that are met change the threads and the variable pools alone
+  meets_own : library ≡ THVPOOL → (id : ℕ) (pools : VariablePools)
+      → IsApart (meets_all id (with_variable_pools s.core pools)).kernel s.libraries s.blocks
+  meets_own own id pools =
+      let met = all_met id (with_variable_pools s.core pools) in
+      subst (λ (d : Core). IsApart d.kernel s.libraries s.blocks) (sym met.core)
+      (by_kind VariablePool own (wakes_met k.threads met.met) met.pools)
 
   -- each change of a service of the library
   pub apart : Moves P Q ⊤ s library
@@ -195,7 +238,8 @@ module _ (s : System) (library : ℕ) where
     };
     registry = λ own. record {
       registers = λ libraries.
-          still libraries s.blocks (λ other. absurd (other own)) (λ other another. refl);
+          still libraries s.blocks (λ other. absurd (other own))
+          (λ other another vpl fpl. refl);
     };
     blocks = λ own. record {
       takes = λ mode size at. by_sysmem own _;
@@ -238,13 +282,15 @@ module _ (s : System) (library : ℕ) where
       delays = λ moment thread is may leave. by_thbase own _ _ (same_rest k);
     };
     objects = λ kind own. record {
-      makes = λ x legal. by_kind kind own _ _;
-      deletes = λ o found. by_kind kind own _ _;
+      makes = λ x blocks legal made. by_blocks kind own _ _ blocks (made_own kind x blocks made);
+      deletes = λ o blocks found gone.
+          by_blocks kind own _ _ blocks (gone_own kind o.state blocks gone);
       changes = λ id x y known how. by_kind kind own _ _;
-      wakes = λ id x one known chosen. by_kind kind own _ _;
+      wakes = λ id word x one known chosen is. by_kind kind own _ _;
       waits = λ id thread x wants is may known must place leave. by_kind kind own _ _;
     };
     sets = λ own bits o found. by_kind EventFlag own _ _;
+    meets = λ own id block x known there. meets_own own id _;
   }
 
 -- each service leaves what is not its library's

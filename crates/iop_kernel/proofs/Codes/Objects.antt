@@ -4,9 +4,9 @@ use Rattle.iop_services.proofs.Rows.{home, row_home}
 use Rattle.iop_services.specs.Table.{row_of}
 use Rattle.iop_services.specs.declared.row.Row.{Row}
 use Rattle.iop_services.specs.declared.service.Service.{Service}
-use Rattle.iop_services.specs.declared.service.Service.TheVariants.{Thsemap, Thevent, Thmsgbx}
+use Rattle.iop_services.specs.declared.service.Service.TheVariants.{Thsemap, Thevent, Thmsgbx, Thvpool, Thfpool}
 use Rattle.iop_thread.specs.declared.kind.Kind.{Kind}
-use Rattle.iop_thread.specs.declared.kind.Kind.TheVariants.{Semaphore, EventFlag, Mailbox}
+use Rattle.iop_thread.specs.declared.kind.Kind.TheVariants.{Semaphore, EventFlag, Mailbox, VariablePool, FixedPool}
 use Rattle.iop_kernel.specs.CodeLaws.{is_of_kind, calls_kind, KeepsObjects, CodeStaysApart}
 use Rattle.iop_kernel.specs.Histories.{called_by, called_of, called}
 use Rattle.iop_kernel.specs.Kinds.{library_of, table}
@@ -23,9 +23,13 @@ other_home : (kind : Kind) (x : Service) → is_of_kind kind x ≡ false
 other_home Semaphore (Thsemap x) other = absurd (cc other)
 other_home EventFlag (Thevent x) other = absurd (cc other)
 other_home Mailbox (Thmsgbx x) other = absurd (cc other)
+other_home VariablePool (Thvpool x) other = absurd (cc other)
+other_home FixedPool (Thfpool x) other = absurd (cc other)
 other_home Semaphore x other = refl
 other_home EventFlag x other = refl
 other_home Mailbox x other = refl
+other_home VariablePool x other = refl
+other_home FixedPool x other = refl
 
 module _ (kind : Kind) (s : System) where
   abbrev left_by : Option Call → Kernel

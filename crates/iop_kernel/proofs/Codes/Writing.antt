@@ -7,7 +7,7 @@ use Rattle.iop_services.proofs.Rows.{home, row_home}
 use Rattle.iop_services.specs.Table.{row_of, allows}
 use Rattle.iop_services.specs.declared.row.Row.{Row}
 use Rattle.iop_services.specs.declared.service.Service.{Service}
-use Rattle.iop_services.specs.declared.service.Service.TheVariants.{Loadcore, Sysmem, Intrman, Thbase, Thsemap, Thevent, Thmsgbx, Stdio}
+use Rattle.iop_services.specs.declared.service.Service.TheVariants.{Loadcore, Sysmem, Intrman, Thbase, Thsemap, Thevent, Thmsgbx, Stdio, Thvpool, Thfpool}
 use Rattle.iop_kernel.specs.CodeLaws.{serves_kernel}
 use Rattle.iop_kernel.specs.Serving.{sight, answers_or_faults, serves, calls_row, calls_library}
 use Rattle.iop_kernel.specs.System.{System, Served, in_handler}
@@ -32,6 +32,8 @@ module _ (s : System) where
   serves_nothing (Thsemap x) apart = absurd (cc apart)
   serves_nothing (Thevent x) apart = absurd (cc apart)
   serves_nothing (Thmsgbx x) apart = absurd (cc apart)
+  serves_nothing (Thvpool x) apart = absurd (cc apart)
+  serves_nothing (Thfpool x) apart = absurd (cc apart)
 
   row_writes_nothing : (library number : ℕ) (o : Option Row) → row_of library number ≡ o
       → serves_kernel library ≡ false → (calls_row library number s o).left.state.memory ≡ s.memory

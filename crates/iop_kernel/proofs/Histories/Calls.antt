@@ -21,7 +21,7 @@ use Rattle.iop_services.proofs.Rows.{home}
 use Rattle.iop_stubs.specs.Stubs.{Memory}
 use Rattle.iop_thread.specs.ThreadTable.{priority_of}
 use Rattle.iop_thread.specs.declared.kind.Kind.{Kind}
-use Rattle.iop_thread.specs.declared.kind.Kind.TheVariants.{Semaphore, EventFlag, Mailbox}
+use Rattle.iop_thread.specs.declared.kind.Kind.TheVariants.{Semaphore, EventFlag, Mailbox, VariablePool, FixedPool}
 use Rattle.iop_thread.specs.declared.thread.TheConstants.{LOADER}
 use Rattle.iop_kernel.specs.Boards.{Board}
 use Rattle.iop_kernel.specs.CodeLaws.{KeepsObjects}
@@ -159,6 +159,8 @@ kind_not_thbase : (kind : Kind) → THBASE ≢ library_of kind
 kind_not_thbase Semaphore is = cc is
 kind_not_thbase EventFlag is = cc is
 kind_not_thbase Mailbox is = cc is
+kind_not_thbase VariablePool is = cc is
+kind_not_thbase FixedPool is = cc is
 
 module _ (kind : Kind) (t : Tells (State kind)) (s : System) where
   -- the objects before

@@ -6,6 +6,7 @@ use Rattle.iop_base.specs.Piece.{Piece}
 use Rattle.iop_base.specs.declared.guest_fault.GuestFault.{GuestFault}
 use Rattle.iop_exec.specs.declared.cpu.Cpu.{Cpu}
 use Rattle.iop_exec.proofs.RowKeeps.{steadies}
+use Rattle.iop_pools.specs.declared.met.Met.{Met}
 use Rattle.iop_thread.specs.Laws.{AreSteady}
 use Rattle.iop_thread.specs.Operations as threads
 use Rattle.iop_thread.specs.Placing.{IsPlaced}
@@ -26,6 +27,7 @@ use Rattle.iop_kernel.specs.declared.after.After.TheVariants.{Resume, Switch, Fa
 use Rattle.iop_kernel.proofs.Keeping.Core.{HoldsAlone, Alone, WouldSwitch, would_switch, with_them, running_steady}
 use Rattle.iop_kernel.proofs.Keeping.Leaving.{blocked_waits}
 use Rattle.iop_kernel.proofs.Keeping.RunningThread.{RunsOn, running_suspends, caller_runs, no_caller, registers_by}
+use Rattle.iop_kernel.proofs.Walk.Meeting.{wakes_met}
 
 -- by the thread and the handler that run, one does
 pub one_runs : (o : Option ActiveHandler) (running : Option ℕ)
@@ -66,6 +68,20 @@ woken_running [] t word placed = refl
 woken_running (id ∷ ids) t word placed =
     woken_running ids (threads.wakes t id word) word ((keeps_places t placed).wakes id word)
     ∙ ((moves_waits t placed).wakes id word).running
+
+-- so where each has an answer of its own
+met_steady : (met : List Met) (t : ThreadTable) → AreSteady t → AreSteady (wakes_met t met)
+met_steady [] t steady = steady
+met_steady (one ∷ met) t steady =
+    met_steady met (threads.wakes t one.thread one.block)
+    ((keeps_steady t steady).wakes one.thread one.block)
+
+pub met_running : (met : List Met) (t : ThreadTable) → IsPlaced t → RunsOn t (wakes_met t met)
+met_running [] t placed = refl
+met_running (one ∷ met) t placed =
+    met_running met (threads.wakes t one.thread one.block)
+    ((keeps_places t placed).wakes one.thread one.block)
+    ∙ ((moves_waits t placed).wakes one.thread one.block).running
 
 -- a word is answered
 pub answered_alone : (c : Core) (word : ℕ) → Alone c → Alone (answered c word)
@@ -156,6 +172,9 @@ module _ (s : System) where
   pub woken : (ids : List ℕ) (word : ℕ) → Goes (with_threads now (wakes_all table ids word))
   woken ids word =
       threads_go _ (woken_steady ids table word) (woken_running ids table word)
+
+  pub met_go : (met : List Met) → Goes (with_threads now (wakes_met table met))
+  met_go met = threads_go _ (met_steady met table) (met_running met table)
 
   -- one is
   pub wakes_go : (id word : ℕ) → Goes (with_threads now (threads.wakes table id word))

@@ -10,6 +10,8 @@ use Rattle.iop_base.specs.declared.code.TheConstants.Code.{OK, OBJECT_DELETED, W
 use Rattle.iop_base.specs.declared.guest_fault.GuestFault.TheVariants.{Address, Service}
 use Rattle.iop_exec.specs.Row.{reg, with_reg}
 use Rattle.iop_exec.specs.declared.cpu.Cpu.{Cpu}
+use Rattle.iop_pools.specs.Pools.{with_ranges}
+use Rattle.iop_pools.specs.Ranges.{without}
 use Rattle.iop_thread.specs.Laws.{AreSteady}
 use Rattle.iop_thread.specs.Operations as threads
 use Rattle.iop_thread.specs.ThreadTable.{ThreadTable, is_it}
@@ -26,16 +28,17 @@ use Rattle.iop_kernel.specs.Callers.HasLeft.{ends, goes}
 use Rattle.iop_kernel.specs.Handlers.{handler_returned}
 use Rattle.iop_kernel.specs.Laws.{HasReturned}
 use Rattle.iop_kernel.specs.ObjectServices.{threads_in_order}
-use Rattle.iop_kernel.specs.System.{Core, System, is_active, caller, running_registers, with_threads, opened, code_word}
+use Rattle.iop_kernel.specs.System.{Core, System, is_active, caller, running_registers, with_threads, with_variable_pools, opened, code_word}
 use Rattle.iop_kernel.specs.ThreadStarts.{ended}
 use Rattle.iop_kernel.specs.Waits.{wakes_with}
 use Rattle.iop_kernel.specs.declared.active_handler.ActiveHandler.{ActiveHandler}
 use Rattle.iop_kernel.proofs.Keeping.Core.{would_switch, with_them, ended_alone, running_steady}
-use Rattle.iop_kernel.proofs.Keeping.Goes.{Called, Goes, Went, one_runs, is_there, caller_runs_by, answered_alone, numbered, still, faulted, threads_go, made, woken, wakes_go, leaving_goes, requeueing_goes, leaves, waits_go, runs_not, suspended_awake, rotated, rotated_alone}
+use Rattle.iop_kernel.proofs.Keeping.Goes.{Called, Goes, Went, one_runs, is_there, caller_runs_by, answered_alone, numbered, still, faulted, threads_go, made, woken, wakes_go, leaving_goes, requeueing_goes, leaves, waits_go, runs_not, suspended_awake, rotated, rotated_alone, met_go}
 use Rattle.iop_kernel.proofs.Keeping.Handlers.{gives_to, returned_alone, kept_steady, returns_handler_follows}
 use Rattle.iop_kernel.proofs.Keeping.Leaving.{ended_dormant, rotated_ready, deleted_gone}
 use Rattle.iop_kernel.proofs.Keeping.Meetings.{met_of, threads_met}
 use Rattle.iop_kernel.proofs.Keeping.RunningThread.{running_rotates, none_rotates, running_terminates, running_suspends, caller_runs, no_caller, own_registers}
+use Rattle.iop_kernel.proofs.Walk.Meeting.{all_met}
 use Rattle.iop_kernel.proofs.Walk.Moves.{Moves, CallMoves}
 
 -- to set an alarm takes one number at most
@@ -262,14 +265,18 @@ module _ (s : System) (active : is_active s.core.kernel ≡ true) where
           (is_there _ thread is);
     };
     objects = λ kind own_library. record {
-      makes = λ x legal. still s;
-      deletes = λ o found. woken s (threads_in_order kind o) deleted;
+      makes = λ x blocks legal made. still s;
+      deletes = λ o blocks found gone. woken s (threads_in_order kind o) deleted;
       changes = λ id x y known how. still s;
-      wakes = λ id x one known chosen. wakes_go s one.one.item.thread _;
+      wakes = λ id word x one known chosen is. wakes_go s one.one.item.thread word;
       waits = λ id thread x wants is may known must place leave.
           waits_go s _ (Object kind id) (still s) refl may (is_there _ thread is);
     };
     sets = λ own_library bits o found. woken s (threads_met (met_of o bits)) (code_word OK);
+    meets = λ own_library id block x known there.
+        let met = all_met id (with_variable_pools now
+        (with_ranges now.kernel.variable_pools id x (without block x.ranges))) in
+        subst (λ (c : Core). Goes s c) (sym met.core) (met_go s met.met);
   }
 
   -- a number that is not listed changes nothing of this, and a handler's return gives the

@@ -11,6 +11,7 @@ use Rattle.iop_kernel.proofs.Keeping.Stores.{services_store, has_written}
 use Rattle.iop_kernel.proofs.Overdue.Services.{services_overdue}
 use Rattle.iop_kernel.proofs.KeptPlaces.{places_in, services_have_places}
 use Rattle.iop_kernel.proofs.Placing.Services.{services_place}
+use Rattle.iop_kernel.proofs.SoundPools.{services_sound}
 use Rattle.iop_kernel.proofs.Walk.Services.{services_go, asked_active}
 
 -- what each does with the kernel, its processor and its caller
@@ -42,4 +43,5 @@ services_keep s code active =
           let left = (services s code).left.state in
           places_in s.memory left.memory left.core.kernel stored.stored.size
           (services_have_places s code have);
+      pools = λ are size sound. services_sound s are size sound code;
     }

@@ -32,6 +32,8 @@ opening_overdue = record {
     | kinds.Semaphore ↦ λ id x is. cc
     | kinds.EventFlag ↦ λ id x is. cc
     | kinds.Mailbox ↦ λ id x is. cc
+    | kinds.VariablePool ↦ λ id x is. cc
+    | kinds.FixedPool ↦ λ id x is. cc
   ];
   sleepers = operations_keep_sleepers.opening;
 }

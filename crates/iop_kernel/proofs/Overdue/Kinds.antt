@@ -1,5 +1,5 @@
 -- No wait for an object of any kind is overdue, when one changes, comes or goes.
-use Rattle.std.proofs.Common.{◌≡◌, ℕ, Bool, false, ◌⊎◌, inl, inr, Some, List, [], ◌∷◌, ◌++◌, refl, sym, ap, ◌∙◌, subst}
+use Rattle.std.proofs.Common.{◌≡◌, ℕ, Bool, false, ◌⊎◌, inl, inr, Some, None, List, [], ◌∷◌, ◌++◌, refl, sym, ap, ◌∙◌, subst}
 use Rattle.std.specs.Prelude.{bit_and}
 use Rattle.std.proofs.lemmas.Bool.{eqb-false, eqb-true}
 use Rattle.std.proofs.lemmas.List.Elements.{All-nil, All-push, All-weaker}
@@ -13,9 +13,14 @@ use Rattle.iop_objects.specs.Objects.{state_of, waiters_of, changes, with_state,
 use Rattle.iop_queues.specs.Queue.{Choice, chooses}
 use Rattle.iop_queues.specs.declared.queued.Queued.{Queued}
 use Rattle.iop_objects.specs.declared.waiter.Waiter.{Waiter}
+use Rattle.iop_pools.specs.Pools as pools
+use Rattle.iop_pools.specs.Pools.{Pool, length_for}
+use Rattle.iop_pools.specs.VariablePools.{place_of}
+use Rattle.iop_pools.specs.declared.range.Range.{Range}
+use Rattle.iop_pools.proofs.Fuller.{fuller, fuller_unplaced}
 use Rattle.iop_sema.specs.Semaphores.{by_priority}
 use Rattle.iop_thread.specs.declared.kind.Kind.{Kind}
-use Rattle.iop_thread.specs.declared.kind.Kind.TheVariants.{Semaphore, EventFlag, Mailbox}
+use Rattle.iop_thread.specs.declared.kind.Kind.TheVariants.{Semaphore, EventFlag, Mailbox, VariablePool, FixedPool}
 use Rattle.iop_kernel.specs.Kinds.{State, Wants, Table}
 use Rattle.iop_kernel.specs.Overdue.{AreIdle, IsIdle}
 use Rattle.iop_kernel.proofs.Overdue.Objects.{each_changes, each_with_waiters, each_with_state, each_creates, each_deletes}
@@ -23,13 +28,19 @@ use Rattle.iop_kernel.proofs.Placing.Moves.{settled_flag}
 use Rattle.iop_kernel.proofs.Placing.ObjectsKept.{NoOthers, all_others, none_new, none_without, none_requeued, none_chosen_new}
 use Rattle.iop_kernel.proofs.Placing.Queues.{none_chosen, all_chosen}
 use Rattle.iop_kernel.proofs.Walk.Changes.{Changes, HasToWait}
+use Rattle.iop_kernel.proofs.Walk.Changes.FixedChanges.{takes as take_block, gives as give_block}
 use Rattle.iop_kernel.proofs.Walk.Changes.FlagChanges.{clears, tests}
 use Rattle.iop_kernel.proofs.Walk.Changes.MailboxChanges.{puts, gets}
 use Rattle.iop_kernel.proofs.Walk.Changes.SemaphoreChanges.{counts, takes}
+use Rattle.iop_kernel.proofs.Walk.Changes.VariableChanges.{takes as take_memory}
 
 -- threads wait for the objects of a kind only where there is nothing to be had
 pub record InTime (kind : Kind) (s : Table kind) : Type 0 where
   pub idle : AreIdle kind s
+
+-- the size for which one waits does not fit
+abbrev pub Unplaced : Pool → Queued (Waiter ℕ) → Type 0
+Unplaced x w = place_of x w.item.wants ≡ None
 
 -- so it is where none is new
 idle_others : (kind : Kind) (x : State kind) (old new : List (Queued (Waiter (Wants kind))))
@@ -40,12 +51,18 @@ idle_others EventFlag x old new none unmet =
     all_others (λ w. is_met x.pattern w ≡ false) old new none unmet
 idle_others Mailbox x old new none (inl empty) = inl (none_new old new none empty)
 idle_others Mailbox x old new none (inr clear) = inr clear
+idle_others VariablePool x old new none unplaced =
+    all_others (λ w. place_of x w.wants ≡ None) old new none unplaced
+idle_others FixedPool x old new none (inl empty) = inl (none_new old new none empty)
+idle_others FixedPool x old new none (inr full) = inr full
 
 -- none waits for one that is made
 idle_first : (kind : Kind) (x : State kind) → IsIdle kind x []
 idle_first Semaphore x = inl refl
 idle_first EventFlag x = All-nil (IsUnmet x.pattern)
 idle_first Mailbox x = inl refl
+idle_first VariablePool x = All-nil (Unplaced x)
+idle_first FixedPool x = inl refl
 
 -- a thread waits that has to
 idle_last : (kind : Kind) (s : Table kind) (id : ℕ) (x : State kind)
@@ -56,6 +73,8 @@ idle_last EventFlag s id x w must idle =
     All-push (IsUnmet x.pattern) (waiters_of s id) w idle must.2
 idle_last Mailbox s id x w none idle =
     inr (all_chosen (messages_by_priority x.attr) x.messages none)
+idle_last VariablePool s id x w none idle = All-push (Unplaced x) (waiters_of s id) w idle none
+idle_last FixedPool s id x w none idle = inr none
 
 -- where there is something to be had none waits
 none_at : {W E : Type 0} {ws : List W} → (ws ≡ []) ⊎ E → (E → ⊥) → ws ≡ []
@@ -80,6 +99,14 @@ idle_changed Mailbox s id x y (puts message none room) idle =
 idle_changed Mailbox s id x y (gets one next) idle =
     let first = messages_by_priority x.attr in
     inl (none_at idle (λ clear. none_chosen first one (sym (ap (chooses first) clear) ∙ next)))
+idle_changed VariablePool s id x y (take_memory size place some is) idle =
+    let r : Range = record { start = place; size = length_for x size } in
+    All-weaker (Unplaced x) (Unplaced (fuller x r))
+    (λ w none. fuller_unplaced x r w.item.wants none) (waiters_of s id) idle
+idle_changed FixedPool s id x y (take_block place is) idle =
+    inl (none_at idle (λ full. cc (is, full)))
+idle_changed FixedPool s id x y (give_block block there none) idle =
+    inl (all_chosen (pools.by_priority x) (waiters_of s id) none)
 
 module _ (kind : Kind) (s : Table kind) (h : InTime kind s) where
   -- none waits for one that did not

@@ -24,6 +24,7 @@ use Rattle.iop_kernel.proofs.Keeping.Handlers.{gives_to}
 use Rattle.iop_kernel.proofs.Keeping.Meetings.{met_of, threads_met}
 use Rattle.iop_kernel.proofs.Overdue.Kernels.{sleepers, with_other_threads, threads_come, woken_in_time, blocked_in_time, beside_in_time, opened_in_time, leaves_in_time, requeues_in_time, in_time_of, with_other_objects}
 use Rattle.iop_kernel.proofs.Overdue.Kinds.{settles_in_time, chosen_in_time, waits_in_time, creates_in_time, deletes_in_time, changes_in_time}
+use Rattle.iop_kernel.proofs.Overdue.Meeting.{met_in_time}
 use Rattle.iop_kernel.proofs.Walk.Moves.{Moves, CallMoves}
 use Rattle.iop_kernel.proofs.Walk.Services.{services_go, asked_not}
 
@@ -120,17 +121,17 @@ module _ (s : System) (h : NoneOverdue s.core.kernel) where
           (running_registers s.core) (λ asleep. cc asleep);
     };
     objects = λ kind own_library. let t = table kind k in let due = in_time_of k h kind in record {
-      makes = λ x legal. with_other_objects k h kind _ (creates_in_time kind t due x);
-      deletes = λ o found.
+      makes = λ x blocks legal made. with_other_objects k h kind _ (creates_in_time kind t due x);
+      deletes = λ o blocks found gone.
           with_other_objects _ (woken_in_time k h (threads_in_order kind o)
           (code_word OBJECT_DELETED)) kind _ (deletes_in_time kind t due o.id);
       changes = λ id x y known how.
           with_other_objects k h kind _ (changes_in_time kind t due id x y known how);
-      wakes = λ id x one known chosen.
+      wakes = λ id word x one known chosen is.
           with_other_threads _
           (with_other_objects k h kind _
           (chosen_in_time kind t due id (waits_by_priority kind x) one chosen)) _
-          ((sleepers k h).wakes one.one.item.thread (code_word OK));
+          ((sleepers k h).wakes one.one.item.thread word);
       waits = λ id thread x wants is may known must place leave.
           blocked_in_time _ (with_other_objects k h kind _
           (waits_in_time kind t due id x _ known must)) (Object kind id)
@@ -140,6 +141,7 @@ module _ (s : System) (h : NoneOverdue s.core.kernel) where
         woken_in_time _ (with_other_objects k h EventFlag _
         (settles_in_time k.event_flags (in_time_of k h EventFlag) o.id (settles now o.waiters)
         (none_overdue now o.waiters))) (threads_met (met_of o bits)) (code_word OK);
+    meets = λ own_library id block x known there. met_in_time s.core h id block x known;
   }
 
   in_time_calls : CallMoves InTimeSystem InTimeAfter ⊤ s

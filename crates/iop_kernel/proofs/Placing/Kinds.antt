@@ -10,12 +10,17 @@ use Rattle.iop_objects.specs.Objects as objects
 use Rattle.iop_queues.specs.Queue.{Choice, chooses, in_order}
 use Rattle.iop_queues.specs.declared.queued.Queued.{Queued}
 use Rattle.iop_objects.specs.declared.waiter.Waiter.{Waiter}
-use Rattle.iop_objects.proofs.Changes.{waiters_of-with_waiters}
+use Rattle.iop_objects.proofs.Changes.{waiters_of-with_waiters, waiters_of-with_state}
+use Rattle.iop_pools.specs.Pools.{Pool}
+use Rattle.iop_pools.specs.VariablePools.{VariablePools, meets_next}
+use Rattle.iop_pools.specs.declared.met.Met.{Met}
+use Rattle.iop_pools.proofs.MetNext.{met_next}
 use Rattle.iop_thread.specs.Operations as threads
 use Rattle.iop_thread.specs.Placing.{times}
 use Rattle.iop_thread.specs.ThreadTable.{ThreadTable, is_it, priority_of}
 use Rattle.iop_thread.specs.Waits.{wait_of}
 use Rattle.iop_thread.specs.declared.kind.Kind.{Kind}
+use Rattle.iop_thread.specs.declared.kind.Kind.TheVariants.{VariablePool}
 use Rattle.iop_thread.specs.declared.wait.Wait.{Wait}
 use Rattle.iop_thread.specs.declared.wait.Wait.TheVariants.{Delay, Object}
 use Rattle.iop_thread.proofs.ReadyIds.{times_first}
@@ -27,11 +32,11 @@ use Rattle.iop_kernel.specs.System.{Kernel}
 use Rattle.iop_kernel.specs.Waits.{threads_of, wakes_all}
 use Rattle.iop_kernel.proofs.Bodies.KindTables.{for_object, own_object}
 use Rattle.iop_kernel.proofs.Placing.Basics.{places, moves, keeps, same_live}
-use Rattle.iop_kernel.proofs.Placing.Objects.{IsBut, with_waiters_but}
-use Rattle.iop_kernel.proofs.Placing.ObjectsKept.{all_but_chosen}
+use Rattle.iop_kernel.proofs.Placing.Objects.{IsBut, with_waiters_but, with_state_but, but_twice}
+use Rattle.iop_kernel.proofs.Placing.ObjectsKept.{all_but_chosen, all_but_taken}
 use Rattle.iop_kernel.proofs.Placing.Priorities.{all_waiting, keeps_priorities}
 use Rattle.iop_kernel.proofs.Placing.QueuedPriorities.{queued_on}
-use Rattle.iop_kernel.proofs.Placing.Queues.{times_added, times_in, times_in_last, times_in_order, chosen_split}
+use Rattle.iop_kernel.proofs.Placing.Queues.{times_added, times_in, times_in_last, times_in_order, chosen_split, taken_split}
 use Rattle.iop_kernel.proofs.Placing.Rooms.{fewer_delays, runs_undelayed}
 use Rattle.iop_kernel.proofs.Placing.Threads.{all_woken, delay_turns, object_turns, running_waits_not}
 use Rattle.iop_kernel.proofs.Placing.Turns.{Turns}
@@ -173,6 +178,36 @@ module _ (kind : Kind) (k : Kernel) (h : IsPlaced k) (id : ℕ) where
       ))
       (λ were. subst (All (HasItsPriority k.threads)) (sym now)
       (all_but_chosen (HasItsPriority k.threads) ordered (waiters_of s id) one chosen were))
+
+-- so where one is met that waits for a variable pool, and its memory is taken
+pub met_placed : (k : Kernel) → IsPlaced k → (id : ℕ) (met : Met) (left : VariablePools)
+    → meets_next k.variable_pools id ≡ (Some met, left)
+    → IsPlaced (record k {
+      variable_pools = left;
+      threads = threads.wakes k.threads met.thread met.block;
+    })
+met_placed k h id met left is =
+    let s = k.variable_pools in
+    let m = met_next s id met left is in
+    let rest = objects.with_waiters s id m.one.others in
+    let now = waiters_of-with_waiters s id m.x m.known m.one.others in
+    let last = λ (y : Pool). waiters_of-with_state rest id y ∙ now in
+    let placed = λ (y : Pool). woken_placed VariablePool k h id
+    (but_twice id (with_waiters_but s id m.one.others) (with_state_but rest id y))
+    (met.thread ∷ []) met.block
+    (λ t. omega (
+      arith,
+      ap (times_in t) (last y),
+      taken_split t (waiters_of s id) m.one m.taken,
+      times_first t met.thread [],
+      ap (λ thread. one_if (thread == t)) m.thread,
+    ))
+    (λ were. subst (All (HasItsPriority k.threads)) (sym (last y))
+    (all_but_taken (HasItsPriority k.threads) m.taken were)) in
+    subst (λ (l : VariablePools). IsPlaced (record k {
+      variable_pools = l;
+      threads = threads.wakes k.threads met.thread met.block;
+    })) (sym m.leaves) (placed _)
 
 -- all that wait for an object, in order of priority or of arrival
 pub all_in_order : {A W : Type 0} (s : objects.Objects A W) (o : objects.Object A W)

@@ -6,7 +6,7 @@ use Rattle.std.proofs.lemmas.List.{get_or-map, length-map}
 use Rattle.std.proofs.lemmas.List.Elements.{All-filter, All-map, All-push, All-weaker}
 use Rattle.std.proofs.lemmas.List.Kept.{AllPairs-filter}
 use Rattle.std.proofs.lemmas.List.Quantifiers.{all_pairs_push}
-use Rattle.iop_objects.specs.Objects.{Object, Objects, object_of, state_of, waiters_in, waiters_of, changes, deletes, with_waiters}
+use Rattle.iop_objects.specs.Objects.{Object, Objects, object_of, state_of, waiters_in, waiters_of, changes, deletes, with_state, with_waiters}
 use Rattle.iop_queues.specs.declared.queued.Queued.{Queued}
 use Rattle.iop_objects.specs.declared.waiter.Waiter.{Waiter}
 use Rattle.iop_objects.proofs.Changes.{object_of-changed}
@@ -25,6 +25,14 @@ module _ {A W : Type 0} where
     pub others : (other : ℕ) → (other == id) ≡ false → waiters_of left other ≡ waiters_of s other
     pub ids : HaveOwnIds s.live → HaveOwnIds left.live
     pub given : HaveIdsBelow s.next s.live → HaveIdsBelow left.next left.live
+
+  -- so they are after two changes
+  pub but_twice : (id : ℕ) {s t u : Objects A W} → IsBut id s t → IsBut id t u → IsBut id s u
+  but_twice id g h = record {
+    others = λ other apart. h.others other apart ∙ g.others other apart;
+    ids = λ own. h.ids (g.ids own);
+    given = λ below. h.given (g.given below);
+  }
 
   -- the object that is found has the id
   pub object_of_id : (live : List (Object A W)) (id : ℕ) (o : Object A W)
@@ -129,6 +137,10 @@ module _ {A W : Type 0} (s : Objects A W) (id : ℕ) where
   pub with_waiters_but : (waiters : List (Queued (Waiter W)))
       → IsBut id s (with_waiters s id waiters)
   with_waiters_but waiters = changes_but id (λ o. record o { waiters = waiters }) (λ o. refl) s
+
+  -- so where something else is known of the object
+  pub with_state_but : (state : A) → IsBut id s (with_state s id state)
+  with_state_but state = changes_but id (λ o. record o { state = state }) (λ o. refl) s
 
   -- an object is deleted
   pub deletes_but : IsBut id s (deletes s id)

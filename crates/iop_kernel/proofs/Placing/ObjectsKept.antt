@@ -10,6 +10,7 @@ use Rattle.iop_queues.specs.Queue.{Choice, chooses}
 use Rattle.iop_objects.specs.WaiterQueues.{is_thread, without, with_priority, requeued}
 use Rattle.iop_queues.specs.declared.queued.Queued.{Queued}
 use Rattle.iop_objects.specs.declared.waiter.Waiter.{Waiter}
+use Rattle.iop_queues.specs.Laws.{IsTaken}
 use Rattle.iop_queues.proofs.Choosing.{queues_chosen}
 use Rattle.iop_kernel.specs.CodeLaws.{KeepsObjects}
 use Rattle.iop_kernel.proofs.Placing.Objects.{with_waiters_but, waiters_now, waiters_leave_states}
@@ -83,14 +84,24 @@ module _ {W : Type 0} where
   chosen_one Each false (x ∷ xs) c chosen all =
       let same : x ≡ c.one = cc in subst Each same (All-head Each x xs all)
 
-  -- and of those that are not
+  -- what holds of each holds of those behind and before one that is taken
+  pub all_but_taken : (Each : Queued (Waiter W) → Type 0) {waiters : List (Queued (Waiter W))}
+      {c : Choice (Waiter W)} → IsTaken waiters c → All Each waiters → All Each c.others
+  all_but_taken Each {waiters} {c} taken all =
+      subst (All Each) (sym taken.others_are)
+      (without_one Each taken.before taken.behind c.one (subst (All Each) taken.queue_is all))
+
+  pub none_taken_new : {waiters : List (Queued (Waiter W))} {c : Choice (Waiter W)}
+      → IsTaken waiters c → NoOthers waiters c.others
+  none_taken_new {waiters} taken =
+      all_but_taken (IsAmong waiters) taken (themselves waiters)
+
+  -- and of those that are not chosen
   pub all_but_chosen : (Each : Queued (Waiter W) → Type 0) (by_priority : Bool)
       (waiters : List (Queued (Waiter W))) (c : Choice (Waiter W))
       → chooses by_priority waiters ≡ Some c → All Each waiters → All Each c.others
   all_but_chosen Each true waiters c chosen all =
-      let taken = (queues_chosen.by_priority waiters c chosen).taken in
-      subst (All Each) (sym taken.others_are)
-      (without_one Each taken.before taken.behind c.one (subst (All Each) taken.queue_is all))
+      all_but_taken Each (queues_chosen.by_priority waiters c chosen).taken all
   all_but_chosen Each false [] c chosen all = cc
   all_but_chosen Each false (x ∷ xs) c chosen all =
       let same : xs ≡ c.others = cc in subst (All Each) same (All-tail Each x xs all)

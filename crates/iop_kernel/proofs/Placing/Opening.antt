@@ -7,7 +7,7 @@ use Rattle.iop_thread.specs.Operations.{opening, dormant_thread, loader_param}
 use Rattle.iop_thread.specs.States.{wait_in}
 use Rattle.iop_thread.specs.Waits.{wait_of}
 use Rattle.iop_thread.specs.declared.kind.Kind.{Kind}
-use Rattle.iop_thread.specs.declared.kind.Kind.TheVariants.{Semaphore, EventFlag, Mailbox}
+use Rattle.iop_thread.specs.declared.kind.Kind.TheVariants.{Semaphore, EventFlag, Mailbox, VariablePool, FixedPool}
 use Rattle.iop_thread.specs.declared.thread.TheConstants.{LOADER, LOADER_STACK}
 use Rattle.iop_thread.proofs.Placed.{placed_opening}
 use Rattle.iop_time.specs.Timers.{no_timers}
@@ -54,6 +54,8 @@ opening_placed = record {
     | Semaphore ↦ none_waited Semaphore
     | EventFlag ↦ none_waited EventFlag
     | Mailbox ↦ none_waited Mailbox
+    | VariablePool ↦ none_waited VariablePool
+    | FixedPool ↦ none_waited FixedPool
   ];
   delays = none_delayed;
 }

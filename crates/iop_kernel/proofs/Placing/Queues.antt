@@ -11,6 +11,7 @@ use Rattle.iop_queues.specs.Queue.{Choice, chooses, chooses_best, in_order, put_
 use Rattle.iop_objects.specs.WaiterQueues.{is_thread, without, with_priority, in_place, moved_last, requeued}
 use Rattle.iop_queues.specs.declared.queued.Queued.{Queued}
 use Rattle.iop_objects.specs.declared.waiter.Waiter.{Waiter}
+use Rattle.iop_queues.specs.Laws.{IsTaken}
 use Rattle.iop_queues.proofs.Choosing.{queues_chosen}
 use Rattle.iop_thread.specs.Placing.{times}
 use Rattle.iop_thread.proofs.ReadyIds.{times_first, times_last}
@@ -92,6 +93,17 @@ module _ {W : Type 0} (t : ℕ) where
   -- the one that is chosen, and the others
   abbrev IsSplit : List (Queued (Waiter W)) → Choice (Waiter W) → Type 0
   IsSplit xs c = times_in xs ≡ one_if (c.one.item.thread == t) + times_in c.others
+
+  -- so of one that is taken
+  pub taken_split : (xs : List (Queued (Waiter W))) (c : Choice (Waiter W)) → IsTaken xs c
+      → times_in xs ≡ one_if (c.one.item.thread == t) + times_in c.others
+  taken_split xs c h =
+      ap times_in h.queue_is ∙ times_in_append h.before (c.one ∷ h.behind) ∙ omega (
+        arith,
+        times_in_first c.one h.behind,
+        ap times_in h.others_are,
+        times_in_append h.before h.behind,
+      )
 
   -- by priority
   best_split : (xs : List (Queued (Waiter W))) (c : Choice (Waiter W)) → chooses_best xs ≡ Some c

@@ -20,7 +20,7 @@ use Rattle.iop_thread.specs.States.{is_running, wait_in}
 use Rattle.iop_thread.specs.ThreadTable.{ThreadTable, thread_of, is_it}
 use Rattle.iop_thread.specs.Waits.{wait_of}
 use Rattle.iop_thread.specs.declared.kind.Kind.{Kind}
-use Rattle.iop_thread.specs.declared.kind.Kind.TheVariants.{Semaphore, EventFlag, Mailbox}
+use Rattle.iop_thread.specs.declared.kind.Kind.TheVariants.{Semaphore, EventFlag, Mailbox, VariablePool, FixedPool}
 use Rattle.iop_thread.specs.declared.state.State.{State}
 use Rattle.iop_thread.specs.declared.state.State.TheVariants.{Running}
 use Rattle.iop_thread.specs.declared.thread.Thread.{Thread}
@@ -229,4 +229,8 @@ module _ {R : Type 0} {stands_for : R → List Entry → Type 0} (k : Program R)
         subst (λ o. waiting o < MOST_WAITERS) holds.event_flags (room_for none EventFlag);
     mailboxes = λ none.
         subst (λ o. waiting o < MOST_WAITERS) holds.mailboxes (room_for none Mailbox);
+    variable_pools = λ none.
+        subst (λ o. waiting o < MOST_WAITERS) holds.variable_pools (room_for none VariablePool);
+    fixed_pools = λ none.
+        subst (λ o. waiting o < MOST_WAITERS) holds.fixed_pools (room_for none FixedPool);
   }

@@ -9,10 +9,12 @@ use Rattle.iop_exec.specs.Row.{reg}
 use Rattle.iop_exec.specs.declared.cpu.Cpu.{Cpu}
 use Rattle.iop_objects.specs.Objects.{waiters_in}
 use Rattle.iop_objects.proofs.Apart.{none_stays}
+use Rattle.iop_pools.specs.Pools.{with_ranges}
+use Rattle.iop_pools.specs.Ranges.{without}
 use Rattle.iop_thread.specs.Operations as threads
 use Rattle.iop_thread.specs.Placing.{times}
 use Rattle.iop_thread.specs.ThreadTable.{ThreadTable}
-use Rattle.iop_thread.specs.declared.kind.Kind.TheVariants.{EventFlag}
+use Rattle.iop_thread.specs.declared.kind.Kind.TheVariants.{EventFlag, VariablePool}
 use Rattle.iop_thread.specs.declared.wait.Wait.TheVariants.{Sleep}
 use Rattle.iop_thread.proofs.FindingThreads.{finds_by_id}
 use Rattle.iop_kernel.specs.EventFlags.{LiveFlag}
@@ -20,13 +22,13 @@ use Rattle.iop_kernel.specs.Kinds.{Live, table, waits_by_priority}
 use Rattle.iop_kernel.specs.ObjectServices.{threads_in_order}
 use Rattle.iop_kernel.specs.Placing.{IsPlaced, HasItsPriority}
 use Rattle.iop_kernel.specs.Serving.{services}
-use Rattle.iop_kernel.specs.System.{Kernel, System, running_registers, opened, answered, code_word}
+use Rattle.iop_kernel.specs.System.{Kernel, System, running_registers, with_variable_pools, opened, answered, code_word}
 use Rattle.iop_kernel.specs.ThreadStarts.{ended}
 use Rattle.iop_kernel.specs.declared.after.After.{After}
 use Rattle.iop_kernel.proofs.Keeping.Meetings.{threads_met}
 use Rattle.iop_kernel.proofs.Keeping.RunningThread.{caller_runs}
 use Rattle.iop_kernel.proofs.Placing.Basics.{comes, stand_on, places, moves, keeps, open_placed, ended_places, beside_placed}
-use Rattle.iop_kernel.proofs.Placing.Kinds.{all_in_order, blocked_turns, delayed_placed, blocked_placed, chosen_placed, woken_placed}
+use Rattle.iop_kernel.proofs.Placing.Kinds.{all_in_order, blocked_turns, delayed_placed, blocked_placed, chosen_placed, woken_placed, met_placed}
 use Rattle.iop_kernel.proofs.Placing.Moves.{deleted_placed, made_placed, terminated_placed, changed_placed, woken_up_placed, set_placed, cancelled_placed, settled_flag, settled_rest, times_settled}
 use Rattle.iop_kernel.proofs.Placing.Objects.{changes_but, deletes_but, waiters_own}
 use Rattle.iop_kernel.proofs.Placing.Priorities.{all_waiting}
@@ -34,6 +36,7 @@ use Rattle.iop_kernel.proofs.Placing.Queues.{times_in}
 use Rattle.iop_kernel.proofs.Placing.Steps.{handler_returned_places}
 use Rattle.iop_kernel.proofs.Placing.Threads.{placed_own, placed_leaves, asleep_turns}
 use Rattle.iop_kernel.proofs.Placing.Turns.{waited_state, waited_creates}
+use Rattle.iop_kernel.proofs.Walk.Meeting.{meets_last}
 use Rattle.iop_kernel.proofs.Walk.Moves.{Moves, CallMoves}
 use Rattle.iop_kernel.proofs.Walk.Services.{services_go, asked_not}
 
@@ -122,8 +125,8 @@ module _ (s : System) (h : IsPlaced s.core.kernel) where
           delayed_placed k h registers moment thread (caller_runs s.core thread is);
     };
     objects = λ kind own_library. let t = table kind k in let mine = h.objects kind in record {
-      makes = λ x legal. placed_own k h kind _ (waited_creates kind t mine x);
-      deletes = λ o found.
+      makes = λ x blocks legal made. placed_own k h kind _ (waited_creates kind t mine x);
+      deletes = λ o blocks found gone.
           woken_placed kind k h o.id (deletes_but t o.id) (threads_in_order kind o)
           (code_word OBJECT_DELETED) (λ x. omega (
             arith,
@@ -133,7 +136,7 @@ module _ (s : System) (h : IsPlaced s.core.kernel) where
           (λ were. subst (λ (p : Option (Live kind)). All (HasItsPriority now) (waiters_in p))
           (sym (none_stays o.id t.live)) (All-nil (HasItsPriority now)));
       changes = λ id x y is how. placed_own k h kind _ (waited_state kind t mine id y);
-      wakes = λ id x one is chosen. chosen_placed kind k h id x is one chosen (code_word OK);
+      wakes = λ id word x one is chosen what. chosen_placed kind k h id x is one chosen word;
       waits = λ id thread x wants is may at must place leave.
           blocked_placed kind k h id registers thread (caller_runs s.core thread is) x at wants;
     };
@@ -150,6 +153,13 @@ module _ (s : System) (h : IsPlaced s.core.kernel) where
         (λ were. subst (All (HasItsPriority now)) (sym waiters)
         (settled_rest (HasItsPriority now) pattern o.waiters
         (subst (λ (x : Option LiveFlag). All (HasItsPriority now) (waiters_in x)) found were)));
+    meets = λ own_library id block x known there.
+        let left = with_ranges k.variable_pools id x (without block x.ranges) in
+        meets_last (λ d. IsPlaced d.kernel) id
+        (λ c met rest is placed. met_placed c.kernel placed id met rest is)
+        (with_variable_pools s.core left)
+        (placed_own k h VariablePool left
+        (waited_state VariablePool k.variable_pools (h.objects VariablePool) id _));
   }
 
   placed_calls : CallMoves Kept Ended ⊤ s

@@ -5,27 +5,32 @@ use Rattle.iop_objects.specs.Objects as objects
 use Rattle.iop_thread.specs.States.{wait_in, state_number, kind_number, object_of}
 use Rattle.iop_thread.specs.ThreadTable.{thread_of}
 use Rattle.iop_thread.specs.declared.kind.Kind.{Kind}
-use Rattle.iop_thread.specs.declared.kind.Kind.TheVariants.{Semaphore, EventFlag, Mailbox}
+use Rattle.iop_thread.specs.declared.kind.Kind.TheVariants.{Semaphore, EventFlag, Mailbox, VariablePool, FixedPool}
 use Rattle.iop_thread.specs.declared.state.State.{State}
 use Rattle.iop_thread.specs.declared.state.State.TheVariants.{Dormant, Running, Ready, Waiting, Suspended, WaitingSuspended}
 use Rattle.iop_thread.specs.declared.thread.Thread.{Thread}
 use Rattle.iop_thread.specs.declared.wait.Wait.{Wait}
 use Rattle.iop_thread.specs.declared.wait.Wait.TheVariants.{Sleep, Delay, Object}
-use Rattle.iop_kernel.specs.Boards.{Board}
+use Rattle.iop_kernel.specs.Boards.{Board, board_of}
 use Rattle.iop_kernel.specs.EventFlags.{flag_words, serves_thevent}
+use Rattle.iop_kernel.specs.FixedPools.{fpl_words, serves_thfpool}
 use Rattle.iop_kernel.specs.Kinds.{Live, table}
 use Rattle.iop_kernel.specs.Mailboxes.{mailbox_words, serves_thmsgbx}
 use Rattle.iop_kernel.specs.NamedThreads.{named}
 use Rattle.iop_kernel.specs.ObjectServices.{refer_status}
 use Rattle.iop_kernel.specs.Semaphores.{semaphore_words, serves_thsemap}
+use Rattle.iop_kernel.specs.PoolLaws.{HasVariablePoolStatus, VariablePoolStatusIsRead, HasFixedPoolStatus, FixedPoolStatusIsRead}
 use Rattle.iop_kernel.specs.StatusLaws.{HasStatus, StatusIsRead, HasSemaphoreStatus, SemaphoreStatusIsRead, HasFlagStatus, FlagStatusIsRead, HasMailboxStatus, MailboxStatusIsRead}
 use Rattle.iop_kernel.specs.System.{System, Served, argument, caller, words_place}
 use Rattle.iop_kernel.specs.Thbase.{serves_thbase}
+use Rattle.iop_kernel.specs.VariablePools.{vpl_words, serves_thvpool}
 use Rattle.iop_kernel.specs.ThreadStatus.{wait_words, status_words, refer_thread_status}
 use Rattle.iop_kernel.specs.declared.event_flags.TheConstants.{FLAG_STATUS_WORDS}
+use Rattle.iop_kernel.specs.declared.fixed_pools.TheConstants.{FPL_STATUS_WORDS}
 use Rattle.iop_kernel.specs.declared.mailboxes.TheConstants.{MAILBOX_STATUS_WORDS}
 use Rattle.iop_kernel.specs.declared.semaphores.TheConstants.{SEMAPHORE_STATUS_WORDS}
 use Rattle.iop_kernel.specs.declared.thread_status.TheConstants.{STATUS_WORDS}
+use Rattle.iop_kernel.specs.declared.variable_pools.TheConstants.{VPL_STATUS_WORDS}
 use Rattle.iop_kernel.proofs.Bodies.ThreadStatus.{refers_named}
 use Rattle.iop_kernel.proofs.Keeping.Memory.{words_inside, length-status_bytes}
 use Rattle.iop_kernel.proofs.Readings.WordBytes.{length-bytes_of_words, written, word_at, first_at}
@@ -55,6 +60,8 @@ kind_is_word (Some Delay) = refl
 kind_is_word (Some (Object Semaphore id)) = refl
 kind_is_word (Some (Object EventFlag id)) = refl
 kind_is_word (Some (Object Mailbox id)) = refl
+kind_is_word (Some (Object VariablePool id)) = refl
+kind_is_word (Some (Object FixedPool id)) = refl
 
 -- the words of a thread's status
 status_stands : (memory : List ℕ) (place : ℕ) (t : Thread) → place + 48 ≤ length memory
@@ -144,7 +151,7 @@ flag_status_is_read b =
       waiting = at 4 (omega arith);
     }) b (argument b.core 0) (argument b.core 1)
 
--- and of a mailbox
+-- of a mailbox
 pub mailbox_status_is_read : MailboxStatusIsRead
 unfolding serves_thmsgbx
 mailbox_status_is_read b =
@@ -156,3 +163,31 @@ mailbox_status_is_read b =
       messages = at 3 (omega arith);
       next = at 4 (omega arith);
     }) b (argument b.core 0) (argument b.core 1)
+
+-- of a variable pool
+pub vpl_status_is_read : VariablePoolStatusIsRead
+unfolding serves_thvpool
+vpl_status_is_read s =
+    object_status VariablePool vpl_words VPL_STATUS_WORDS (λ o. refl) (omega arith)
+    HasVariablePoolStatus (λ ram place o first at. record {
+      attr = first;
+      option = at 1 (omega arith);
+      size = at 2 (omega arith);
+      free = at 3 (omega arith);
+      greatest = at 4 (omega arith);
+      waiting = at 5 (omega arith);
+    }) (board_of s) (argument s.core 0) (argument s.core 1)
+
+-- and of a fixed one
+pub fpl_status_is_read : FixedPoolStatusIsRead
+unfolding serves_thfpool
+fpl_status_is_read s =
+    object_status FixedPool fpl_words FPL_STATUS_WORDS (λ o. refl) (omega arith)
+    HasFixedPoolStatus (λ ram place o first at. record {
+      attr = first;
+      option = at 1 (omega arith);
+      size = at 2 (omega arith);
+      blocks = at 3 (omega arith);
+      free = at 4 (omega arith);
+      waiting = at 5 (omega arith);
+    }) (board_of s) (argument s.core 0) (argument s.core 1)

@@ -48,7 +48,7 @@ use Rattle.iop_kernel.specs.System.{Core, Left, Done, argument, may_switch, call
 use Rattle.iop_kernel.specs.SystemClock.{waits_until, delay_thread}
 use Rattle.iop_kernel.specs.Thbase.{serves_thbase}
 use Rattle.iop_kernel.specs.ThreadWaits.{sleeps_by, sleep_thread}
-use Rattle.iop_kernel.specs.WaitingLaws.{Stops, WaitsFor, LeavesSo, InState, WaitsBeginSo}
+use Rattle.iop_kernel.specs.WaitingLaws.{Stops, WaitsFor, LeavesSo, InState}
 use Rattle.iop_kernel.specs.declared.after.After.TheVariants.{Switch}
 use Rattle.iop_kernel.proofs.Bodies.KindTables.{own_table}
 use Rattle.iop_kernel.proofs.Keeping.Leaving.{blocked_state, rotated_state}
@@ -151,13 +151,13 @@ module _ (c : Core) (placed : IsPlaced c.kernel) (thread : ℕ) (calls : caller 
 
   -- it waits for a live object
   module _ (kind : Kind) (id : ℕ) (wants : Wants kind) where
-    abbrev Waits : Left Core → Type 0
+    abbrev pub Waits : Left Core → Type 0
     Waits = Leaves (λ left. WaitsFor kind c left id wants thread)
 
     stands : WaitsFor kind c (waits_for kind c id wants (Some thread)).state id wants thread
     stands = record { stops = blocked (Object kind id); objects = own_table kind c.kernel _ }
 
-    waits_so : (o : Option ℕ) → caller c ≡ o → Waits (waits_for kind c id wants o)
+    pub waits_so : (o : Option ℕ) → caller c ≡ o → Waits (waits_for kind c id wants o)
     waits_so None is = absurd (cc (calls, is))
     waits_so (Some other) is =
         let same : thread ≡ other = cc (calls, is) in
@@ -249,11 +249,11 @@ place_by b at id None is = absurd (cc is)
 place_by b at id (Some place) is = (place, refl)
 
 -- the services, by their arguments
-thread_sleeps : LeavesSo (Thbase SleepThread) (InState (λ s. Waiting Sleep s.core.cpu))
+pub thread_sleeps : LeavesSo (Thbase SleepThread) (InState (λ s. Waiting Sleep s.core.cpu))
 unfolding serves serves_thbase
 thread_sleeps s thread placed calls = slept s.core placed thread calls
 
-thread_delayed : LeavesSo (Thbase DelayThread)
+pub thread_delayed : LeavesSo (Thbase DelayThread)
     (λ s left thread. let old = s.core.kernel in
     InState (λ s. Waiting Delay s.core.cpu) s left thread
     × (left.kernel.timers
@@ -261,23 +261,23 @@ thread_delayed : LeavesSo (Thbase DelayThread)
 unfolding serves serves_thbase
 thread_delayed s thread placed calls = delayed s.core placed thread calls (argument s.core 0)
 
-thread_rotates : LeavesSo (Thbase RotateThreadReadyQueue)
+pub thread_rotates : LeavesSo (Thbase RotateThreadReadyQueue)
     (InState (λ s. Ready (with_reg s.core.cpu 2 0)))
 unfolding serves serves_thbase
 thread_rotates s thread placed calls = rotated s.core placed thread calls (argument s.core 0)
 
-thread_takes : LeavesSo (Thsemap WaitSema)
+pub thread_takes : LeavesSo (Thsemap WaitSema)
     (λ s left. WaitsFor Semaphore s.core left (argument s.core 0) tt)
 unfolding serves serves_thsemap
 thread_takes s thread placed calls = sema_waits s.core placed thread calls (argument s.core 0)
 
-thread_tests : LeavesSo (Thevent WaitEventFlag)
+pub thread_tests : LeavesSo (Thevent WaitEventFlag)
     (λ s left. WaitsFor EventFlag s.core left (argument s.core 0) (wanted s.core))
 unfolding serves serves_thevent
 thread_tests s thread placed calls =
     flag_waits (board_of s) placed thread calls (argument s.core 0) (wanted s.core)
 
-thread_receives : LeavesSo (Thmsgbx ReceiveMbx)
+pub thread_receives : LeavesSo (Thmsgbx ReceiveMbx)
     (λ s left thread.
     WaitsFor Mailbox s.core left (argument s.core 1) (argument s.core 0) thread
     × ((place : ℕ) × (words_place s.memory (argument s.core 0) 1 ≡ Some place)))
@@ -288,13 +288,3 @@ thread_receives s thread placed calls is =
       mailbox_waits (board_of s) placed thread calls at id is,
       place_by (board_of s) at id (words_place s.memory at 1) is,
     )
-
-pub waits_begin_so : WaitsBeginSo
-waits_begin_so = record {
-  sleeps = thread_sleeps;
-  delays = thread_delayed;
-  rotates = thread_rotates;
-  semaphore = thread_takes;
-  flag = thread_tests;
-  mailbox = thread_receives;
-}

@@ -20,7 +20,7 @@ use Rattle.iop_kernel.specs.Semaphores.{serves_thsemap}
 use Rattle.iop_kernel.specs.Serving.{serves}
 use Rattle.iop_kernel.specs.System.{Core, argument}
 use Rattle.iop_kernel.specs.Thbase.{serves_thbase}
-use Rattle.iop_kernel.specs.WaitingLaws.{MayStop, StopsWhere, IsZero, IsUnmet, IsEmpty, WaitsBeginWhere}
+use Rattle.iop_kernel.specs.WaitingLaws.{MayStop, StopsWhere, IsZero, IsUnmet, IsEmpty}
 use Rattle.iop_kernel.specs.declared.after.After.TheVariants.{Switch}
 use Rattle.iop_kernel.proofs.Keeping.RunningThread.{caller_runs}
 
@@ -30,11 +30,11 @@ found : (c : Core) (thread : ℕ) (t : Thread) → MayStop c thread t
 found c thread t h =
     ap (option_and_then (thread_of c.kernel.threads.live)) (caller_runs c thread h.calls) ∙ h.live
 
-thread_sleeps : StopsWhere (Thbase SleepThread) (λ s t. t.wakeups ≡ 0)
+pub thread_sleeps : StopsWhere (Thbase SleepThread) (λ s t. t.wakeups ≡ 0)
 unfolding serves serves_thbase
 thread_sleeps s thread t h none = rw (h.may, found s.core thread t h, none) refl
 
-thread_delays : StopsWhere (Thbase DelayThread) (λ s t. ⊤)
+pub thread_delays : StopsWhere (Thbase DelayThread) (λ s t. ⊤)
 unfolding serves serves_thbase
 thread_delays s thread t h any = rw (h.may, h.calls) refl
 
@@ -60,16 +60,16 @@ module _ (c : Core) (thread : ℕ) (t : Thread) (h : MayStop c thread t) where
   rotates_given word (inr is) =
       ap (λ (o : Option ℕ). (rotates_by c word o).after) is ∙ gives_way
 
-thread_rotates : StopsWhere (Thbase RotateThreadReadyQueue)
+pub thread_rotates : StopsWhere (Thbase RotateThreadReadyQueue)
     (λ s t. (argument s.core 0 ≡ 0) ⊎ (priority_of_word (argument s.core 0) ≡ Some t.priority))
 unfolding serves serves_thbase
 thread_rotates s thread t h is = rotates_given s.core thread t h (argument s.core 0) is
 
-thread_takes : StopsWhere (Thsemap WaitSema) (λ s t. IsZero s)
+pub thread_takes : StopsWhere (Thsemap WaitSema) (λ s t. IsZero s)
 unfolding serves serves_thsemap
 thread_takes s thread t h is = rw (h.may, is.known, is.zero, h.calls) refl
 
-thread_tests : StopsWhere (Thevent WaitEventFlag) (λ s t. IsUnmet s)
+pub thread_tests : StopsWhere (Thevent WaitEventFlag) (λ s t. IsUnmet s)
 unfolding serves serves_thevent
 thread_tests s thread t h is =
     let bits = ne_eqb (argument s.core 1) 0 is.some in
@@ -80,20 +80,10 @@ none_chosen : (by_priority : Bool) → chooses {T = ℕ} by_priority [] ≡ None
 none_chosen true = refl
 none_chosen false = refl
 
-thread_receives : StopsWhere (Thmsgbx ReceiveMbx) (λ s t. IsEmpty s)
+pub thread_receives : StopsWhere (Thmsgbx ReceiveMbx) (λ s t. IsEmpty s)
 unfolding serves serves_thmsgbx
 thread_receives s thread t h is =
     let by = messages_by_priority is.x.attr in
     let nothing : chooses by is.x.messages ≡ None =
     ap (chooses by) is.empty ∙ none_chosen by in
     rw (is.good, h.may, is.known, nothing, h.calls) refl
-
-pub waits_begin_where : WaitsBeginWhere
-waits_begin_where = record {
-  sleeps = thread_sleeps;
-  delays = thread_delays;
-  rotates = thread_rotates;
-  semaphore = thread_takes;
-  flag = thread_tests;
-  mailbox = thread_receives;
-}

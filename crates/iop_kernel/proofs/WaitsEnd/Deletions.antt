@@ -8,17 +8,20 @@ use Rattle.iop_thread.specs.Placing.{times}
 use Rattle.iop_thread.specs.ThreadTable.{ThreadTable}
 use Rattle.iop_thread.specs.Waits.{wait_of}
 use Rattle.iop_thread.specs.declared.kind.Kind.{Kind}
-use Rattle.iop_thread.specs.declared.kind.Kind.TheVariants.{Semaphore, EventFlag, Mailbox}
+use Rattle.iop_thread.specs.declared.kind.Kind.TheVariants.{Semaphore, EventFlag, Mailbox, VariablePool, FixedPool}
 use Rattle.iop_thread.specs.declared.wait.Wait.{Wait}
 use Rattle.iop_thread.specs.declared.wait.Wait.TheVariants.{Object}
 use Rattle.iop_thread.proofs.ReadyIds.{contained}
 use Rattle.iop_kernel.specs.EventFlags.{serves_thevent}
+use Rattle.iop_kernel.specs.FixedPools.{serves_thfpool}
 use Rattle.iop_kernel.specs.Kinds.{Live, Table, table, waits_by_priority}
 use Rattle.iop_kernel.specs.Mailboxes.{serves_thmsgbx}
 use Rattle.iop_kernel.specs.ObjectServices.{threads_in_order, deletes_object, delete_object}
 use Rattle.iop_kernel.specs.Placing.{IsPlaced, is_for}
 use Rattle.iop_kernel.specs.Semaphores.{serves_thsemap}
+use Rattle.iop_kernel.specs.Serving.{serves}
 use Rattle.iop_kernel.specs.System.{Kernel, Core, Left, argument, with_threads, code_word}
+use Rattle.iop_kernel.specs.VariablePools.{serves_thvpool}
 use Rattle.iop_kernel.specs.Waits.{wakes_all}
 use Rattle.iop_kernel.specs.WakingLaws.{WakesAll, DeletionsWakeAll}
 use Rattle.iop_kernel.proofs.Bodies.KindTables.{own_table, own_object}
@@ -101,7 +104,9 @@ object_wakes kind c id o h live =
 
 -- by the service of each kind
 pub deletions_wake_all : DeletionsWakeAll
-unfolding serves_thsemap serves_thevent serves_thmsgbx
-deletions_wake_all Semaphore b o = object_wakes Semaphore b.core (argument b.core 0) o
-deletions_wake_all EventFlag b o = object_wakes EventFlag b.core (argument b.core 0) o
-deletions_wake_all Mailbox b o = object_wakes Mailbox b.core (argument b.core 0) o
+unfolding serves serves_thsemap serves_thevent serves_thmsgbx serves_thvpool serves_thfpool
+deletions_wake_all Semaphore s o = object_wakes Semaphore s.core (argument s.core 0) o
+deletions_wake_all EventFlag s o = object_wakes EventFlag s.core (argument s.core 0) o
+deletions_wake_all Mailbox s o = object_wakes Mailbox s.core (argument s.core 0) o
+deletions_wake_all VariablePool s o = object_wakes VariablePool s.core (argument s.core 0) o
+deletions_wake_all FixedPool s o = object_wakes FixedPool s.core (argument s.core 0) o

@@ -1,12 +1,15 @@
 -- How the waits of threads end, by the service or the delivery that ends them.
-use Rattle.std.proofs.Common.{◌≡◌, ℕ, zero, suc, ◌<◌, false, if◌then◌else◌, Option, Some, None, Ok, List, [], ◌∷◌, Contains, refl, ap, sym, ◌∙◌, subst, arith}
+use Rattle.std.proofs.Common.{◌≡◌, ℕ, zero, suc, ◌<◌, true, false, if◌then◌else◌, Option, Some, None, Ok, Err, List, [], ◌∷◌, Contains, refl, ap, sym, ◌∙◌, subst, arith}
 use Rattle.std.specs.Prelude.{bit_or, option_and_then, option_map, unwrap_or}
 use Rattle.std.proofs.lemmas.Bool.Decides.{nat_tests}
 use Rattle.iop_base.specs.Numbers.{one_if}
-use Rattle.iop_base.specs.declared.code.TheConstants.Code.{ILLEGAL_THREAD, WAIT_RELEASED}
+use Rattle.iop_base.specs.declared.code.TheConstants.Code.{ILLEGAL_BLOCK, ILLEGAL_THREAD, WAIT_RELEASED}
 use Rattle.iop_event.specs.WakeConditions.{settles}
 use Rattle.iop_mbx.specs.Mailboxes as mailboxes
-use Rattle.iop_objects.specs.Objects.{object_of, state_of, waiters_in, waiters_of, takes, with_waiters}
+use Rattle.iop_objects.specs.Objects.{object_of, state_of, waiters_in, waiters_of, takes, takes_next, with_waiters}
+use Rattle.iop_pools.specs.FixedPools as pools
+use Rattle.iop_pools.specs.Pools.{by_priority}
+use Rattle.iop_pools.specs.Ranges.{is_out}
 use Rattle.iop_queues.specs.Queue.{chooses}
 use Rattle.iop_sema.specs.Semaphores as semaphores
 use Rattle.iop_thread.specs.Operations.{wakes, wakes_up}
@@ -15,7 +18,7 @@ use Rattle.iop_thread.specs.States.{wait_in}
 use Rattle.iop_thread.specs.ThreadTable.{thread_of}
 use Rattle.iop_thread.specs.Waits.{wait_of}
 use Rattle.iop_thread.specs.Waking.{IsWoken}
-use Rattle.iop_thread.specs.declared.kind.Kind.TheVariants.{Semaphore, EventFlag, Mailbox}
+use Rattle.iop_thread.specs.declared.kind.Kind.TheVariants.{Semaphore, EventFlag, Mailbox, FixedPool}
 use Rattle.iop_thread.specs.declared.thread.Thread.{Thread}
 use Rattle.iop_thread.specs.declared.wait.Wait.{Wait}
 use Rattle.iop_thread.specs.declared.wait.Wait.TheVariants.{Sleep, Delay, Object}
@@ -27,6 +30,7 @@ use Rattle.iop_kernel.specs.Boards.{Board}
 use Rattle.iop_kernel.specs.Deliveries.{Delivered}
 use Rattle.iop_kernel.specs.DeliveryLaws.{DeliversDelay}
 use Rattle.iop_kernel.specs.EventFlags.{sets_flag, set_event_flag, serves_thevent}
+use Rattle.iop_kernel.specs.FixedPools.{frees_fpl, free_fpl, serves_thfpool}
 use Rattle.iop_kernel.specs.Kinds.{Live}
 use Rattle.iop_kernel.specs.Mailboxes.{sends_by, send_mbx, serves_thmsgbx}
 use Rattle.iop_kernel.specs.NamedThreads.{is_nobody_else}
@@ -36,11 +40,13 @@ use Rattle.iop_kernel.specs.Semaphores.{signals_by, signal_sema, serves_thsemap}
 use Rattle.iop_kernel.specs.System.{Kernel, Core, Left, Done, argument, answers, code_word}
 use Rattle.iop_kernel.specs.Thbase.{serves_thbase}
 use Rattle.iop_kernel.specs.ThreadWaits.{releases_from, releases_it, release_wait, wakeup_thread}
+use Rattle.iop_kernel.specs.VariablePools.{serves_thvpool}
 use Rattle.iop_kernel.specs.Waits.{wakes_with, leaves_object}
 use Rattle.iop_kernel.specs.WakingLaws.{WakesOne, WakesEach, WaitsEndSo}
 use Rattle.iop_kernel.proofs.Keeping.Meetings.{threads_met, meets_core}
 use Rattle.iop_kernel.proofs.Placing.Moves.{times_settled}
 use Rattle.iop_kernel.proofs.Placing.Queues.{delayed}
+use Rattle.iop_kernel.proofs.WaitsEnd.Met.{free_wakes}
 use Rattle.iop_kernel.proofs.WaitsEnd.Waiters.{next_of, times_there, first_waits, each_wakes}
 
 -- a signal
@@ -94,6 +100,33 @@ send_wakes b id message o thread rest h live is =
           (sym (ap (sends_by b id message) did))
           (subst (λ one. IsWoken k.threads (wakes k.threads next.0.one.item.thread 0) one 0)
           next.2 (wakes_so k.threads next.0.one.item.thread 0));
+    }
+
+-- a block that is given back
+give_wakes : (c : Core) (id block : ℕ) (o : Live FixedPool) (thread : ℕ) (rest : List ℕ)
+    → IsPlaced c.kernel → object_of c.kernel.fixed_pools.live id ≡ Some o
+    → is_out block o.state.ranges ≡ true → threads_in_order FixedPool o ≡ thread ∷ rest
+    → WakesOne thread (Object FixedPool id) block c.kernel.threads
+    (free_fpl c id block).state.kernel.threads
+give_wakes c id block o thread rest h live there is =
+    let s = c.kernel.fixed_pools in
+    let by = by_priority o.state in
+    let next = next_of thread rest by o.waiters is in
+    let chosen : chooses by (waiters_of s id) ≡ Some next.0 =
+    ap (λ (found : Option (Live FixedPool)). chooses by (waiters_in found)) live ∙ next.1 in
+    let did = ap (pools.gives_it s id block) (ap (option_map (λ o. o.state)) live)
+    ∙ ap (λ b. if b then pools.gives_to s id block o.state (takes_next s id by)
+    else (Err ILLEGAL_BLOCK, s)) there
+    ∙ ap (λ one. pools.gives_to s id block o.state (takes s id one)) chosen in
+    let left =
+    frees_fpl c block (Ok (Some next.0.one.item.thread), with_waiters s id next.0.others) in
+    record {
+      waited = first_waits FixedPool c.kernel h id o live thread rest is;
+      woken = subst (λ (left : Left Core).
+          IsWoken c.kernel.threads left.state.kernel.threads thread block)
+          (sym (ap (frees_fpl c block) did))
+          (subst (λ one. IsWoken c.kernel.threads left.state.kernel.threads one block) next.2
+          (wakes_so c.kernel.threads next.0.one.item.thread block));
     }
 
 -- bits that are set
@@ -194,11 +227,13 @@ delay_wakes c d delay h stands delivers = record {
 }
 
 pub waits_end_so : WaitsEndSo
-unfolding serves_thbase serves_thsemap serves_thevent serves_thmsgbx
+unfolding serves_thbase serves_thsemap serves_thevent serves_thmsgbx serves_thvpool serves_thfpool
 waits_end_so = record {
   signals = λ b. signal_wakes b.core (argument b.core 0);
   sends = λ b. send_wakes b (argument b.core 0) (argument b.core 1);
   sets = λ b. set_wakes b (argument b.core 0) (argument b.core 1);
+  gives = λ s. give_wakes s.core (argument s.core 0) (argument s.core 1);
+  frees = λ s. free_wakes s.core (argument s.core 0) (argument s.core 1);
   releases = λ s. release_wakes s.core (argument s.core 0);
   wakes_up = λ s. wakeup_wakes s.core (argument s.core 0);
   delays = delay_wakes;

@@ -53,7 +53,7 @@ most_once : (b : Bool) → one_if b ≤ 1
 most_once true = omega arith
 most_once false = omega arith
 
-there_if : (b : Bool) → 0 < one_if b → b ≡ true
+pub there_if : (b : Bool) → 0 < one_if b → b ≡ true
 there_if true some = refl
 there_if false some = absurd (omega (arith, some))
 

@@ -5,11 +5,13 @@ use Rattle.std.proofs.lemmas.Bool.Decides.{nat_tests}
 use Rattle.iop_services.specs.Table.{row_of, allows}
 use Rattle.iop_services.specs.declared.row.Row.{Row}
 use Rattle.iop_services.specs.declared.service.Service.{Service}
-use Rattle.iop_services.specs.declared.service.Service.TheVariants.{Thbase, Thsemap, Thevent, Thmsgbx}
+use Rattle.iop_services.specs.declared.service.Service.TheVariants.{Thbase, Thsemap, Thevent, Thmsgbx, Thvpool, Thfpool}
 use Rattle.iop_services.specs.declared.thbase_service.ThbaseService.TheVariants.{ExitThread, ExitDeleteThread, DisableDispatchThread, SleepThread, DelayThread}
 use Rattle.iop_services.specs.declared.thevent_service.TheventService.TheVariants.{WaitEventFlag}
+use Rattle.iop_services.specs.declared.thfpool_service.ThfpoolService.TheVariants.{AllocateFpl}
 use Rattle.iop_services.specs.declared.thmsgbx_service.ThmsgbxService.TheVariants.{ReceiveMbx}
 use Rattle.iop_services.specs.declared.thsemap_service.ThsemapService.TheVariants.{WaitSema}
+use Rattle.iop_services.specs.declared.thvpool_service.ThvpoolService.TheVariants.{AllocateVpl}
 use Rattle.iop_services.proofs.Rows.{AllPass, rows_all}
 use Rattle.iop_kernel.specs.System.{Core, caller_beside, caller, in_handler, is_active}
 use Rattle.iop_kernel.specs.declared.active_handler.ActiveHandler.{ActiveHandler}
@@ -24,6 +26,8 @@ asks_for_thread (Thbase DelayThread) = true
 asks_for_thread (Thsemap WaitSema) = true
 asks_for_thread (Thevent WaitEventFlag) = true
 asks_for_thread (Thmsgbx ReceiveMbx) = true
+asks_for_thread (Thvpool AllocateVpl) = true
+asks_for_thread (Thfpool AllocateFpl) = true
 asks_for_thread other = false
 
 -- whether a row that a handler may call is of another service
@@ -42,6 +46,8 @@ all_suit = record {
   thevent = refl;
   thmsgbx = refl;
   stdio = refl;
+  thvpool = refl;
+  thfpool = refl;
 }
 
 -- by the handler that runs, and the thread

@@ -53,7 +53,7 @@ module _ {P : System → List Piece → Type 0} {Q : After → System → List P
       (λ illegal. only e _)
       (λ legal. answers_after e _ _
       (m.makes (record { attr = attr; option = option; first = first; pattern = first })
-      (grind (arith, nat_tests, legal), refl)))
+      s.blocks (grind (arith, nat_tests, legal), refl) refl))
 
   pub creates_flag_goes : (o : Option ℕ) → CoreGoes (creates_flag_at c s.memory o)
   creates_flag_goes None = e.bad_place

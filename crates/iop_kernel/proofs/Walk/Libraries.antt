@@ -12,7 +12,7 @@ use Rattle.iop_services.specs.declared.intrman_service.IntrmanService.TheVariant
 use Rattle.iop_services.specs.declared.loadcore_service.LoadcoreService.{LoadcoreService}
 use Rattle.iop_services.specs.declared.loadcore_service.LoadcoreService.TheVariants as loadcore
 use Rattle.iop_services.specs.declared.service.Service.{Service}
-use Rattle.iop_services.specs.declared.service.Service.TheVariants.{Thbase, Thsemap, Thevent, Thmsgbx}
+use Rattle.iop_services.specs.declared.service.Service.TheVariants.{Thbase, Thsemap, Thevent, Thmsgbx, Thvpool, Thfpool}
 use Rattle.iop_services.specs.declared.stdio_service.StdioService.{StdioService}
 use Rattle.iop_services.specs.declared.stdio_service.StdioService.TheVariants as stdio
 use Rattle.iop_services.specs.declared.sysmem_service.SysmemService.{SysmemService}
@@ -21,10 +21,14 @@ use Rattle.iop_services.specs.declared.thbase_service.ThbaseService.{ThbaseServi
 use Rattle.iop_services.specs.declared.thbase_service.ThbaseService.TheVariants as thbase
 use Rattle.iop_services.specs.declared.thevent_service.TheventService.{TheventService}
 use Rattle.iop_services.specs.declared.thevent_service.TheventService.TheVariants as thevent
+use Rattle.iop_services.specs.declared.thfpool_service.ThfpoolService.{ThfpoolService}
+use Rattle.iop_services.specs.declared.thfpool_service.ThfpoolService.TheVariants as thfpool
 use Rattle.iop_services.specs.declared.thmsgbx_service.ThmsgbxService.{ThmsgbxService}
 use Rattle.iop_services.specs.declared.thmsgbx_service.ThmsgbxService.TheVariants as thmsgbx
 use Rattle.iop_services.specs.declared.thsemap_service.ThsemapService.{ThsemapService}
 use Rattle.iop_services.specs.declared.thsemap_service.ThsemapService.TheVariants as thsemap
+use Rattle.iop_services.specs.declared.thvpool_service.ThvpoolService.{ThvpoolService}
+use Rattle.iop_services.specs.declared.thvpool_service.ThvpoolService.TheVariants as thvpool
 use Rattle.iop_stubs.specs.Stubs.{range_place}
 use Rattle.iop_sysmem.specs.Allocating.{allocating}
 use Rattle.iop_sysmem.specs.BlockMap.{BlockMap}
@@ -36,6 +40,7 @@ use Rattle.iop_time.specs.ClockTime.{ticks_of}
 use Rattle.iop_kernel.specs.Boards.{board_of}
 use Rattle.iop_kernel.specs.Callers.{may_leave}
 use Rattle.iop_kernel.specs.EventFlags.{flag_words, wanted, serves_thevent}
+use Rattle.iop_kernel.specs.FixedPools.{fpl_words, serves_thfpool}
 use Rattle.iop_kernel.specs.Interrupts.{serves_intrman}
 use Rattle.iop_kernel.specs.Mailboxes.{mailbox_words, serves_thmsgbx}
 use Rattle.iop_kernel.specs.NamedThreads.{named}
@@ -45,23 +50,28 @@ use Rattle.iop_kernel.specs.Stacks.{creates_at, creates_with, creates_from}
 use Rattle.iop_kernel.specs.System.{System, argument, caller, silent, words_place}
 use Rattle.iop_kernel.specs.Thbase.{serves_thbase}
 use Rattle.iop_kernel.specs.ThreadStatus.{refers_it, refers_to, refers_at, status_bytes}
+use Rattle.iop_kernel.specs.VariablePools.{vpl_words, serves_thvpool}
 use Rattle.iop_kernel.specs.declared.after.After.{After}
 use Rattle.iop_kernel.specs.declared.event_flags.TheConstants.{FLAG_WORDS, FLAG_STATUS_WORDS}
+use Rattle.iop_kernel.specs.declared.fixed_pools.TheConstants.{FPL_WORDS, FPL_STATUS_WORDS}
 use Rattle.iop_kernel.specs.declared.mailboxes.TheConstants.{MAILBOX_WORDS, MAILBOX_STATUS_WORDS}
 use Rattle.iop_kernel.specs.declared.semaphores.TheConstants.{SEMAPHORE_WORDS, SEMAPHORE_STATUS_WORDS}
 use Rattle.iop_kernel.specs.declared.stacks.TheConstants.{PARAM_WORDS, FROM_ABOVE}
 use Rattle.iop_kernel.specs.declared.system_clock.TheConstants.{TIME_WORDS}
 use Rattle.iop_kernel.specs.declared.thread_status.TheConstants.{STATUS_WORDS}
+use Rattle.iop_kernel.specs.declared.variable_pools.TheConstants.{VPL_WORDS, VPL_STATUS_WORDS}
 use Rattle.iop_kernel.proofs.Keeping.Memory.{range_inside, words_inside, length-status_bytes}
 use Rattle.iop_kernel.proofs.Walk.Callers.{asks_for_thread}
 use Rattle.iop_kernel.proofs.Walk.EventFlags.{clears_go, creates_flag_goes, sets_flag_goes, waits_flag_goes, polls_flag_goes}
+use Rattle.iop_kernel.proofs.Walk.FixedPools.{creates_fpl_goes, deletes_fpl_goes, allocates_fpl_goes, polls_fpl_go, frees_fpl_go}
 use Rattle.iop_kernel.proofs.Walk.Interrupts.{sets_alarm_goes, disables_go, disables_line_goes, suspends_goes}
 use Rattle.iop_kernel.proofs.Walk.Mailboxes.{creates_mbx_goes, sends_go, waits_mbx_goes, polls_mbx_goes}
-use Rattle.iop_kernel.proofs.Walk.Moves.{EachMoves, RegistryMoves, BlockMoves, InterruptMoves, AlarmMoves, ThreadMoves, ObjectMoves, Sets, BoardEnds, Ends}
+use Rattle.iop_kernel.proofs.Walk.Moves.{EachMoves, RegistryMoves, BlockMoves, InterruptMoves, AlarmMoves, ThreadMoves, ObjectMoves, Sets, Meets, BoardEnds, Ends}
 use Rattle.iop_kernel.proofs.Walk.Objects.{deletes_goes}
 use Rattle.iop_kernel.proofs.Walk.Semaphores.{creates_sema_goes, signals_go, wait_sema_goes, polls_sema_go}
 use Rattle.iop_kernel.proofs.Walk.Stores.{stored, status_goes, writes_time_goes, converts_go}
 use Rattle.iop_kernel.proofs.Walk.Threads.{answers_after, only, start_goes, exits_go, terminate_goes, set_goes, changes_go, rotates_by_go, release_goes, sleep_goes, wakeup_goes, cancels_go, suspend_goes, resume_goes, delay_goes, delete_goes, exits_deleted_by_go}
+use Rattle.iop_kernel.proofs.Walk.VariablePools.{creates_vpl_goes, deletes_vpl_goes, allocates_vpl_goes, polls_vpl_go, frees_vpl_go}
 
 -- the arguments of a call, and a place of so many words
 abbrev a : System → ℕ → ℕ
@@ -177,7 +187,7 @@ module _ {P : System → List Piece → Type 0} {Q : After → System → List P
   unfolding serves_thsemap asks_for_thread may_leave
   thsemap_goes moves thsemap.CreateSema asks leave =
       creates_sema_goes e moves (place s (a s 0) SEMAPHORE_WORDS)
-  thsemap_goes moves thsemap.DeleteSema asks leave = deletes_goes e kinds.Semaphore moves (a s 0)
+  thsemap_goes moves thsemap.DeleteSema asks leave = deletes_goes e kinds.Semaphore moves (λ x. refl) (a s 0)
   thsemap_goes moves thsemap.SignalSema asks leave = signals_go e moves (a s 0)
   thsemap_goes moves thsemap.WaitSema asks leave =
       wait_sema_goes e moves (asks refl) (leave refl) (a s 0)
@@ -194,7 +204,7 @@ module _ {P : System → List Piece → Type 0} {Q : After → System → List P
   thevent_goes moves setting thevent.CreateEventFlag asks leave =
       creates_flag_goes e moves (place s (a s 0) FLAG_WORDS)
   thevent_goes moves setting thevent.DeleteEventFlag asks leave =
-      deletes_goes e kinds.EventFlag moves (a s 0)
+      deletes_goes e kinds.EventFlag moves (λ x. refl) (a s 0)
   thevent_goes moves setting thevent.SetEventFlag asks leave =
       sets_flag_goes e moves setting (a s 0) (a s 1)
   thevent_goes moves setting thevent.ClearEventFlag asks leave = clears_go e moves (a s 0) (a s 1)
@@ -213,7 +223,7 @@ module _ {P : System → List Piece → Type 0} {Q : After → System → List P
   unfolding serves_thmsgbx asks_for_thread may_leave
   thmsgbx_goes moves thmsgbx.CreateMbx asks leave =
       creates_mbx_goes e moves (place s (a s 0) MAILBOX_WORDS)
-  thmsgbx_goes moves thmsgbx.DeleteMbx asks leave = deletes_goes e kinds.Mailbox moves (a s 0)
+  thmsgbx_goes moves thmsgbx.DeleteMbx asks leave = deletes_goes e kinds.Mailbox moves (λ x. refl) (a s 0)
   thmsgbx_goes moves thmsgbx.SendMbx asks leave = sends_go e moves (a s 0) (a s 1)
   thmsgbx_goes moves thmsgbx.ReceiveMbx asks leave =
       waits_mbx_goes e moves (asks refl) (leave refl) (a s 0) (a s 1)
@@ -222,6 +232,35 @@ module _ {P : System → List Piece → Type 0} {Q : After → System → List P
       status_goes e kinds.Mailbox mailbox_words MAILBOX_STATUS_WORDS (λ o. refl) (a s 0)
       (place s (a s 1) MAILBOX_STATUS_WORDS)
       (words_inside s.memory (a s 1) MAILBOX_STATUS_WORDS)
+
+  pub thvpool_goes : ObjectMoves P Q Asks s MayLeave kinds.VariablePool → Meets P Q Asks s
+      → (x : ThvpoolService) → IsAsked (Thvpool x) Asks → IsLeft (Thvpool x) MayLeave
+      → Ends Q (serves_thvpool s x)
+  unfolding serves_thvpool asks_for_thread may_leave
+  thvpool_goes moves meet thvpool.CreateVpl asks leave =
+      creates_vpl_goes e moves (place s (a s 0) VPL_WORDS)
+  thvpool_goes moves meet thvpool.DeleteVpl asks leave = deletes_vpl_goes e moves (a s 0)
+  thvpool_goes moves meet thvpool.AllocateVpl asks leave =
+      allocates_vpl_goes e moves (a s 0) (a s 1) (asks refl) (leave refl)
+  thvpool_goes moves meet thvpool.PAllocateVpl asks leave = polls_vpl_go e moves (a s 0) (a s 1)
+  thvpool_goes moves meet thvpool.FreeVpl asks leave = frees_vpl_go e moves meet (a s 0) (a s 1)
+  thvpool_goes moves meet thvpool.ReferVplStatus asks leave =
+      status_goes e kinds.VariablePool vpl_words VPL_STATUS_WORDS (λ o. refl) (a s 0)
+      (place s (a s 1) VPL_STATUS_WORDS) (words_inside s.memory (a s 1) VPL_STATUS_WORDS)
+
+  pub thfpool_goes : ObjectMoves P Q Asks s MayLeave kinds.FixedPool → (x : ThfpoolService)
+      → IsAsked (Thfpool x) Asks → IsLeft (Thfpool x) MayLeave → Ends Q (serves_thfpool s x)
+  unfolding serves_thfpool asks_for_thread may_leave
+  thfpool_goes moves thfpool.CreateFpl asks leave =
+      creates_fpl_goes e moves (place s (a s 0) FPL_WORDS)
+  thfpool_goes moves thfpool.DeleteFpl asks leave = deletes_fpl_goes e moves (a s 0)
+  thfpool_goes moves thfpool.AllocateFpl asks leave =
+      allocates_fpl_goes e moves (a s 0) (asks refl) (leave refl)
+  thfpool_goes moves thfpool.PAllocateFpl asks leave = polls_fpl_go e moves (a s 0)
+  thfpool_goes moves thfpool.FreeFpl asks leave = frees_fpl_go e moves (a s 0) (a s 1)
+  thfpool_goes moves thfpool.ReferFplStatus asks leave =
+      status_goes e kinds.FixedPool fpl_words FPL_STATUS_WORDS (λ o. refl) (a s 0)
+      (place s (a s 1) FPL_STATUS_WORDS) (words_inside s.memory (a s 1) FPL_STATUS_WORDS)
 
   pub thbase_goes : ThreadMoves P Q Asks s MayLeave → AlarmMoves P Q Asks s
       → (x : ThbaseService) → IsAsked (Thbase x) Asks → IsLeft (Thbase x) MayLeave

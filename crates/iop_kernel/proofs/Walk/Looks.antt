@@ -1,18 +1,24 @@
 -- What looks at the kernel's clock alone, if at the kernel at all, lasts over each change of the
 -- kernel.
-use Rattle.std.proofs.Common.{◌≡◌, ℕ, Option, Some, List, [], refl}
+use Rattle.std.proofs.Common.{◌≡◌, ℕ, Option, Some, List, [], refl, sym, subst}
 use Rattle.iop_base.specs.Piece.{Piece}
 use Rattle.iop_base.specs.declared.code.TheConstants.Code.{WAIT_RELEASED}
 use Rattle.iop_registry.specs.declared.registry.Entry.{Entry}
 use Rattle.iop_sysmem.specs.Allocating.{allocating}
 use Rattle.iop_sysmem.specs.BlockMap.{BlockMap, freeing}
+use Rattle.iop_thread.specs.declared.kind.Kind.{Kind}
+use Rattle.iop_thread.specs.declared.kind.Kind.TheVariants.{Semaphore, EventFlag, Mailbox, VariablePool, FixedPool}
 use Rattle.iop_thread.specs.declared.wait.Wait.{Wait}
 use Rattle.iop_thread.specs.declared.wait.Wait.TheVariants.{Delay, Object}
+use Rattle.iop_kernel.specs.Kinds.{State}
 use Rattle.iop_kernel.specs.System.{Core, System, with_threads, opened}
 use Rattle.iop_kernel.specs.Waits.{core_leaves, core_requeues, wakes_with}
 use Rattle.iop_kernel.specs.declared.after.After.{After}
 use Rattle.iop_kernel.specs.declared.after.After.TheVariants.{Switch, ModuleReturned}
+use Rattle.iop_kernel.specs.declared.pool_services.TheConstants.{FROM_BELOW}
 use Rattle.iop_kernel.specs.declared.stacks.TheConstants.{FROM_ABOVE}
+use Rattle.iop_kernel.proofs.Walk.Changes.{IsMadeOn, GoesFrom}
+use Rattle.iop_kernel.proofs.Walk.Meeting.{meets_clock}
 use Rattle.iop_kernel.proofs.Walk.Moves.{EachMoves, ServiceMoves}
 
 -- a thread that waits no more leaves the clock as it is
@@ -49,6 +55,36 @@ module _ (P : System → List Piece → Type 0) (Q : After → System → List P
     pub switches : (d : System) → P d [] → MayLeave → Q Switch d []
     pub returns : (word : ℕ) → MayLeave
         → Q (ModuleReturned word) (record s { core = opened s.core }) []
+
+  module _ {MayLeave : Type 0} (h : Looks MayLeave) where
+    kept : (blocks : BlockMap) → blocks ≡ s.blocks → (c : Core) → IsNow c
+        → P (record s { core = c; blocks = blocks }) []
+    kept blocks same c now =
+        subst (λ (b : BlockMap). P (record s { core = c; blocks = b }) []) (sym same) (h.cores c now)
+
+    freed : (base : ℕ) (blocks : BlockMap) → blocks ≡ (freeing s.blocks base).1 → (c : Core)
+        → IsNow c → P (record s { core = c; blocks = blocks }) []
+    freed base blocks same c now =
+        subst (λ (b : BlockMap). P (record s { core = c; blocks = b }) []) (sym same)
+        (h.frees base c now)
+
+    -- an object is made on a block, or none
+    made_on : (kind : Kind) (x : State kind) (blocks : BlockMap) → IsMadeOn kind x s.blocks blocks
+        → (c : Core) → IsNow c → P (record s { core = c; blocks = blocks }) []
+    made_on Semaphore x blocks same c now = kept blocks same c now
+    made_on EventFlag x blocks same c now = kept blocks same c now
+    made_on Mailbox x blocks same c now = kept blocks same c now
+    made_on VariablePool x blocks on c now = h.takes FROM_BELOW x.size 0 x.base blocks c now on.taken
+    made_on FixedPool x blocks on c now = h.takes FROM_BELOW x.size 0 x.base blocks c now on.taken
+
+    -- it goes, and its block with it
+    gone_from : (kind : Kind) (x : State kind) (blocks : BlockMap) → GoesFrom kind x s.blocks blocks
+        → (c : Core) → IsNow c → P (record s { core = c; blocks = blocks }) []
+    gone_from Semaphore x blocks same c now = kept blocks same c now
+    gone_from EventFlag x blocks same c now = kept blocks same c now
+    gone_from Mailbox x blocks same c now = kept blocks same c now
+    gone_from VariablePool x blocks same c now = freed x.base blocks same c now
+    gone_from FixedPool x blocks same c now = freed x.base blocks same c now
 
   pub looks_aside : {MayLeave : Type 0} → Looks MayLeave → (library : ℕ)
       → ServiceMoves P Q Asks s MayLeave library
@@ -95,12 +131,13 @@ module _ (P : System → List Piece → Type 0) (Q : After → System → List P
       delays = λ moment thread is may leave. h.switches _ (h.cores _ refl) leave;
     };
     objects = λ kind own_library. record {
-      makes = λ x legal. h.cores _ refl;
-      deletes = λ o found. h.cores _ refl;
+      makes = λ x blocks legal made. made_on h kind x blocks made _ refl;
+      deletes = λ o blocks found gone. gone_from h kind o.state blocks gone _ refl;
       changes = λ id x y known how. h.cores _ refl;
-      wakes = λ id x one known chosen. h.cores _ refl;
+      wakes = λ id word x one known chosen is. h.cores _ refl;
       waits = λ id thread x wants is may known must place leave.
           h.switches _ (h.cores _ refl) leave;
     };
     sets = λ own_library bits o found. h.cores _ refl;
+    meets = λ own_library id block x known there. h.cores _ (meets_clock id _);
   }

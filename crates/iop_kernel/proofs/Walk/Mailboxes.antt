@@ -15,7 +15,7 @@ use Rattle.iop_objects.specs.declared.waiter.Waiter.{Waiter}
 use Rattle.iop_thread.specs.declared.kind.Kind.TheVariants.{Mailbox as MailboxOf}
 use Rattle.iop_kernel.specs.Boards.{Board, board_of, word_in}
 use Rattle.iop_kernel.specs.Mailboxes.{message_priority, creates_mbx_at, leaves_mailboxes, queues_by, queues_message, sends_by, receives_by, receives_or_waits, waits_mbx_at, polls_mbx_at}
-use Rattle.iop_kernel.specs.System.{Core, Left, System, Done, may_switch, caller, with_mailboxes, answers_result, words_place}
+use Rattle.iop_kernel.specs.System.{Core, Left, System, Done, may_switch, caller, with_mailboxes, answers_result, words_place, code_word}
 use Rattle.iop_kernel.specs.declared.after.After.{After}
 use Rattle.iop_kernel.proofs.Bodies.KindTables.{by_priority_known}
 use Rattle.iop_kernel.proofs.Keeping.Memory.{WordsFit, words_inside}
@@ -52,7 +52,7 @@ module _ {P : System → List Piece → Type 0} {Q : After → System → List P
       (λ illegal. only e _)
       (λ legal. answers_after e _ _
       (m.makes (record { attr = attr; option = option; messages = [] })
-      (grind (arith, nat_tests, legal), refl)))
+      s.blocks (grind (arith, nat_tests, legal), refl) refl))
 
   pub creates_mbx_goes : (o : Option ℕ) → CoreGoes (creates_mbx_at c s.memory o)
   creates_mbx_goes None = e.bad_place
@@ -100,7 +100,7 @@ module _ {P : System → List Piece → Type 0} {Q : After → System → List P
   sends_chosen id message x known (Some one) is =
       let at = one.one.item.wants in
       written e (words_place s.memory at 1) (message ∷ []) _ OK (words_inside s.memory at 1)
-      (m.wakes id x one known (ordered id x known is))
+      (m.wakes id (code_word OK) x one known (ordered id x known is) refl)
 
   sends_by_go : (id message : ℕ) (o : Option Mailbox) → state_of boxes id ≡ o
       → BoardGoes (sends_by b id message (mailboxes.waiter_for boxes o

@@ -16,15 +16,17 @@ use Rattle.iop_objects.specs.Objects.{object_of, state_of, waiters_of, with_stat
 use Rattle.iop_objects.specs.Objects as objects
 use Rattle.iop_queues.specs.Queue.{Choice, chooses}
 use Rattle.iop_objects.specs.declared.waiter.Waiter.{Waiter}
+use Rattle.iop_pools.specs.Pools.{with_ranges}
+use Rattle.iop_pools.specs.Ranges.{is_out, without}
 use Rattle.iop_registry.specs.declared.registry.Entry.{Entry}
-use Rattle.iop_services.specs.declared.codes.TheConstants.{LOADCORE, SYSMEM, INTRMAN, THBASE, THEVENT}
+use Rattle.iop_services.specs.declared.codes.TheConstants.{LOADCORE, SYSMEM, INTRMAN, THBASE, THEVENT, THVPOOL}
 use Rattle.iop_sysmem.specs.Allocating.{allocating}
 use Rattle.iop_sysmem.specs.BlockMap.{BlockMap, freeing}
 use Rattle.iop_thread.specs.Operations as threads
 use Rattle.iop_thread.specs.States.{wait_in}
 use Rattle.iop_thread.specs.ThreadTable.{ThreadTable, thread_of, priority_of, is_it, has_priority, running_thread}
 use Rattle.iop_thread.specs.declared.kind.Kind.{Kind}
-use Rattle.iop_thread.specs.declared.kind.Kind.TheVariants.{EventFlag}
+use Rattle.iop_thread.specs.declared.kind.Kind.TheVariants.{EventFlag, VariablePool}
 use Rattle.iop_thread.specs.declared.param.Param.{Param}
 use Rattle.iop_thread.specs.declared.thread.TheConstants.{LOADER}
 use Rattle.iop_thread.specs.declared.thread.Thread.{Thread}
@@ -39,17 +41,18 @@ use Rattle.iop_kernel.specs.Kinds
 use Rattle.iop_kernel.specs.NamedThreads.{is_nobody_else}
 use Rattle.iop_kernel.specs.ObjectServices.{threads_in_order}
 use Rattle.iop_kernel.specs.Stacks.{Owner}
-use Rattle.iop_kernel.specs.System.{Core, Left, System, Done, Served, may_switch, caller, running_registers, with_threads, with_event_flags, with_timers, with_irqs, with_interrupts, opened, answered, code_word, stores, storing_lines}
+use Rattle.iop_kernel.specs.System.{Core, Left, System, Done, Served, may_switch, caller, running_registers, with_threads, with_event_flags, with_variable_pools, with_timers, with_irqs, with_interrupts, opened, answered, code_word, stores, storing_lines}
 use Rattle.iop_kernel.specs.ThreadStarts.{ended}
 use Rattle.iop_kernel.specs.ThreadWaits.{waits}
+use Rattle.iop_kernel.specs.VariablePools.{meets_all}
 use Rattle.iop_kernel.specs.WaiterPlaces.{HasPlace}
-use Rattle.iop_kernel.specs.Waits.{wakes_with, wakes_all, core_leaves, core_requeues}
+use Rattle.iop_kernel.specs.Waits.{wakes_word, wakes_with, wakes_all, core_leaves, core_requeues}
 use Rattle.iop_kernel.specs.declared.active_handler.ActiveHandler.{ActiveHandler}
 use Rattle.iop_kernel.specs.declared.after.After.{After}
 use Rattle.iop_kernel.specs.declared.after.After.TheVariants.{Resume, Switch, ModuleReturned, Fault}
 use Rattle.iop_kernel.specs.declared.stacks.TheConstants.{FROM_ABOVE}
 use Rattle.iop_kernel.proofs.Keeping.Meetings.{met_of, set_flags, threads_met}
-use Rattle.iop_kernel.proofs.Walk.Changes.{IsFirst, Changes, HasToWait}
+use Rattle.iop_kernel.proofs.Walk.Changes.{IsFirst, IsMadeOn, GoesFrom, Changes, IsAnswer, HasToWait}
 
 -- what a call leaves and gives, and what becomes of its caller, is such
 abbrev pub Ends : (After → System → List Piece → Type 0) → Served → Type 0
@@ -192,21 +195,30 @@ module _ (P : System → List Piece → Type 0) (Q : After → System → List P
 
   -- objects of a kind, with the threads that are woken or wait
   pub record ObjectMoves (MayLeave : Type 0) (kind : Kind) : Type 0 where
-    pub makes : (x : State kind) → IsFirst kind x
-        → Lasts (with_objects kind now (objects.creates (those kind) x).1)
+    pub makes : (x : State kind) (blocks : BlockMap) → IsFirst kind x
+        → IsMadeOn kind x s.blocks blocks
+        → P (record s {
+          core = with_objects kind now (objects.creates (those kind) x).1;
+          blocks = blocks;
+        }) []
     -- those that wait are woken
-    pub deletes : (o : Live kind) → object_of (those kind).live o.id ≡ Some o
-        → Lasts (with_objects kind (with_threads now
-        (wakes_all table (threads_in_order kind o) (code_word OBJECT_DELETED)))
-        (objects.deletes (those kind) o.id))
+    pub deletes : (o : Live kind) (blocks : BlockMap) → object_of (those kind).live o.id ≡ Some o
+        → GoesFrom kind o.state s.blocks blocks
+        → P (record s {
+          core = with_objects kind (with_threads now
+              (wakes_all table (threads_in_order kind o) (code_word OBJECT_DELETED)))
+              (objects.deletes (those kind) o.id);
+          blocks = blocks;
+        }) []
     pub changes : (id : ℕ) (x y : State kind) → state_of (those kind) id ≡ Some x
         → Changes kind (those kind) id x y
         → Lasts (with_objects kind now (with_state (those kind) id y))
-    pub wakes : (id : ℕ) (x : State kind) (one : Choice (Waiter (Wants kind)))
+    pub wakes : (id word : ℕ) (x : State kind) (one : Choice (Waiter (Wants kind)))
         → state_of (those kind) id ≡ Some x
         → chooses (waits_by_priority kind x) (waiters_of (those kind) id) ≡ Some one
-        → Lasts (wakes_with (with_objects kind now (with_waiters (those kind) id one.others))
-        one.one.item.thread OK)
+        → IsAnswer kind x word
+        → Lasts (wakes_word (with_objects kind now (with_waiters (those kind) id one.others))
+        one.one.item.thread word)
     pub waits : (id thread : ℕ) (x : State kind) (wants : Wants kind)
         → caller now ≡ Some thread → may_switch now.kernel ≡ true
         → state_of (those kind) id ≡ Some x → HasToWait kind (those kind) id x wants
@@ -221,6 +233,14 @@ module _ (P : System → List Piece → Type 0) (Q : After → System → List P
       (bits : ℕ) (o : LiveFlag) → object_of (those EventFlag).live o.id ≡ Some o
       → Lasts (with_threads (with_event_flags now (set_flags now o bits))
       (wakes_all table (threads_met (met_of o bits)) (code_word OK)))
+
+  -- memory is given back to a variable pool, and those get theirs whose size then fits
+  abbrev pub Meets : Type 0
+  Meets =
+      (id block : ℕ) (x : State VariablePool) → state_of (those VariablePool) id ≡ Some x
+      → is_out block x.ranges ≡ true
+      → Lasts (meets_all id (with_variable_pools now
+      (with_ranges (those VariablePool) id x (without block x.ranges))))
 
   -- what every service may do, and how one ends
   pub record EachMoves : Type 0 where
@@ -250,6 +270,7 @@ module _ (P : System → List Piece → Type 0) (Q : After → System → List P
     pub threads : library ≡ THBASE → ThreadMoves MayLeave
     pub objects : (kind : Kind) → library ≡ library_of kind → ObjectMoves MayLeave kind
     pub sets : library ≡ THEVENT → Sets
+    pub meets : library ≡ THVPOOL → Meets
 
   -- where each may let its caller not go on
   abbrev pub Moves : (library : ℕ) → Type 0

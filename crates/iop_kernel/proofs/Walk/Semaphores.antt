@@ -16,7 +16,7 @@ use Rattle.iop_sema.specs.declared.semaphore.Semaphore as declared
 use Rattle.iop_thread.specs.declared.kind.Kind.TheVariants.{Semaphore}
 use Rattle.iop_kernel.specs.Boards.{word_in}
 use Rattle.iop_kernel.specs.Semaphores.{creates_sema_at, signals_by, takes_or_waits, wait_sema, poll_sema, leaves_semaphores}
-use Rattle.iop_kernel.specs.System.{Core, Left, System, may_switch, caller, with_semaphores, answers_result}
+use Rattle.iop_kernel.specs.System.{Core, Left, System, may_switch, caller, with_semaphores, answers_result, code_word}
 use Rattle.iop_kernel.specs.declared.after.After.{After}
 use Rattle.iop_kernel.proofs.Walk.Changes.SemaphoreChanges.{counts, takes}
 use Rattle.iop_kernel.proofs.Walk.Moves.{EachMoves, ObjectMoves, CoreEnds}
@@ -49,7 +49,7 @@ module _ {P : System → List Piece → Type 0} {Q : After → System → List P
         initial = initial;
         max = max;
         count = initial;
-      }) (grind (arith, nat_tests, legal), fits, refl))))
+      }) s.blocks (grind (arith, nat_tests, legal), fits, refl) refl)))
     where
       Made : Result ℕ Code × Semaphores → Type 0
       Made r = CoreGoes (answers_result (with_semaphores c r.1) r.0)
@@ -69,7 +69,7 @@ module _ {P : System → List Piece → Type 0} {Q : After → System → List P
       (λ (r : Result (Option ℕ) Code × Semaphores). CoreGoes (signals_by c r)) (λ full. only e _)
       (λ fits. answers_after e _ _ (m.changes id x _ known (counts is fits)))
   signals_chosen id x known (Some one) is =
-      answers_after e _ _ (m.wakes id x one known is)
+      answers_after e _ _ (m.wakes id (code_word OK) x one known is refl)
 
   signals_by_go : (id : ℕ) (o : Option declared.Semaphore) → state_of semas id ≡ o
       → CoreGoes (signals_by c (semaphores.signals_it semas id o))

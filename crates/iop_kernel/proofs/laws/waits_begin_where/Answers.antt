@@ -1,4 +1,4 @@
-use Rattle.iop_kernel.proofs.WaitsBegin.Where.{waits_begin_where}
+use Rattle.iop_kernel.proofs.WaitsBegin.Begins.{waits_begin_where}
 use Rattle.iop_kernel.proofs.laws.waits_begin_where.Goals as goal
 
 pub returns : goal.returns

@@ -1,4 +1,4 @@
-use Rattle.iop_pools.proofs.NextMet.{next_met}
+use Rattle.iop_pools.proofs.MeetsNext.{next_met}
 use Rattle.iop_pools.proofs.laws.next_is_met.Goals as goal
 
 pub returns : goal.returns

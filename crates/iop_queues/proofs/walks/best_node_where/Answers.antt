@@ -1,4 +1,4 @@
-use Rattle.std.proofs.Common.{◌∙◌, sym}
+use Rattle.std.proofs.Common.{◌∙◌, sym, subst}
 use Rattle.iop_queues.proofs.Steps.{node_below, item_below, nearer}
 use Rattle.iop_queues.proofs.BestWhere.{best_where_more, best_where_same}
 use Rattle.iop_queues.proofs.walks.best_node_where.Goals as goal

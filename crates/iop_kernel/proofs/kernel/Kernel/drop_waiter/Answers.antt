@@ -3,7 +3,7 @@ use Rattle.iop_objects.specs.Objects.{drops}
 use Rattle.iop_thread.specs.declared.kind.Kind.{Kind}
 use Rattle.iop_kernel.specs.Kinds.{table, with_table}
 use Rattle.iop_kernel.specs.System.{Kernel}
-use Rattle.iop_kernel.proofs.Bodies.Standing.{kernel_of, over, holds_semaphores, holds_flags, holds_mailboxes}
+use Rattle.iop_kernel.proofs.Bodies.Standing.{kernel_of, over, holds_semaphores, holds_flags, holds_mailboxes, holds_variable, holds_fixed}
 use Rattle.iop_kernel.proofs.kernel.Kernel.drop_waiter.Goals as goal
 
 -- a thread no longer waits for an object of a kind
@@ -24,3 +24,13 @@ pub returns-in-Mailbox : goal.returns-in-Mailbox
 returns-in-Mailbox g c = over g.R.Ready.stands _ (λ t h.
     rw (ap (dropped (kernel_of c.args.self.now t) c.args.id c.args.thread) c.in-Mailbox.is)
     (holds_mailboxes g.R.Ready.stands h (sym c.drop_waiter-in-Mailbox.ensures)))
+
+pub returns-in-VariablePool : goal.returns-in-VariablePool
+returns-in-VariablePool g c = over g.R.Ready.stands _ (λ t h.
+    rw (ap (dropped (kernel_of c.args.self.now t) c.args.id c.args.thread) c.in-VariablePool.is)
+    (holds_variable g.R.Ready.stands h (sym c.drop_waiter-in-VariablePool.ensures)))
+
+pub returns-in-FixedPool : goal.returns-in-FixedPool
+returns-in-FixedPool g c = over g.R.Ready.stands _ (λ t h.
+    rw (ap (dropped (kernel_of c.args.self.now t) c.args.id c.args.thread) c.in-FixedPool.is)
+    (holds_fixed g.R.Ready.stands h (sym c.drop_waiter-in-FixedPool.ensures)))

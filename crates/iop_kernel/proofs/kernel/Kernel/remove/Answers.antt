@@ -18,3 +18,15 @@ delete-requires-in-Mailbox g c = rw c.in-Mailbox.is at c.requires
 
 pub returns-in-Mailbox : goal.returns-in-Mailbox
 returns-in-Mailbox g c = rw c.in-Mailbox.is (search rules)
+
+pub delete-requires-in-VariablePool : goal.delete-requires-in-VariablePool
+delete-requires-in-VariablePool g c = rw c.in-VariablePool.is at c.requires
+
+pub returns-in-VariablePool : goal.returns-in-VariablePool
+returns-in-VariablePool g c = rw c.in-VariablePool.is (search rules)
+
+pub delete-requires-in-FixedPool : goal.delete-requires-in-FixedPool
+delete-requires-in-FixedPool g c = rw c.in-FixedPool.is at c.requires
+
+pub returns-in-FixedPool : goal.returns-in-FixedPool
+returns-in-FixedPool g c = rw c.in-FixedPool.is (search rules)

@@ -173,5 +173,5 @@ returns-clause-left g c =
     c.args.id c.args.size c.in_ok-layout.layout
     c.in_ok-layout.ensures.known c.requires (c.div_ceil-units.result * c.in_ok-layout.layout.unit)
     (ap (λ n. n * c.in_ok-layout.layout.unit) c.div_ceil-units.ensures)
-    c.in_ok-start.start gap
+    c.in_ok-start.start gap c.in_ok-layout.ensures.sound
     ∙ ap (λ s. (takes_place s c.args.id c.args.size).1) c.self.view_is

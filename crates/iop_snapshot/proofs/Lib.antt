@@ -1,0 +1,9 @@
+pub mod Bytes
+pub mod Spelling
+pub mod Filling
+pub mod Sending
+pub mod Combining
+pub mod Listing
+pub mod Saving
+pub mod Restoring
+pub mod Laying

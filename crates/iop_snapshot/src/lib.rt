@@ -1,0 +1,16 @@
+//! The bytes of a snapshot: what writes them, what reads them, and how values are spelled in them.
+#![tactic(auto)]
+
+mod decoder;
+mod encoder;
+mod fault;
+pub mod laws;
+mod listed;
+mod lists;
+pub mod widths;
+
+pub use decoder::Decoder;
+pub use encoder::Encoder;
+pub use fault::SnapFault;
+pub use listed::{Listed, Takes};
+pub use lists::{restore_list, save_list};

@@ -1,0 +1,6 @@
+; CreateVpl reads three words at $a0, and RAM ends before the last
+    .name place
+    nop
+    lui $a0, 0x20
+    addiu $a0, $a0, -8
+    syscall 2052
