@@ -24,6 +24,7 @@ The machine is one class, whose parts stand each in a file of its own:
     deliveries.py    alarms, delays, interrupt lines and their handlers; thbase on the clock, intrman
     services.py      which services there are, and from where they may be called; loadcore, sysmem
     formatting.py    printf and Kprintf
+    sysclib.py       memory, strings and numbers; sysclib
     processor.py     registers and instructions
     memory.py        RAM with its live stubs, and the blocks
 """

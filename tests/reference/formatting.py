@@ -50,13 +50,14 @@ class Formatting:
 
     def print_formatted(self):
         """Prints by the format at `$a0`, and answers how many bytes."""
-        text = formatted(self.bytes_at(self.cpu.r[4]), self.format_arguments(), self.string_at)
+        text = formatted(self.bytes_at(self.cpu.r[4]), self.format_arguments(5), self.string_at)
         self.console += text
         return len(text)
 
-    def format_arguments(self):
-        """`$a1` to `$a3`, and the words of the stack; one that is misaligned or outside RAM reads 0."""
-        yield from self.cpu.r[5:8]
+    def format_arguments(self, first):
+        """The registers from that number to `$a3`, and the words of the stack; one that is misaligned or outside RAM
+        reads 0."""
+        yield from self.cpu.r[first:8]
         at = self.cpu.r[29] + 16
         while True:
             place = self.memory.place(at % 2**32, 4, 4)

@@ -10,10 +10,11 @@ from objects import EventFlag, Mailbox, Objects, Semaphore
 from pools import FixedPool, Pools, VariablePool
 from processor import Processor, Registers
 from services import LIBRARIES, Services
+from sysclib import Sysclib
 from threads import Thread, Threads
 
 
-class Machine(Loading, Threads, Objects, Pools, Deliveries, Services, Formatting, Processor):
+class Machine(Loading, Threads, Objects, Pools, Deliveries, Services, Formatting, Sysclib, Processor):
     """What the parts share, and the order in which they have their turn."""
 
     def __init__(self, files, script, size):

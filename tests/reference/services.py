@@ -4,7 +4,8 @@ import struct
 
 from memory import Fault
 
-LIBRARIES = ["loadcore", "sysmem", "intrman", "thbase", "thsemap", "thevent", "thmsgbx", "stdio", "thvpool", "thfpool"]
+LIBRARIES = ["loadcore", "sysmem", "intrman", "thbase", "thsemap", "thevent", "thmsgbx", "stdio", "thvpool", "thfpool",
+             "sysclib"]
 
 # The services that there are, and from where they may be called: by a thread alone, by a handler alone, or by both.
 THREAD = {
@@ -34,6 +35,7 @@ BOTH = {
     "stdio": {4},
     "thvpool": {7},
     "thfpool": {7},
+    "sysclib": {10, 11, 12, 13, 14, 17, 19, 20, 21, 22, 23, 27, 29, 30, 32, 36},
 }
 
 
@@ -64,7 +66,8 @@ class Services:
         services = {"loadcore": self.library_service, "sysmem": self.memory_service, "intrman": self.interrupt_service,
                     "thbase": self.service, "thsemap": self.semaphore_service, "thevent": self.event_flag_service,
                     "thmsgbx": self.mailbox_service, "stdio": lambda number: self.print_formatted(),
-                    "thvpool": self.variable_pool_service, "thfpool": self.fixed_pool_service}
+                    "thvpool": self.variable_pool_service, "thfpool": self.fixed_pool_service,
+                    "sysclib": self.c_library_service}
         return services[name](number)
 
     def memory_service(self, number):

@@ -2,7 +2,7 @@
 
 /// The names of the kernel's libraries by their numbers, each of eight bytes and filled up with
 /// zeros (ps2sdk's `irx.h`).
-pub const KERNEL_LIBRARIES: [[u8; 8]; 10] = [
+pub const KERNEL_LIBRARIES: [[u8; 8]; 11] = [
     *b"loadcore",
     *b"sysmem\0\0",
     *b"intrman\0",
@@ -13,4 +13,5 @@ pub const KERNEL_LIBRARIES: [[u8; 8]; 10] = [
     *b"stdio\0\0\0",
     *b"thvpool\0",
     *b"thfpool\0",
+    *b"sysclib\0",
 ];

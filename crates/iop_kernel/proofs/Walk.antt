@@ -14,5 +14,6 @@ pub mod Semaphores
 pub mod Services
 pub mod Steps
 pub mod Stores
+pub mod Sysclib
 pub mod Threads
 pub mod VariablePools

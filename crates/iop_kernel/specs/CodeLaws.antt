@@ -9,7 +9,7 @@ use Rattle.iop_kernel.specs.declared.call.Call.{Call}
 use Rattle.iop_kernel.specs.declared.call.Call.TheVariants.{Library, ThreadReturn, HandlerReturn, ModuleReturn}
 use Rattle.iop_objects.specs.Objects.{Objects, state_of, waiters_of}
 use Rattle.iop_objects.specs.declared.waiter.Waiter.{Waiter}
-use Rattle.iop_services.specs.declared.codes.TheConstants.{LOADCORE, SYSMEM, INTRMAN, THBASE, THMSGBX, THVPOOL, THFPOOL}
+use Rattle.iop_services.specs.declared.codes.TheConstants.{LOADCORE, SYSMEM, INTRMAN, THBASE, THMSGBX, THVPOOL, THFPOOL, SYSCLIB}
 use Rattle.iop_services.specs.declared.service.Service.{Service}
 use Rattle.iop_services.specs.declared.service.Service.TheVariants.{Thsemap, Thevent, Thmsgbx, Thvpool, Thfpool}
 use Rattle.iop_thread.specs.declared.kind.Kind.{Kind}
@@ -63,15 +63,22 @@ abbrev pub serves_kernel : ℕ → Bool
 serves_kernel library =
     nat_le INTRMAN library && nat_le library THMSGBX || serves_pools library
 
--- whether the libraries of interrupts, of threads and of what they wait for are called, which alone
--- may write memory
-abbrev pub may_write : Option Call → Bool
-may_write (Some (Library library number)) = serves_kernel library
-may_write other = false
+-- whether one of these is called
+abbrev pub calls_kernel : Option Call → Bool
+calls_kernel (Some (Library library number)) = serves_kernel library
+calls_kernel other = false
 
--- whether these are, or something returns
+-- whether one is, or something returns
 abbrev pub changes_kernel : Option Call → Bool
-changes_kernel call = may_write call || ends_thread call || ends_handler call
+changes_kernel call = calls_kernel call || ends_thread call || ends_handler call
+
+-- whether a library is one of these, or sysclib: they alone may write memory
+abbrev pub writes_memory : ℕ → Bool
+writes_memory library = serves_kernel library || library == SYSCLIB
+
+abbrev pub may_write : Option Call → Bool
+may_write (Some (Library library number)) = writes_memory library
+may_write other = false
 
 -- the objects of a kind are those that they were: no thread begins to wait for any, and what the
 -- waiters want stays

@@ -22,6 +22,7 @@ pub mod DeliveryLaws
 pub mod HandlerLaws
 pub mod MakerLaws
 pub mod InterruptRequests
+pub mod LibraryNames
 pub mod LibraryRequests
 pub mod ObjectRequests
 pub mod ThreadRequests

@@ -1,8 +1,9 @@
--- What the law of libraries' requests says: what the services of loadcore, sysmem and stdio do, and
--- the returns of modules and threads: with which of their words, and what they answer.
+-- What the law of libraries' requests says: what services of loadcore, sysmem, stdio and sysclib do,
+-- and the returns of modules and threads: with which of their words, and what they answer.
 use Rattle.std.specs.Prelude.{◌≡◌, ◌/◌, ℕ, true, false, Some, None, List, [], ◌∷◌, length}
 use Rattle.iop_base.specs.Piece.{Told}
 use Rattle.iop_base.specs.Places.{phys}
+use Rattle.iop_base.specs.declared.guest_fault.GuestFault.TheVariants.{Address}
 use Rattle.iop_base.specs.declared.code.TheConstants.Code.{BAD_TABLE, LIBRARY_NOT_FOUND, LIBRARY_IN_USE}
 use Rattle.iop_exec.specs.Row.{reg}
 use Rattle.iop_libs.specs.Calls.{table_place, is_bound}
@@ -11,9 +12,13 @@ use Rattle.iop_registry.specs.Entries.{register, release, library_of}
 use Rattle.iop_registry.specs.declared.registry.Entry.{Entry}
 use Rattle.iop_services.specs.declared.loadcore_service.LoadcoreService.TheVariants.{FlushIcache, FlushDcache, RegisterLibraryEntries, ReleaseLibraryEntries}
 use Rattle.iop_services.specs.declared.service.Service.{Service}
-use Rattle.iop_services.specs.declared.service.Service.TheVariants.{Loadcore, Sysmem, Stdio}
+use Rattle.iop_services.specs.declared.service.Service.TheVariants.{Loadcore, Sysmem, Stdio, Sysclib}
 use Rattle.iop_services.specs.declared.stdio_service.StdioService.TheVariants.{Printf}
+use Rattle.iop_services.specs.declared.sysclib_service.SysclibService.{SysclibService}
 use Rattle.iop_services.specs.declared.sysmem_service.SysmemService.TheVariants.{AllocSysMemory, FreeSysMemory, QueryMemSize, QueryMaxFreeMemSize, QueryTotalFreeMemSize, QueryBlockTopAddress, QueryBlockSize, Kprintf}
+use Rattle.iop_stubs.specs.Stubs.{range_place}
+use Rattle.iop_sysclib.specs.Calls.{serves_sysclib}
+use Rattle.iop_sysclib.specs.Outcomes.{Outcome, Write}
 use Rattle.iop_sysmem.specs.Allocating.{allocating, most_free, free_bytes}
 use Rattle.iop_sysmem.specs.BlockMap.{BlockMap, freeing, holder}
 use Rattle.iop_sysmem.specs.declared.block.Block.{Block}
@@ -21,7 +26,7 @@ use Rattle.iop_sysmem.specs.declared.blocks.TheConstants.{NOWHERE}
 use Rattle.iop_thread.specs.declared.thread.TheConstants.{LOADER}
 use Rattle.irx_tables.specs.Exports.{header_of}
 use Rattle.iop_kernel.specs.Serving.{serves, calls}
-use Rattle.iop_kernel.specs.System.{System, argument, caller, code_word, opened, resumes, silent, on_core}
+use Rattle.iop_kernel.specs.System.{System, argument, caller, code_word, opened, resumes, faults, silent, on_core, stores, storing_lines}
 use Rattle.iop_kernel.specs.declared.after.After.TheVariants.{ModuleReturned}
 use Rattle.iop_kernel.specs.declared.call.Call.TheVariants.{ThreadReturn, ModuleReturn}
 
@@ -54,6 +59,15 @@ module _ (s : System) where
       serves s service ≡ record {
         left = on_core s (resumes s.core (length printed));
         pieces = Told printed ∷ [];
+      }
+
+  -- it answers a word, and bytes are stored at an address at the moment of the call
+  abbrev pub StoresAndAnswers : Service → ℕ → Write → Type 0
+  StoresAndAnswers service word write =
+      let place = range_place s.memory write.at (length write.bytes) in
+      serves s service ≡ record {
+        left = on_core (stores s place write.bytes) (resumes s.core word);
+        pieces = storing_lines s place write.bytes;
       }
 
   pub record ServesLibraries : Type 0 where
@@ -102,6 +116,16 @@ module _ (s : System) where
     -- printf of stdio, and Kprintf
     pub print : Prints (Stdio Printf)
     pub kernel_print : Prints (Sysmem Kprintf)
+    -- each service of sysclib: by its outcome, and where it has none
+    pub sysclib_reads : (x : SysclibService) (outcome : Outcome)
+        → serves_sysclib s.memory.ram s.core.cpu x ≡ Some outcome → outcome.write ≡ None
+        → OnlyAnswers (Sysclib x) outcome.answer
+    pub sysclib_writes : (x : SysclibService) (outcome : Outcome) (write : Write)
+        → serves_sysclib s.memory.ram s.core.cpu x ≡ Some outcome → outcome.write ≡ Some write
+        → StoresAndAnswers (Sysclib x) outcome.answer write
+    pub sysclib_faults : (x : SysclibService)
+        → serves_sysclib s.memory.ram s.core.cpu x ≡ None
+        → serves s (Sysclib x) ≡ silent (faults s Address)
     -- a module returns what stands in `$v0`, and where its thread returns, 0
     pub module_return : caller s.core ≡ Some LOADER
         → calls s (Some ModuleReturn)

@@ -14,9 +14,12 @@ use Rattle.iop_services.specs.declared.codes.TheConstants.{LIBRARY_CODES, SERVIC
 use Rattle.iop_services.specs.declared.loadcore_service.LoadcoreService.{LoadcoreService}
 use Rattle.iop_services.specs.declared.row.Row.{Row}
 use Rattle.iop_services.specs.declared.service.Service.{Service}
-use Rattle.iop_services.specs.declared.service.Service.TheVariants.{Loadcore, Sysmem, Intrman, Thbase, Thsemap, Thevent, Thmsgbx, Stdio, Thvpool, Thfpool}
+use Rattle.iop_services.specs.declared.service.Service.TheVariants.{Loadcore, Sysmem, Intrman, Thbase, Thsemap, Thevent, Thmsgbx, Stdio, Thvpool, Thfpool, Sysclib}
 use Rattle.iop_services.specs.declared.stdio_service.StdioService.{StdioService}
+use Rattle.iop_services.specs.declared.sysclib_service.SysclibService.{SysclibService}
 use Rattle.iop_services.specs.declared.sysmem_service.SysmemService.{SysmemService}
+use Rattle.iop_sysclib.specs.Calls as sysclib
+use Rattle.iop_sysclib.specs.Outcomes.{Outcome, result_of, write_of, after_write, write_lines}
 use Rattle.iop_kernel.specs.Boards.{board_of, on_board}
 use Rattle.iop_kernel.specs.EventFlags.{serves_thevent}
 use Rattle.iop_kernel.specs.FixedPools.{serves_thfpool}
@@ -77,6 +80,19 @@ serves_stdio s x = record {
   pieces = stdio_pieces (sight s) x;
 }
 
+-- what an outcome of sysclib leaves and gives: what it writes is stored, and its answer answered
+abbrev pub serves_outcome : System → Option Outcome → Served
+serves_outcome s outcome =
+    let write = write_of outcome in record {
+      left =
+          answers_or_faults (record s { memory = after_write s.memory write }) (result_of outcome);
+      pieces = write_lines s.core.kernel.clock s.memory write;
+    }
+
+-- a service of sysclib; its outcome is told by iop_sysclib
+abbrev pub serves_sysclib : System → SysclibService → Served
+serves_sysclib s x = serves_outcome s (sysclib.serves_sysclib s.memory.ram s.core.cpu x)
+
 -- a service, by its library
 unfoldable pub serves : System → Service → Served
 serves s (Loadcore x) = serves_loadcore s x
@@ -89,6 +105,7 @@ serves s (Thmsgbx x) = on_board s (serves_thmsgbx (board_of s) x)
 serves s (Stdio x) = serves_stdio s x
 serves s (Thvpool x) = serves_thvpool s x
 serves s (Thfpool x) = serves_thfpool s x
+serves s (Sysclib x) = serves_sysclib s x
 
 module _ (library number : ℕ) where
   -- by the row of a number; one that is not listed answers -1 and is told

@@ -7,6 +7,7 @@ ghost use Rattle.iop_kernel.specs.DeliveryLaws.{DeliveriesAreInOrder};
 ghost use Rattle.iop_kernel.specs.HandlerLaws.{HandlersBeginWith, ResultsAreGiven};
 ghost use Rattle.iop_kernel.specs.InterruptRequests.{InterruptRequestsAreServed};
 ghost use Rattle.iop_kernel.specs.Laws.{ServicesKeep, LibrariesFaultAtAddresses, DispatchesAreStrict};
+ghost use Rattle.iop_kernel.specs.LibraryNames.{LibrariesAreNamed};
 ghost use Rattle.iop_kernel.specs.LibraryRequests.{LibraryRequestsAreServed};
 ghost use Rattle.iop_kernel.specs.MakerLaws.{MadeAsGiven};
 ghost use Rattle.iop_kernel.specs.ObjectRequests.{ObjectRequestsAreServed};
@@ -39,9 +40,9 @@ pub fn services_keep()
 /// or ends a handler. Whether interrupts are on changes by the services of intrman and thbase and
 /// by returns, whether dispatch is enabled by those of thbase and by the return of a thread or a
 /// module; libraries by loadcore's, blocks by sysmem's, thbase's and those of pools. Services of
-/// loadcore, sysmem and stdio write nothing and leave the kernel as it was; those of intrman change
-/// nothing of it but whether interrupts are on, and their lines; returns write nothing, and time
-/// does not pass.
+/// loadcore, sysmem, stdio and sysclib leave the kernel as it was, and those of the first three
+/// write nothing; those of intrman change nothing of it but whether interrupts are on, and their
+/// lines; returns write nothing, and time does not pass.
 pub fn codes_stay_apart()
     ensures { CodesStayApart }
 {}
@@ -130,9 +131,15 @@ pub fn pools_write_nothing()
     ensures { PoolsWriteNothing }
 {}
 
-/// Each service of loadcore, sysmem and stdio, and the return of a module or of its thread, does
-/// with its words what their places say, and answers so. AllocSysMemory takes a mode, a size and an
-/// address; printf and Kprintf print the text of their first argument with those behind it.
+/// The number of each library is that of its name, by which modules import it.
+pub fn libraries_are_named()
+    ensures { LibrariesAreNamed }
+{}
+
+/// Each service of loadcore, sysmem, stdio and sysclib, and the return of a module or of its
+/// thread, does with its words what their places say, and answers so. AllocSysMemory takes a mode,
+/// a size and an address; printf and Kprintf print the text of their first argument with those
+/// behind it; a service of sysclib stores what its outcome says, and faults where it has none.
 pub fn library_requests_are_served()
     ensures { LibraryRequestsAreServed }
 {}

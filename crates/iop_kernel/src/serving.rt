@@ -5,7 +5,7 @@ ghost use Rattle.iop_kernel.specs.Standing.{Holds, IsHeld, Stands, IsActive, Has
 ghost use Rattle.iop_kernel.specs.System.{Kernel as State};
 
 use crate::after::After;
-use crate::answering::{answer, answer_word};
+use crate::answering::{answer, answer_or_fault, answer_word};
 use crate::call::Call;
 use crate::kernel::Kernel;
 use iop_base::{Code, GuestFault, Line, Lines};
@@ -15,6 +15,7 @@ use iop_ready::Ready;
 use iop_registry::Registry;
 use iop_services::{Service, row_of};
 use iop_stubs::Guest;
+use iop_sysclib::serve_sysclib;
 use iop_sysmem::Blocks;
 
 impl<R: Ready> Kernel<R> {
@@ -39,10 +40,10 @@ impl<R: Ready> Kernel<R> {
             registry.new (L.output lines.old) (L.output lines.new) }
     {
         match service {
-            Service::Loadcore(service) => match serve_loadcore(service, cpu, guest, registry) {
-                Ok(word) => answer_word(cpu, word),
-                Err(fault) => After::Fault(fault),
-            },
+            Service::Loadcore(service) => {
+                let answered = serve_loadcore(service, cpu, guest, registry);
+                answer_or_fault(cpu, answered)
+            }
             Service::Sysmem(service) => {
                 let word = serve_sysmem(service, cpu, guest, blocks, lines);
                 answer_word(cpu, word)
@@ -58,6 +59,10 @@ impl<R: Ready> Kernel<R> {
             }
             Service::Thvpool(service) => self.serve_thvpool(service, cpu, guest, blocks, lines),
             Service::Thfpool(service) => self.serve_thfpool(service, cpu, guest, blocks, lines),
+            Service::Sysclib(service) => {
+                let answered = serve_sysclib(service, cpu, guest, self.clock, lines);
+                answer_or_fault(cpu, answered)
+            }
         }
     }
 

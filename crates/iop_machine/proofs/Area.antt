@@ -12,11 +12,11 @@ use Rattle.iop_base.specs.declared.libraries.TheConstants.{KERNEL_LIBRARIES}
 use Rattle.iop_base.specs.declared.words.TheConstants.{EXPORT_MAGIC}
 use Rattle.iop_base.proofs.Lists.{bytes_inside, bytes_before}
 use Rattle.iop_base.proofs.Memory.{length-with_bytes}
-use Rattle.iop_registry.specs.declared.registry.TheConstants.{KERNEL_TABLES_AT, KERNEL_TABLE_LEN, LATER_TABLES_AT}
+use Rattle.iop_registry.specs.declared.registry.TheConstants.{KERNEL_TABLES_AT, KERNEL_TABLE_LEN, FIRST_LIBRARIES, LATER_TABLES_AT}
 use Rattle.iop_services.specs.declared.codes.TheConstants.{SERVICES}
 use Rattle.iop_stubs.specs.Stubs.{Memory}
 use Rattle.iop_thread.specs.declared.thread.TheConstants.{THREAD_RETURN}
-use Rattle.iop_machine.specs.declared.kernel_area.TheConstants.{AREA_LEN, VERSION, TABLE_REST, SERVICES_AT, SERVICES_LEN, SERVICE_LEN}
+use Rattle.iop_machine.specs.declared.kernel_area.TheConstants.{AREA_LEN, VERSION, TABLE_REST, SERVICES_AT, SERVICES_LEN, SERVICE_LEN, LATER_LIBRARIES}
 use Rattle.iop_machine.specs.KernelArea.{each, function_of, table_of, service_of, services_of, tables, first_tables, later_tables, returns, services, with_tables, kernel_area}
 use Rattle.iop_machine.specs.World.{zeros}
 
@@ -171,11 +171,11 @@ length-tables first count there =
     length-each (λ i. table_of (first + i)) KERNEL_TABLE_LEN count
     (λ i below. length-table_from first count i there below)
 
-pub length-first_tables : length first_tables ≡ 0x1000
-length-first_tables = omega (arith, length-tables 0 8 (omega arith))
+pub length-first_tables : length first_tables ≡ FIRST_LIBRARIES * KERNEL_TABLE_LEN
+length-first_tables = length-tables 0 FIRST_LIBRARIES (omega arith)
 
-pub length-later_tables : length later_tables ≡ 0x400
-length-later_tables = omega (arith, length-tables 8 2 (omega arith))
+pub length-later_tables : length later_tables ≡ LATER_LIBRARIES * KERNEL_TABLE_LEN
+length-later_tables = length-tables FIRST_LIBRARIES LATER_LIBRARIES (omega arith)
 
 pub length-all_services : length services ≡ length KERNEL_LIBRARIES * SERVICES_LEN
 length-all_services =

@@ -106,7 +106,7 @@ impl Model for Registry {
 }
 
 impl Registry {
-    /// Makes a registry of the ten libraries of the kernel, in their order. It takes all the
+    /// Makes a registry of the libraries of the kernel, in their order. It takes all the
     /// memory that the registry will need; `AllocError` where the host has less.
     pub fn new(alloc: Global) -> Result<Self, AllocError>
         ensures libraries { IfOk result (λ registry. registry ≡ kernel_libraries) }
@@ -124,6 +124,7 @@ impl Registry {
             Entry::of_kernel(7, KERNEL_LIBRARIES[7]),
             Entry::of_kernel(8, KERNEL_LIBRARIES[8]),
             Entry::of_kernel(9, KERNEL_LIBRARIES[9]),
+            Entry::of_kernel(10, KERNEL_LIBRARIES[10]),
         ])?;
         Ok(Registry { entries })
     }

@@ -3,11 +3,11 @@ use Rattle.std.proofs.Common.{◌≡◌, ℕ, ◌==◌, Bool, true, if◌then◌
 use Rattle.std.proofs.lemmas.Bool.{cond_both}
 use Rattle.std.proofs.lemmas.Bool.Decides.{nat_tests}
 use Rattle.std.specs.List.{list_all}
-use Rattle.iop_services.specs.Table.{Numbered, loadcore, sysmem, intrman, thbase, thsemap, thevent, thmsgbx, stdio, thvpool, thfpool, rows_of, find_row, row_of}
-use Rattle.iop_services.specs.declared.codes.TheConstants.{LOADCORE, SYSMEM, INTRMAN, THBASE, THSEMAP, THEVENT, THMSGBX, STDIO, THVPOOL, THFPOOL}
+use Rattle.iop_services.specs.Table.{Numbered, loadcore, sysmem, intrman, thbase, thsemap, thevent, thmsgbx, stdio, thvpool, thfpool, sysclib, rows_of, find_row, row_of}
+use Rattle.iop_services.specs.declared.codes.TheConstants.{LOADCORE, SYSMEM, INTRMAN, THBASE, THSEMAP, THEVENT, THMSGBX, STDIO, THVPOOL, THFPOOL, SYSCLIB}
 use Rattle.iop_services.specs.declared.row.Row.{Row}
 use Rattle.iop_services.specs.declared.service.Service.{Service}
-use Rattle.iop_services.specs.declared.service.Service.TheVariants.{Loadcore, Sysmem, Intrman, Thbase, Thsemap, Thevent, Thmsgbx, Stdio, Thvpool, Thfpool}
+use Rattle.iop_services.specs.declared.service.Service.TheVariants.{Loadcore, Sysmem, Intrman, Thbase, Thsemap, Thevent, Thmsgbx, Stdio, Thvpool, Thfpool, Sysclib}
 
 module _ (test : (library : ℕ) → Row → Bool) where
   -- the rows of a library are such
@@ -40,6 +40,7 @@ module _ (test : (library : ℕ) → Row → Bool) where
     pub stdio : Pass STDIO stdio
     pub thvpool : Pass THVPOOL thvpool
     pub thfpool : Pass THFPOOL thfpool
+    pub sysclib : Pass SYSCLIB sysclib
 
   rows_pass : AllPass → (library : ℕ) → Pass library (rows_of library)
   rows_pass all library =
@@ -47,7 +48,8 @@ module _ (test : (library : ℕ) → Row → Bool) where
       (by library INTRMAN _ _ all.intrman (by library THBASE _ _ all.thbase
       (by library THSEMAP _ _ all.thsemap (by library THEVENT _ _ all.thevent
       (by library THMSGBX _ _ all.thmsgbx (by library STDIO _ _ all.stdio
-      (by library THVPOOL _ _ all.thvpool (by library THFPOOL _ _ all.thfpool refl)))))))))
+      (by library THVPOOL _ _ all.thvpool (by library THFPOOL _ _ all.thfpool
+      (by library SYSCLIB _ _ all.sysclib refl))))))))))
 
   found_passes : (library number : ℕ) (rows : List Numbered) (row : Row) → Pass library rows
       → find_row number rows ≡ Some row → test library row ≡ true
@@ -73,6 +75,7 @@ home (Thmsgbx x) = THMSGBX
 home (Stdio x) = STDIO
 home (Thvpool x) = THVPOOL
 home (Thfpool x) = THFPOOL
+home (Sysclib x) = SYSCLIB
 
 abbrev is_of : (library : ℕ) → Row → Bool
 is_of library row = home row.service == library
@@ -92,5 +95,6 @@ row_home library number row found =
       stdio = refl;
       thvpool = refl;
       thfpool = refl;
+      sysclib = refl;
     } in
     let is = rows_all is_of all library number row found in grind (arith, nat_tests, is)

@@ -1,17 +1,19 @@
 -- The services of the kernel's libraries. Libraries, names and numbers are those of ps2sdk's headers
--- (loadcore.h, sysmem.h, intrman.h, thbase.h, thsemap.h, thevent.h, thmsgbx.h, stdio.h); of thvpool
--- and thfpool libraries and names alone (thvpool.h, thfpool.h), their numbers are this project's own.
+-- (loadcore.h, sysmem.h, intrman.h, thbase.h, thsemap.h, thevent.h, thmsgbx.h, stdio.h); of thvpool,
+-- thfpool and sysclib libraries and names alone (thvpool.h, thfpool.h, sysclib.h), their numbers are
+-- this project's own.
 -- Which libraries and numbers the kernel has, and from where each may be called, is its own profile.
 use Rattle.std.specs.Prelude.{ℕ, ◌==◌, if◌then◌else◌, Bool, true, not, Option, List, [], ◌∷◌, find, option_map}
-use Rattle.iop_services.specs.declared.codes.TheConstants.{LOADCORE, SYSMEM, INTRMAN, THBASE, THSEMAP, THEVENT, THMSGBX, STDIO, THVPOOL, THFPOOL}
+use Rattle.iop_services.specs.declared.codes.TheConstants.{LOADCORE, SYSMEM, INTRMAN, THBASE, THSEMAP, THEVENT, THMSGBX, STDIO, THVPOOL, THFPOOL, SYSCLIB}
 use Rattle.iop_services.specs.declared.context.Context.{Context}
 use Rattle.iop_services.specs.declared.context.Context.TheVariants.{Thread, Handler, Both}
 use Rattle.iop_services.specs.declared.row.Row.{Row}
 use Rattle.iop_services.specs.declared.service.Service.{Service}
-use Rattle.iop_services.specs.declared.service.Service.TheVariants.{Loadcore, Sysmem, Intrman, Thbase, Thsemap, Thevent, Thmsgbx, Stdio, Thvpool, Thfpool}
+use Rattle.iop_services.specs.declared.service.Service.TheVariants.{Loadcore, Sysmem, Intrman, Thbase, Thsemap, Thevent, Thmsgbx, Stdio, Thvpool, Thfpool, Sysclib}
 use Rattle.iop_services.specs.declared.intrman_service.IntrmanService.TheVariants.{RegisterIntrHandler, ReleaseIntrHandler, EnableIntr, DisableIntr, CpuDisableIntr, CpuEnableIntr, CpuSuspendIntr, CpuResumeIntr, QueryIntrContext}
 use Rattle.iop_services.specs.declared.loadcore_service.LoadcoreService.TheVariants.{FlushIcache, FlushDcache, RegisterLibraryEntries, ReleaseLibraryEntries}
 use Rattle.iop_services.specs.declared.stdio_service.StdioService.TheVariants.{Printf}
+use Rattle.iop_services.specs.declared.sysclib_service.SysclibService.TheVariants.{Memchr, Memcmp, Memcpy, Memmove, Memset, Bzero, Sprintf, Strcat, Strchr, Strcmp, Strcpy, Strlen, Strncmp, Strncpy, Strrchr, Strtol}
 use Rattle.iop_services.specs.declared.sysmem_service.SysmemService.TheVariants.{AllocSysMemory, FreeSysMemory, QueryMemSize, QueryMaxFreeMemSize, QueryTotalFreeMemSize, QueryBlockTopAddress, QueryBlockSize, Kprintf}
 use Rattle.iop_services.specs.declared.thbase_service.ThbaseService.TheVariants.{CreateThread, DeleteThread, StartThread, ExitThread, ExitDeleteThread, TerminateThread, DisableDispatchThread, EnableDispatchThread, ChangeThreadPriority, RotateThreadReadyQueue, ReleaseWaitThread, GetThreadId, ReferThreadStatus, SleepThread, WakeupThread, CancelWakeupThread, SuspendThread, ResumeThread, DelayThread, GetSystemTime, SetAlarm, CancelAlarm, USec2SysClock, SysClock2USec}
 use Rattle.iop_services.specs.declared.thevent_service.TheventService.TheVariants.{CreateEventFlag, DeleteEventFlag, SetEventFlag, ClearEventFlag, WaitEventFlag, PollEventFlag, ReferEventFlagStatus}
@@ -180,6 +182,27 @@ thfpool =
     ∷ lists 12 ReferFplStatus Handler
     ∷ []
 
+abbrev pub sysclib : List Numbered
+sysclib =
+    let lists = of Sysclib in
+    lists 10 Memchr Both
+    ∷ lists 11 Memcmp Both
+    ∷ lists 12 Memcpy Both
+    ∷ lists 13 Memmove Both
+    ∷ lists 14 Memset Both
+    ∷ lists 17 Bzero Both
+    ∷ lists 19 Sprintf Both
+    ∷ lists 20 Strcat Both
+    ∷ lists 21 Strchr Both
+    ∷ lists 22 Strcmp Both
+    ∷ lists 23 Strcpy Both
+    ∷ lists 27 Strlen Both
+    ∷ lists 29 Strncmp Both
+    ∷ lists 30 Strncpy Both
+    ∷ lists 32 Strrchr Both
+    ∷ lists 36 Strtol Both
+    ∷ []
+
 -- the rows of a library by its number
 abbrev pub rows_of : ℕ → List Numbered
 rows_of library =
@@ -193,6 +216,7 @@ rows_of library =
     else if library == STDIO then stdio
     else if library == THVPOOL then thvpool
     else if library == THFPOOL then thfpool
+    else if library == SYSCLIB then sysclib
     else []
 
 -- what the row of a number says

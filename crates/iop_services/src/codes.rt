@@ -33,6 +33,9 @@ pub const THVPOOL: u32 = 8;
 /// The number of `thfpool` among `KERNEL_LIBRARIES` of iop_base.
 pub const THFPOOL: u32 = 9;
 
+/// The number of `sysclib` among `KERNEL_LIBRARIES` of iop_base.
+pub const SYSCLIB: u32 = 10;
+
 /// How many services a kernel library has room for.
 pub const SERVICES: u32 = 64;
 

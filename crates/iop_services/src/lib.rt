@@ -19,8 +19,8 @@ mod thsemap_service;
 mod thvpool_service;
 
 pub use codes::{
-    INTRMAN, LIBRARY_CODES, LOADCORE, SERVICES, STDIO, SYSMEM, THBASE, THEVENT, THFPOOL, THMSGBX,
-    THSEMAP, THVPOOL, service_code,
+    INTRMAN, LIBRARY_CODES, LOADCORE, SERVICES, STDIO, SYSCLIB, SYSMEM, THBASE, THEVENT, THFPOOL,
+    THMSGBX, THSEMAP, THVPOOL, service_code,
 };
 pub use context::Context;
 pub use intrman_service::IntrmanService;

@@ -1,6 +1,7 @@
 use crate::intrman_service::IntrmanService;
 use crate::loadcore_service::LoadcoreService;
 use crate::stdio_service::StdioService;
+use crate::sysclib_service::SysclibService;
 use crate::sysmem_service::SysmemService;
 use crate::thbase_service::ThbaseService;
 use crate::thevent_service::TheventService;
@@ -33,4 +34,6 @@ pub enum Service {
     Thvpool(ThvpoolService),
     /// A service of `thfpool`.
     Thfpool(ThfpoolService),
+    /// A service of `sysclib`.
+    Sysclib(SysclibService),
 }

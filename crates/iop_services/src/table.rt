@@ -1,10 +1,10 @@
 //! The table of services.
 
 ghost use Rattle.std.specs.Prelude.{◌≡◌};
-ghost use Rattle.iop_services.specs.Table.{find_row, row_of, loadcore, sysmem, intrman, thbase, thsemap, thevent, thmsgbx, stdio, thvpool, thfpool};
+ghost use Rattle.iop_services.specs.Table.{find_row, row_of, loadcore, sysmem, intrman, thbase, thsemap, thevent, thmsgbx, stdio, thvpool, thfpool, sysclib};
 
 use crate::codes::{
-    INTRMAN, LOADCORE, STDIO, SYSMEM, THBASE, THEVENT, THFPOOL, THMSGBX, THSEMAP, THVPOOL,
+    INTRMAN, LOADCORE, STDIO, SYSCLIB, SYSMEM, THBASE, THEVENT, THFPOOL, THMSGBX, THSEMAP, THVPOOL,
 };
 use crate::context::Context;
 use crate::intrman_service::IntrmanService;
@@ -12,6 +12,7 @@ use crate::loadcore_service::LoadcoreService;
 use crate::row::Row;
 use crate::service::Service;
 use crate::stdio_service::StdioService;
+use crate::sysclib_service::SysclibService;
 use crate::sysmem_service::SysmemService;
 use crate::thbase_service::ThbaseService;
 use crate::thevent_service::TheventService;
@@ -217,7 +218,32 @@ fn thfpool(number: u32) -> Option<Row>
     })
 }
 
-/// Finds the service of a number of a kernel library, 0 to 9 in the order of `KERNEL_LIBRARIES` of
+/// Finds the service of a number of `sysclib`. The names are those of ps2sdk's sysclib.h, the numbers
+/// this project's own.
+fn sysclib(number: u32) -> Option<Row>
+    ensures { result ≡ find_row number sysclib }
+{
+    find_row!(number Sysclib SysclibService {
+        10 Memchr Both
+        11 Memcmp Both
+        12 Memcpy Both
+        13 Memmove Both
+        14 Memset Both
+        17 Bzero Both
+        19 Sprintf Both
+        20 Strcat Both
+        21 Strchr Both
+        22 Strcmp Both
+        23 Strcpy Both
+        27 Strlen Both
+        29 Strncmp Both
+        30 Strncpy Both
+        32 Strrchr Both
+        36 Strtol Both
+    })
+}
+
+/// Finds the service of a number of a kernel library, 0 to 10 in the order of `KERNEL_LIBRARIES` of
 /// iop_base. None exactly where the library lists no such number, or there is no such library.
 pub fn row_of(library: u32, number: u32) -> Option<Row>
     ensures { result ≡ row_of library number }
@@ -233,6 +259,7 @@ pub fn row_of(library: u32, number: u32) -> Option<Row>
         STDIO => stdio(number),
         THVPOOL => thvpool(number),
         THFPOOL => thfpool(number),
+        SYSCLIB => sysclib(number),
         _ => None,
     }
 }

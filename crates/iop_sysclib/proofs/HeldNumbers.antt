@@ -1,10 +1,12 @@
 -- Numbers that are held at a limit.
-use Rattle.std.proofs.Common.{◌≡◌, ℕ, zero, suc, ◌+◌, ◌*◌, ◌%◌, ◌^◌, ◌<◌, ◌≤◌, min, true, false, List, length, take, get_or, refl, ap, sym, ◌∙◌, arith, ⊎_elim}
+use Rattle.std.proofs.Common.{◌≡◌, ℕ, zero, suc, ◌+◌, ◌-◌, ◌*◌, ◌%◌, ◌^◌, ◌<◌, ◌≤◌, min, true, false, List, length, take, get_or, refl, ap, sym, ◌∙◌, arith, ⊎_elim}
 use Rattle.std.specs.Char.{digit_value}
 use Rattle.std.specs.Str.Parse.{digits_value}
 use Rattle.std.proofs.Math.Nat.{mul-le-mul_right, mul-le-mul_left}
 use Rattle.std.proofs.lemmas.Bool.{cases_lt}
 use Rattle.std.proofs.lemmas.Int.Digits.{digits_value_more}
+use Rattle.iop_base.specs.Numbers.{wrapped}
+use Rattle.iop_sysclib.specs.NumeralLaws.{MagnitudesAreHeld}
 use Rattle.iop_sysclib.specs.Numerals.{held_word}
 
 -- to hold a number before a digit is read changes nothing of what is held behind it
@@ -38,3 +40,20 @@ pub held_negative : (n word : ℕ) → word < 2 ^ 32
     → (word + min 0x80000000 n) % 2 ^ 32 ≡ 0 → word ≡ held_word true n
 held_negative zero word small is = omega arith
 held_negative (suc n) word small is = omega arith
+
+-- beyond the lower limit, and up to it
+held_far : (n : ℕ) → 2 ^ 31 < n → held_word true n ≡ 0x80000000
+held_far zero far = omega (arith, far)
+held_far (suc n) far = omega (arith, far)
+
+held_near : (n : ℕ) → n ≤ 2 ^ 31 → held_word true n ≡ wrapped (2 ^ 32 - n)
+held_near zero near = refl
+held_near (suc n) near = omega (arith, near)
+
+pub magnitudes_are_held : MagnitudesAreHeld
+magnitudes_are_held magnitude = record {
+  greatest = λ far. omega (arith, far);
+  positive = λ near. omega (arith, near);
+  least = λ far. held_far magnitude far;
+  negative = λ near. held_near magnitude near;
+}

@@ -13,5 +13,16 @@ pub mod ServedTexts
 pub mod CallLaws
 pub mod ComparingLaws
 pub mod FindingLaws
+pub mod NumeralFronts
+pub mod NumeralParts
 pub mod NumeralLaws
+pub mod HexNumerals
+pub mod Writings
+pub mod ReadStrings
+pub mod WritingLaws
+pub mod JoinedStrings
+pub mod CallWritings
+pub mod EndLaws
+pub mod OutcomeLaws
+pub mod NothingLaws
 mod Examples

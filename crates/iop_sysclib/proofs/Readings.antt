@@ -1,5 +1,5 @@
 -- What is read of the parts of a number's text.
-use Rattle.std.proofs.Common.{◌≡◌, ℕ, zero, suc, ◌-◌, ◌==◌, nat_lt, Bool, true, false, cond, List, length, eqb-true, refl, ap, ◌∙◌, arith}
+use Rattle.std.proofs.Common.{◌≡◌, ℕ, zero, suc, ◌-◌, ◌==◌, nat_lt, Bool, true, false, cond, Some, None, List, length, eqb-true, refl, ap, ◌∙◌, arith}
 use Rattle.std.specs.Char.{is_digit}
 use Rattle.std.specs.Str.Parse.{digits_value, starts_with_minus, without_leading_sign}
 use Rattle.std.proofs.lemmas.Bool.{lt-ltb, le-ltb}
@@ -57,3 +57,18 @@ module _ (base : ℕ) (text : List ℕ) (told : ℕ) (signed unsigned number dig
         let same = word_is ∙ ap (λ b. held_word b (digits_value told digits)) minus_is in
         reading_by base text told signed unsigned number digits left parts is
         ∙ rw (test, same) refl
+
+-- the base that is told where numbers have it
+pub record IsTold (base told : ℕ) (unsigned : List ℕ) : Type 0 where
+  pub a_base : is_base base ≡ true
+  pub told_is : told ≡ base_of base unsigned
+
+told_by : (base told : ℕ) (unsigned : List ℕ) (b : Bool) → is_base base ≡ b
+    → Some told ≡ cond b (Some (base_of base unsigned)) None → IsTold base told unsigned
+told_by base told unsigned true test is = record { a_base = test; told_is = cc }
+told_by base told unsigned false test is = absurd (cc is)
+
+pub is_told : (base told : ℕ) (unsigned : List ℕ)
+    → Some told ≡ cond (is_base base) (Some (base_of base unsigned)) None
+    → IsTold base told unsigned
+is_told base told unsigned is = told_by base told unsigned (is_base base) refl is

@@ -32,7 +32,7 @@ or_true true = refl
 or_true false = refl
 
 -- a front of a front is one by its length
-front_is : (n : ℕ) (xs : List ℕ) → take (length (take n xs)) xs ≡ take n xs
+pub front_is : (n : ℕ) (xs : List ℕ) → take (length (take n xs)) xs ≡ take n xs
 front_is n xs = ap (λ k. take k xs) (length-take n xs) ∙ take_min n xs
 
 take-min : (m n : ℕ) (xs : List ℕ) → take m (take n xs) ≡ take (min m n) xs

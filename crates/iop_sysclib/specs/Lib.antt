@@ -5,3 +5,5 @@ pub mod Numerals
 pub mod Calls
 pub mod Laws
 pub mod NumeralLaws
+pub mod WritingLaws
+pub mod OutcomeLaws

@@ -1,15 +1,15 @@
 -- The numbers that texts begin with (C99 7.20.1.4: strtol, in the locale "C"). That nothing is read
 -- in a base that numbers do not have, and that the address is looked at before all else, is this
 -- project's own profile.
-use Rattle.std.specs.Prelude.{ℕ, ◌+◌, ◌-◌, ◌%◌, ◌==◌, nat_le, nat_lt, Bool, ◌&&◌, ◌||◌, if◌then◌else◌, pos, neg_ℤ, Option, Some, None, List, length, drop, slice_index}
+use Rattle.std.specs.Prelude.{ℕ, ◌+◌, ◌-◌, ◌%◌, ◌==◌, nat_le, nat_lt, Bool, ◌&&◌, ◌||◌, if◌then◌else◌, pos, neg_ℤ, Option, None, List, length, drop, slice_index}
 use Rattle.std.specs.Char.{is_digit}
 use Rattle.std.specs.Int.{w32, cast_unsigned, saturate_signed}
 use Rattle.std.specs.Str.Parse.{digits_value, starts_with_minus, without_leading_sign}
 use Rattle.iop_base.specs.Numbers.{bytes_of, wrapped}
 use Rattle.iop_printf.specs.Conversions.{front, behind}
 use Rattle.iop_printf.specs.Texts.{string_at}
-use Rattle.iop_sysclib.specs.Outcomes.{Outcome, reads, writes}
-use Rattle.iop_sysclib.specs.declared.digits.TheConstants.{LEAST_BASE, GREATEST_BASE}
+use Rattle.iop_sysclib.specs.Outcomes.{Outcome, answers, writes}
+use Rattle.iop_sysclib.specs.declared.base.TheConstants.{LEAST_BASE, GREATEST_BASE}
 use Rattle.iop_sysclib.specs.declared.reading.Reading.{Reading}
 
 -- the bases that numbers may have; 0 stands for the one that their front tells
@@ -45,8 +45,8 @@ held_word negative magnitude =
     cast_unsigned w32
     (saturate_signed w32 (if negative then neg_ℤ (pos magnitude) else pos magnitude))
 
--- what a text begins with: white space, one sign, a prefix, and the longest run of digits; nothing is
--- read where there is no digit, or no such base
+-- what a text begins with: white space, one sign, a prefix, and the longest run of digits; nothing
+-- is read where there is no digit, or no such base
 unfoldable pub reading_of : ℕ → List ℕ → Reading
 reading_of base text =
     let signed = behind is_space text in
@@ -66,6 +66,6 @@ module _ (ram : List ℕ) where
   unfoldable pub strtol : (at end base : ℕ) → Option Outcome
   strtol at end base =
       let reading = reading_of base (string_at ram at) in
-      if end == 0 then reads (Some reading.word) else
+      if end == 0 then answers reading.word else
       if end % 4 == 0 then writes ram end (bytes_of 4 (wrapped (at + reading.len))) reading.word
       else None

@@ -22,9 +22,13 @@ pub record Outcome : Type 0 where
   pub answer : ℕ
   pub write : Option Write
 
+-- a call that only reads, and always answers a word
+abbrev pub answers : ℕ → Option Outcome
+answers word = Some (record { answer = word; write = None })
+
 -- a call that only reads: it answers a word, or faults
 abbrev pub reads : Option ℕ → Option Outcome
-reads word = option_map (λ w. record { answer = w; write = None }) word
+reads word = option_and_then answers word
 
 -- whether a range lies wholly in RAM, or has no byte
 abbrev pub is_open : List ℕ → ℕ → ℕ → Bool

@@ -1,6 +1,6 @@
--- The calls that work on strings (C99 7.21: strcat, strchr, strcmp, strcpy, strlen, strncmp, strncpy,
--- strrchr; 7.19: sprintf). That a string ends at RAM's end too and is empty outside RAM, that a
--- comparison answers -1, 0 or 1, and which ranges fault, is this project's own profile.
+-- The calls that work on strings (C99 7.21: strcat, strchr, strcmp, strcpy, strlen, strncmp,
+-- strncpy, strrchr; 7.19: sprintf). That a string ends at RAM's end too and is empty outside RAM,
+-- that a comparison answers -1, 0 or 1, and which ranges fault, is this project's own profile.
 use Rattle.std.specs.Prelude.{ℕ, ◌+◌, ◌-◌, Bool, Option, option_map, position, List, [], ◌∷◌, ◌++◌, length, replicate, reverse, take}
 use Rattle.iop_printf.specs.Formatting.{format_text}
 use Rattle.iop_printf.specs.Texts.{string_at}

@@ -13,7 +13,7 @@ pub(crate) fn first_place(bytes: &[u8], wanted: u32) -> Option<usize>
     bytes.iter().position(|byte| *byte == wanted)
 }
 
-/// The address of a byte by its index behind another; 0 where there is none.
+/// Answers the address of a byte by its index behind another; 0 where there is none.
 pub(crate) fn address_or_zero(at: u32, index: Option<usize>) -> u32
     requires { IfSome index (λ index. index < 2 ^ 32) }
     ensures { result ≡ address_or_zero at index }

@@ -5,7 +5,7 @@ ghost use Rattle.iop_sysclib.specs.MemoryCalls.{compared};
 
 use std::cmp::Ordering;
 
-/// The word of the order of bytes, by the first that are not equal: -1, 0 or 1.
+/// Compares bytes by the first that are not equal, and answers -1, 0 or 1.
 pub(crate) fn compared(a: &[u8], b: &[u8]) -> u32
     ensures { result ≡ compared a.now b.now }
 {

@@ -6,25 +6,19 @@ ghost use Rattle.std.specs.Str.Parse.{digits_value};
 ghost use Rattle.iop_printf.specs.Conversions.{front, behind};
 ghost use Rattle.iop_sysclib.specs.Numerals.{held_word};
 
-/// The least base of digits.
-pub(crate) const LEAST_BASE: u32 = 2;
-
-/// The greatest base of digits.
-pub(crate) const GREATEST_BASE: u32 = 36;
+use crate::base::{Base, GREATEST_BASE};
 
 /// How far a signed word goes below 0, which is one more than it goes above 0.
 const LIMIT: u64 = 0x8000_0000;
 
 /// Tells whether a byte is a digit of a base.
-pub(crate) fn is_digit(byte: u8, base: u32) -> bool
-    requires least { LEAST_BASE ≤ base }
-    requires greatest { base ≤ GREATEST_BASE }
+pub(crate) fn is_digit(byte: u8, base: Base) -> bool
     ensures { result ≡ is_digit byte base }
 {
-    char::from(byte).is_digit(base)
+    char::from(byte).is_digit(base.number())
 }
 
-/// The value of a digit of the greatest base; that of every other byte is the base.
+/// Tells the value of a digit of the greatest base; that of every other byte is the base.
 fn digit_value(byte: u8) -> u32
     ensures { result ≡ digit_value byte }
 {
@@ -33,10 +27,8 @@ fn digit_value(byte: u8) -> u32
         .unwrap_or(GREATEST_BASE)
 }
 
-/// The place of the first byte that is no digit of a base.
-fn end_of_digits(bytes: &[u8], base: u32) -> Option<usize>
-    requires least { LEAST_BASE ≤ base }
-    requires greatest { base ≤ GREATEST_BASE }
+/// Finds the first byte that is no digit of a base.
+fn end_of_digits(bytes: &[u8], base: Base) -> Option<usize>
     ensures first { result ≡ position (λ b. not (is_digit b base)) bytes.now }
     ensures inside { IfSome result (λ end. end ≤ length bytes.now) }
 {
@@ -44,9 +36,7 @@ fn end_of_digits(bytes: &[u8], base: u32) -> Option<usize>
 }
 
 /// Splits bytes behind the digits of a base at their front.
-pub(crate) fn split_digits(bytes: &[u8], base: u32) -> (&[u8], &[u8])
-    requires least { LEAST_BASE ≤ base }
-    requires greatest { base ≤ GREATEST_BASE }
+pub(crate) fn split_digits(bytes: &[u8], base: Base) -> (&[u8], &[u8])
     ensures digits { result.0.now ≡ front (λ b. is_digit b base) bytes.now }
     ensures rest { result.1.now ≡ behind (λ b. is_digit b base) bytes.now }
     ensures inside { length result.1.now ≤ length bytes.now }
@@ -54,24 +44,20 @@ pub(crate) fn split_digits(bytes: &[u8], base: u32) -> (&[u8], &[u8])
     bytes.split_at(end_of_digits(bytes, base).unwrap_or(bytes.len()))
 }
 
-/// The number that digits write; a greater one than 2^31 counts as that.
-fn magnitude(digits: &[u8], base: u32) -> u32
-    requires least { LEAST_BASE ≤ base }
-    requires greatest { base ≤ GREATEST_BASE }
+/// Reads the number that digits write; a greater one than 2^31 counts as that.
+fn magnitude(digits: &[u8], base: Base) -> u32
     ensures { result ≡ min LIMIT (digits_value base digits.now) }
 {
     let mut value = 0;
     for digit in digits {
-        let next = value * u64::from(base) + u64::from(digit_value(*digit));
+        let next = value * u64::from(base.number()) + u64::from(digit_value(*digit));
         value = next.min(LIMIT);
     }
     value as u32
 }
 
-/// The word of the number that a sign and digits write, held at -2^31 and 2^31 - 1.
-pub(crate) fn signed_word(negative: bool, digits: &[u8], base: u32) -> u32
-    requires least { LEAST_BASE ≤ base }
-    requires greatest { base ≤ GREATEST_BASE }
+/// Reads the number that a sign and digits write, held at -2^31 and 2^31 - 1, as a word.
+pub(crate) fn signed_word(negative: bool, digits: &[u8], base: Base) -> u32
     ensures { result ≡ held_word negative (digits_value base digits.now) }
 {
     let magnitude = magnitude(digits, base);

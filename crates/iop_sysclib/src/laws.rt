@@ -10,6 +10,14 @@ ghost use Rattle.iop_sysclib.specs.Laws.{FirstsOfStringsAreFound, LastsOfStrings
 ghost use Rattle.iop_sysclib.specs.Laws.{NoneInRangesIsZero, NoneInStringsIsZero};
 ghost use Rattle.iop_sysclib.specs.Laws.{StringsEndWithRam, StringsOutsideAreEmpty};
 ghost use Rattle.iop_sysclib.specs.NumeralLaws.{NumeralsAreRead, DecimalsAreTold, OctalsAreTold};
+ghost use Rattle.iop_sysclib.specs.NumeralLaws.{HexNumeralsAreRead, MagnitudesAreHeld};
+ghost use Rattle.iop_sysclib.specs.NumeralLaws.{EndsAreLeft, NoBasesReadNothing};
+ghost use Rattle.iop_sysclib.specs.NumeralLaws.{NoDigitsReadNothing};
+ghost use Rattle.iop_sysclib.specs.WritingLaws.{WritesAreRead, RangesAreCopied, RangesAreFilled};
+ghost use Rattle.iop_sysclib.specs.WritingLaws.{RangesAreCleared, StringsAreCopied};
+ghost use Rattle.iop_sysclib.specs.WritingLaws.{StringsAreJoined, ShortStringsAreCopied};
+ghost use Rattle.iop_sysclib.specs.WritingLaws.{FrontsAreCopied, TextsAreStored};
+ghost use Rattle.iop_sysclib.specs.OutcomeLaws.{OutcomesAreTold};
 
 /// `memchr` answers the address of the least index at which the byte stands.
 pub fn firsts_are_found()
@@ -97,12 +105,96 @@ pub fn numerals_are_read()
     ensures { NumeralsAreRead }
 {}
 
-/// With base 0 a number that does not begin with `0` is decimal.
+/// With base 0 `strtol` reads a number that does not begin with `0` as in base 10.
 pub fn decimals_are_told()
     ensures { DecimalsAreTold }
 {}
 
-/// With base 0 a number that begins with `0`, and no `x` or `X` behind it, is octal.
+/// With base 0 `strtol` reads a number that begins with `0`, but not with a prefix of base 16, as in
+/// base 8.
 pub fn octals_are_told()
     ensures { OctalsAreTold }
+{}
+
+/// `strtol` reads with base 0 or 16 of a number with `0x` or `0X` the one that the digits behind it
+/// write, and tells where they end.
+pub fn hex_numerals_are_read()
+    ensures { HexNumeralsAreRead }
+{}
+
+/// A number beyond 2^31 - 1 is held at 0x7FFFFFFF, and one below -2^31 at 0x80000000; every other
+/// one is itself.
+pub fn magnitudes_are_held()
+    ensures { MagnitudesAreHeld }
+{}
+
+/// `strtol` leaves at `end` the address behind the last digit.
+pub fn ends_are_left()
+    ensures { EndsAreLeft }
+{}
+
+/// With a base that numbers do not have `strtol` answers 0 and leaves `at` at `end`.
+pub fn no_bases_read_nothing()
+    ensures { NoBasesReadNothing }
+{}
+
+/// Where no digit stands behind white space and a sign `strtol` answers 0 and leaves `at` at `end`.
+pub fn no_digits_read_nothing()
+    ensures { NoDigitsReadNothing }
+{}
+
+/// What a call writes reads back at its range, and every other byte of RAM is as it was.
+pub fn writes_are_read()
+    ensures { WritesAreRead }
+{}
+
+/// After `memcpy` and `memmove` the range at `to` is what the range at `from` was.
+pub fn ranges_are_copied()
+    ensures { RangesAreCopied }
+{}
+
+/// After `memset` each byte of the range is the low byte of the word.
+pub fn ranges_are_filled()
+    ensures { RangesAreFilled }
+{}
+
+/// After `bzero` each byte of the range is zero.
+pub fn ranges_are_cleared()
+    ensures { RangesAreCleared }
+{}
+
+/// After `strcpy` the string at `to` is the one that stood at `from`.
+pub fn strings_are_copied()
+    ensures { StringsAreCopied }
+{}
+
+/// After `strcat` the string at `to` is the one that stood there, and then the one that stood at
+/// `from`.
+pub fn strings_are_joined()
+    ensures { StringsAreJoined }
+{}
+
+/// After `strncpy` of a string that is shorter than the limit the string at `to` is the one that
+/// stood at `from`.
+pub fn short_strings_are_copied()
+    ensures { ShortStringsAreCopied }
+{}
+
+/// After `strncpy` the range at `to` is the string that stood at `from`, cut at the limit, or with
+/// zeros up to it.
+pub fn fronts_are_copied()
+    ensures { FrontsAreCopied }
+{}
+
+/// After `sprintf` the bytes of the text and a zero stand at `to`.
+pub fn texts_are_stored()
+    ensures { TextsAreStored }
+{}
+
+/// Each service faults exactly where a range that it reads by its length or writes has a byte and is
+/// not wholly in RAM, or the `end` of `strtol` is misaligned. Else it answers its word: those that
+/// only look at memory write nothing, the others the range at `$a0`, `strcat` at the end of the
+/// string there, and `strtol` the word at `end`, where that is not 0.
+pub fn outcomes_are_told()
+    ensures { OutcomesAreTold }
 {}

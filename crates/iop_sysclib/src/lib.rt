@@ -2,12 +2,13 @@
 #![tactic(auto)]
 
 mod addresses;
+mod base;
 mod comparing;
 mod digits;
 pub mod laws;
 mod memory_calls;
 mod numerals;
-mod padding;
+mod padded;
 mod ranges;
 mod reading;
 mod serving;

@@ -1,19 +1,13 @@
 //! The numbers that texts begin with.
 
-ghost use Rattle.std.specs.Prelude.{◌≡◌, ◌≤◌, IfSome, length, not, position, true};
+ghost use Rattle.std.specs.Prelude.{◌≡◌, ◌≤◌, IfSome, length, not, position};
 ghost use Rattle.std.specs.Str.Parse.{starts_with_minus, without_leading_sign};
 ghost use Rattle.iop_printf.specs.Conversions.{behind};
-ghost use Rattle.iop_sysclib.specs.Numerals.{is_base, is_space, has_hex_prefix, base_of, without_prefix, reading_of};
+ghost use Rattle.iop_sysclib.specs.Numerals.{is_space, has_hex_prefix, without_prefix, reading_of};
 
-use crate::digits::{GREATEST_BASE, LEAST_BASE, is_digit, signed_word, split_digits};
+use crate::base::Base;
+use crate::digits::{is_digit, signed_word, split_digits};
 use crate::reading::Reading;
-
-/// Tells whether numbers may have a base; 0 stands for the one that their front tells.
-fn is_base(base: u32) -> bool
-    ensures { result ≡ is_base base }
-{
-    base == 0 || LEAST_BASE <= base && base <= GREATEST_BASE
-}
 
 /// Tells whether a byte is white space: a space, or one from tab to carriage return.
 fn is_space(byte: u8) -> bool
@@ -22,7 +16,7 @@ fn is_space(byte: u8) -> bool
     byte == b' ' || b'\t' <= byte && byte <= b'\r'
 }
 
-/// The place of the first byte that is no white space.
+/// Finds the first byte that is no white space.
 fn end_of_space(bytes: &[u8]) -> Option<usize>
     ensures first { result ≡ position (λ b. not (is_space b)) bytes.now }
     ensures inside { IfSome result (λ end. end ≤ length bytes.now) }
@@ -30,7 +24,7 @@ fn end_of_space(bytes: &[u8]) -> Option<usize>
     bytes.iter().position(|byte| !is_space(*byte))
 }
 
-/// What stands behind the white space at the front.
+/// Skips the white space at the front.
 fn behind_space(bytes: &[u8]) -> &[u8]
     ensures rest { result.now ≡ behind is_space bytes.now }
     ensures inside { length result.now ≤ length bytes.now }
@@ -45,7 +39,7 @@ fn starts_with_minus(bytes: &[u8]) -> bool
     matches!(bytes.first(), Some(b'-'))
 }
 
-/// What stands behind one `+` or `-` in front, or all where neither stands there.
+/// Skips one `+` or `-` in front, where one stands there.
 fn without_sign(bytes: &[u8]) -> &[u8]
     ensures rest { result.now ≡ without_leading_sign bytes.now }
     ensures inside { length result.now ≤ length bytes.now }
@@ -57,40 +51,21 @@ fn without_sign(bytes: &[u8]) -> &[u8]
 }
 
 /// Tells whether `0x` or `0X` stands in front, and a digit of base 16 behind it.
-fn has_hex_prefix(bytes: &[u8]) -> bool
+pub(crate) fn has_hex_prefix(bytes: &[u8]) -> bool
     ensures { result ≡ has_hex_prefix bytes.now }
 {
     bytes.len() > 2
         && bytes[0] == b'0'
         && (bytes[1] == b'x' || bytes[1] == b'X')
-        && is_digit(bytes[2], 16)
+        && is_digit(bytes[2], Base::new(16))
 }
 
-/// The base of an unsigned number; base 0 stands for the one that its front tells.
-fn base_of(base: u32, bytes: &[u8]) -> u32
-    requires { is_base base ≡ true }
-    ensures base { result ≡ base_of base bytes.now }
-    ensures least { LEAST_BASE ≤ result }
-    ensures greatest { result ≤ GREATEST_BASE }
-{
-    if base != 0 {
-        return base;
-    }
-    if has_hex_prefix(bytes) {
-        return 16;
-    }
-    match bytes.first() {
-        Some(b'0') => 8,
-        _ => 10,
-    }
-}
-
-/// An unsigned number without the prefix of base 16.
-fn without_prefix(base: u32, bytes: &[u8]) -> &[u8]
+/// Skips the prefix of an unsigned number of base 16.
+fn without_prefix(base: Base, bytes: &[u8]) -> &[u8]
     ensures rest { result.now ≡ without_prefix base bytes.now }
     ensures inside { length result.now ≤ length bytes.now }
 {
-    if base == 16 && has_hex_prefix(bytes) {
+    if base.number() == 16 && has_hex_prefix(bytes) {
         &bytes[2..]
     } else {
         bytes
@@ -104,12 +79,11 @@ pub(crate) fn reading_of(base: u32, text: &[u8]) -> Reading
     ensures reading { result ≡ reading_of base text.now }
     ensures inside { result.len ≤ length text.now }
 {
-    if !is_base(base) {
-        return Reading::NOTHING;
-    }
     let signed = behind_space(text);
     let unsigned = without_sign(signed);
-    let told = base_of(base, unsigned);
+    let Some(told) = Base::told(base, unsigned) else {
+        return Reading::NOTHING;
+    };
     let (digits, rest) = split_digits(without_prefix(told, unsigned), told);
     if digits.is_empty() {
         return Reading::NOTHING;

@@ -7,7 +7,7 @@ use iop_base::{GuestFault, Lines};
 use iop_ram::Ram;
 use iop_stubs::Guest;
 
-/// The bytes of a range. None exactly where it has a byte and is not wholly in RAM.
+/// Finds the bytes of a range. None exactly where it has a byte and is not wholly in RAM.
 pub(crate) fn bytes_at(ram: &Ram, at: u32, len: u32) -> Option<&[u8]>
     ensures bytes { option_copied result ≡ bytes_at ram.now at len }
     ensures short { IfSome result (λ bytes. length bytes.now ≤ len) }

@@ -30,6 +30,7 @@ pub(crate) fn sprintf<L: Lines>(
     if !guest.ram().contains(to, len + 1) {
         return Err(GuestFault::Address);
     }
+    // Both ranges are parts of the one that was looked at, so that neither is refused.
     let _ = guest.store_bytes(to, &text, now, lines);
     let _ = guest.fill(to.wrapping_add(len), 1, 0, now, lines);
     Ok(len)

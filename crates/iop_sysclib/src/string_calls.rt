@@ -11,7 +11,7 @@ use crate::string_places::{first_in_string, last_in_string};
 use iop_printf::string_at;
 use iop_stubs::Guest;
 
-/// The string at an address.
+/// Finds the string at an address.
 pub(crate) fn string(guest: &Guest, at: u32) -> &[u8]
     ensures text { result.now ≡ string_at guest.now.ram at }
     ensures short { length result.now < 2 ^ 24 }

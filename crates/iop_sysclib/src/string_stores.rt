@@ -4,7 +4,7 @@ ghost use Rattle.std.specs.Prelude.{◌≡◌, OnErr};
 ghost use Rattle.iop_sysclib.specs.Outcomes.{IsServed};
 ghost use Rattle.iop_sysclib.specs.StringCalls.{strcpy, strcat, strncpy};
 
-use crate::padding::copy_padded;
+use crate::padded::Padded;
 use crate::string_calls::string;
 use iop_base::{GuestFault, Lines};
 use iop_printf::string_at;
@@ -23,7 +23,12 @@ pub(crate) fn strcpy<L: Lines>(
     ensures untouched { OnErr result (lines.new ≡ lines.old) }
 {
     let len = string(guest, from).len() as u32;
-    copy_padded(guest, to, from, len, 1, to, now, lines)
+    let ended = Padded {
+        from,
+        len,
+        zeros: 1,
+    };
+    ended.copy(guest, to, to, now, lines)
 }
 
 /// Stores a string with a zero byte behind it at the end of that at `to`, and answers `to`.
@@ -40,7 +45,12 @@ pub(crate) fn strcat<L: Lines>(
 {
     let end = to.wrapping_add(string(guest, to).len() as u32);
     let len = string(guest, from).len() as u32;
-    copy_padded(guest, end, from, len, 1, to, now, lines)
+    let ended = Padded {
+        from,
+        len,
+        zeros: 1,
+    };
+    ended.copy(guest, end, to, now, lines)
 }
 
 /// Stores at `to` at most `len` bytes of a string, and zeros up to `len`, and answers `to`.
@@ -57,5 +67,10 @@ pub(crate) fn strncpy<L: Lines>(
     ensures untouched { OnErr result (lines.new ≡ lines.old) }
 {
     let copied = string_at(guest.ram(), from, len).len() as u32;
-    copy_padded(guest, to, from, copied, len - copied, to, now, lines)
+    let filled = Padded {
+        from,
+        len: copied,
+        zeros: len - copied,
+    };
+    filled.copy(guest, to, to, now, lines)
 }

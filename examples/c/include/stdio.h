@@ -5,6 +5,8 @@
 #ifndef STDIO_H
 #define STDIO_H
 
+#include <sysclib.h> /* sprintf, which C has in this header */
+
 /*
  * 4, both: prints as printf of C does, by %d %i %u %o %x %X %p %c %s %% with flags - and 0, width and precision, and at
  * most 4,096 bytes. Answers the number of bytes.

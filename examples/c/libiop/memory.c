@@ -1,6 +1,7 @@
 /*
- * The functions that the compiler may call by itself, to copy a structure for example. Each goes byte by byte. The
- * Makefile compiles this file so that no loop becomes a call of the function that it stands in.
+ * The functions that the compiler may call by itself, to copy a structure for example, for a module that does not take
+ * them from sysclib: the Makefile links this file to those whose memory_NAME is own. Each goes byte by byte, and the
+ * Makefile compiles it so that no loop becomes a call of the function that it stands in.
  */
 #include <string.h>
 

@@ -1,15 +1,15 @@
-; 263 libraries can be registered, the ten of the kernel among them
+; 263 libraries can be registered, the eleven of the kernel among them
     .name limit
     .import loadcore 1 1
     .fn register_library 6
     .fn release_library 7
     .endi
-; registers the table under the names of 1 to 253, as long as that is answered with 0, and answers the last name
+; registers the table under the names of 1 to 252, as long as that is answered with 0, and answers the last name
 fills:
     addu $s3, $ra, $0
     lui $s4, %hi(name)
     addiu $s4, $s4, %lo(name)
-    addiu $s5, $0, 253
+    addiu $s5, $0, 252
 fill:
     lw $t0, 0($s4)
     lui $a0, %hi(table)
@@ -26,7 +26,7 @@ filled:
     nop
     .data
 rows:
-    .word fills, 0, 0, 253
+    .word fills, 0, 0, 252
     .word register_library, table, 0, -212
     .word poke, name, 256, 0
     .word register_library, table, 0, -400

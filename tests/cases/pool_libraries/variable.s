@@ -32,7 +32,6 @@ rows:
     .word peek, 0x1FC, 0, 0
     .word peek, 0x3FC, 0, 0
     .word peek, 0x5FC, 0, 0
-    .word peek, 0x600, 0, 0
     .word peek, 0x5FFC, 0, 0
     .word peek, 0x6000, 0, 0x2000C
     .word peek, 0x6004, 0, 0x03E00008
@@ -44,7 +43,6 @@ rows:
     .word peek, 0x6404, 0, 0x03E00008
     .word peek, 0x67F0, 0, 0x24FCC
     .word peek, 0x67F4, 0, 0x03E00008
-    .word peek, 0x6800, 0, 0
     .word peek, create_pool, 0, 0x8001810
     .word peek, number_63, 0, 0x80018FC
     .word register_library, 0x200, 0, -212

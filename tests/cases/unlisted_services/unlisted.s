@@ -1,5 +1,5 @@
-; Numbers that the libraries do not list: 0 to 3, those between the listed ones, the first behind them, and 63. Each
-; answers -1, in a thread and in a handler, and the trace tells of it
+; Numbers that the libraries do not list: those before the listed ones and between them, the first behind them, and 63.
+; Each answers -1, in a thread and in a handler, and the trace tells of it
     .name unlisted
     .import loadcore 1 1
     .fn loadcore_0 0
@@ -102,6 +102,31 @@
     .fn thfpool_13 13
     .fn thfpool_63 63
     .endi
+    .import sysclib 1 1
+    .fn sysclib_0 0
+    .fn sysclib_1 1
+    .fn sysclib_2 2
+    .fn sysclib_3 3
+    .fn sysclib_4 4
+    .fn sysclib_5 5
+    .fn sysclib_6 6
+    .fn sysclib_7 7
+    .fn sysclib_8 8
+    .fn sysclib_9 9
+    .fn sysclib_15 15
+    .fn sysclib_16 16
+    .fn sysclib_18 18
+    .fn sysclib_24 24
+    .fn sysclib_25 25
+    .fn sysclib_26 26
+    .fn sysclib_28 28
+    .fn sysclib_31 31
+    .fn sysclib_33 33
+    .fn sysclib_34 34
+    .fn sysclib_35 35
+    .fn sysclib_37 37
+    .fn sysclib_63 63
+    .endi
     .data
 rows:
     .word loadcore_0, 1, 1, -1
@@ -185,6 +210,29 @@ rows:
     .word thfpool_10, 1, 1, -1
     .word thfpool_13, 1, 1, -1
     .word thfpool_63, 1, 1, -1
+    .word sysclib_0, 1, 1, -1
+    .word sysclib_1, 1, 1, -1
+    .word sysclib_2, 1, 1, -1
+    .word sysclib_3, 1, 1, -1
+    .word sysclib_4, 1, 1, -1
+    .word sysclib_5, 1, 1, -1
+    .word sysclib_6, 1, 1, -1
+    .word sysclib_7, 1, 1, -1
+    .word sysclib_8, 1, 1, -1
+    .word sysclib_9, 1, 1, -1
+    .word sysclib_15, 1, 1, -1
+    .word sysclib_16, 1, 1, -1
+    .word sysclib_18, 1, 1, -1
+    .word sysclib_24, 1, 1, -1
+    .word sysclib_25, 1, 1, -1
+    .word sysclib_26, 1, 1, -1
+    .word sysclib_28, 1, 1, -1
+    .word sysclib_31, 1, 1, -1
+    .word sysclib_33, 1, 1, -1
+    .word sysclib_34, 1, 1, -1
+    .word sysclib_35, 1, 1, -1
+    .word sysclib_37, 1, 1, -1
+    .word sysclib_63, 1, 1, -1
     .word rows_in_handler, handler_rows, 0, 0
     .word 0
 handler_rows:
@@ -198,4 +246,5 @@ handler_rows:
     .word stdio_5, 1, 1, -1
     .word thvpool_13, 1, 1, -1
     .word thfpool_13, 1, 1, -1
+    .word sysclib_37, 1, 1, -1
     .word 0

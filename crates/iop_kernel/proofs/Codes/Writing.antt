@@ -7,8 +7,8 @@ use Rattle.iop_services.proofs.Rows.{home, row_home}
 use Rattle.iop_services.specs.Table.{row_of, allows}
 use Rattle.iop_services.specs.declared.row.Row.{Row}
 use Rattle.iop_services.specs.declared.service.Service.{Service}
-use Rattle.iop_services.specs.declared.service.Service.TheVariants.{Loadcore, Sysmem, Intrman, Thbase, Thsemap, Thevent, Thmsgbx, Stdio, Thvpool, Thfpool}
-use Rattle.iop_kernel.specs.CodeLaws.{serves_kernel}
+use Rattle.iop_services.specs.declared.service.Service.TheVariants.{Loadcore, Sysmem, Intrman, Thbase, Thsemap, Thevent, Thmsgbx, Stdio, Thvpool, Thfpool, Sysclib}
+use Rattle.iop_kernel.specs.CodeLaws.{writes_memory}
 use Rattle.iop_kernel.specs.Serving.{sight, answers_or_faults, serves, calls_row, calls_library}
 use Rattle.iop_kernel.specs.System.{System, Served, in_handler}
 
@@ -19,7 +19,7 @@ module _ (s : System) where
   answered_memory t (Ok word) = refl
   answered_memory t (Err kind) = refl
 
-  serves_nothing : (x : Service) → serves_kernel (home x) ≡ false
+  serves_nothing : (x : Service) → writes_memory (home x) ≡ false
       → (serves s x).left.state.memory ≡ s.memory
   unfolding serves
   serves_nothing (Loadcore x) apart =
@@ -34,18 +34,19 @@ module _ (s : System) where
   serves_nothing (Thmsgbx x) apart = absurd (cc apart)
   serves_nothing (Thvpool x) apart = absurd (cc apart)
   serves_nothing (Thfpool x) apart = absurd (cc apart)
+  serves_nothing (Sysclib x) apart = absurd (cc apart)
 
   row_writes_nothing : (library number : ℕ) (o : Option Row) → row_of library number ≡ o
-      → serves_kernel library ≡ false → (calls_row library number s o).left.state.memory ≡ s.memory
+      → writes_memory library ≡ false → (calls_row library number s o).left.state.memory ≡ s.memory
   row_writes_nothing library number None found apart = refl
   row_writes_nothing library number (Some row) found apart =
       cond_both (allows row.context (in_handler s.core.kernel)) _ _
       (λ (d : Served). d.left.state.memory ≡ s.memory)
       (λ allowed. serves_nothing row.service
-      (ap serves_kernel (row_home library number row found) ∙ apart))
+      (ap writes_memory (row_home library number row found) ∙ apart))
       (λ elsewhere. refl)
 
-  pub library_writes_nothing : (library number : ℕ) → serves_kernel library ≡ false
+  pub library_writes_nothing : (library number : ℕ) → writes_memory library ≡ false
       → (calls_library library number s).left.state.memory ≡ s.memory
   unfolding calls_library
   library_writes_nothing library number =

@@ -1,4 +1,5 @@
--- What the services of loadcore, sysmem and stdio do, and the returns of modules and threads.
+-- What the services of loadcore, sysmem, stdio and sysclib do, and the returns of modules and
+-- threads.
 use Rattle.std.proofs.Common.{refl}
 use Rattle.iop_kernel.specs.LibraryRequests.{ServesLibraries, LibraryRequestsAreServed}
 use Rattle.iop_kernel.specs.Serving.{serves}
@@ -22,6 +23,9 @@ serves_libraries s = record {
   flush = (refl, refl);
   print = refl;
   kernel_print = refl;
+  sysclib_reads = λ x outcome is none. rw (is, none) refl;
+  sysclib_writes = λ x outcome write is written. rw (is, written) refl;
+  sysclib_faults = λ x none. rw none refl;
   module_return = λ is. rw is refl;
   thread_return = λ is. rw is refl;
 }

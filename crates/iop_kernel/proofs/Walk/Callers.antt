@@ -48,6 +48,7 @@ all_suit = record {
   stdio = refl;
   thvpool = refl;
   thfpool = refl;
+  sysclib = refl;
 }
 
 -- by the handler that runs, and the thread

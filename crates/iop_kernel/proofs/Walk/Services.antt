@@ -7,7 +7,7 @@ use Rattle.iop_services.specs.Table.{row_of, allows}
 use Rattle.iop_services.specs.declared.codes.TheConstants.{THBASE}
 use Rattle.iop_services.specs.declared.row.Row.{Row}
 use Rattle.iop_services.specs.declared.service.Service.{Service}
-use Rattle.iop_services.specs.declared.service.Service.TheVariants.{Loadcore, Sysmem, Intrman, Thbase, Thsemap, Thevent, Thmsgbx, Stdio, Thvpool, Thfpool}
+use Rattle.iop_services.specs.declared.service.Service.TheVariants.{Loadcore, Sysmem, Intrman, Thbase, Thsemap, Thevent, Thmsgbx, Stdio, Thvpool, Thfpool, Sysclib}
 use Rattle.iop_services.proofs.Rows.{home, row_home}
 use Rattle.iop_thread.specs.declared.kind.Kind.TheVariants as kinds
 use Rattle.iop_kernel.specs.Handlers.{returns_handler}
@@ -20,6 +20,7 @@ use Rattle.iop_kernel.specs.declared.call.Call.TheVariants.{Library, ThreadRetur
 use Rattle.iop_kernel.proofs.Walk.Callers.{has_caller}
 use Rattle.iop_kernel.proofs.Walk.Libraries.{IsAsked, IsLeft, loadcore_goes, sysmem_goes, stdio_goes, intrman_goes, thbase_goes, thsemap_goes, thevent_goes, thmsgbx_goes, thvpool_goes, thfpool_goes}
 use Rattle.iop_kernel.proofs.Walk.Moves.{Moves, ServiceMoves, CallMoves, UnlistedLasts, CoreEnds, Ends}
+use Rattle.iop_kernel.proofs.Walk.Sysclib.{sysclib_goes}
 use Rattle.iop_kernel.proofs.Walk.Threads.{only, exits_go, returns_go}
 
 module _ {P : System → List Piece → Type 0} {Q : After → System → List Piece → Type 0}
@@ -45,6 +46,7 @@ module _ {P : System → List Piece → Type 0} {Q : After → System → List P
       thvpool_goes m.each (m.objects kinds.VariablePool refl) (m.meets refl) x asks leave
   serves_goes (Thfpool x) m asks leave =
       thfpool_goes m.each (m.objects kinds.FixedPool refl) x asks leave
+  serves_goes (Sysclib x) m asks leave = sysclib_goes m.each x
 
 -- so it is for each row that is called
 abbrev pub AllAsked : Type 0 → System → Type 0

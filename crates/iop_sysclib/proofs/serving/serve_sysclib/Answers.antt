@@ -1,13 +1,9 @@
-use Rattle.std.proofs.Common.{ℕ, Option, Some, ap, sym, ◌∙◌}
+use Rattle.std.proofs.Common.{Some, ap, sym, ◌∙◌}
 use Rattle.iop_sysclib.specs.Calls.{serves_sysclib, argument}
 use Rattle.iop_sysclib.specs.MemoryCalls.{memchr, memcmp}
-use Rattle.iop_sysclib.specs.Outcomes.{Outcome, reads}
+use Rattle.iop_sysclib.specs.Outcomes.{answers}
 use Rattle.iop_sysclib.proofs.ServedCalls.{served_reading, served_answer, served_as}
 use Rattle.iop_sysclib.proofs.serving.serve_sysclib.Goals as goal
-
--- what answers a word
-abbrev word : ℕ → Option Outcome
-word w = reads (Some w)
 
 pub returns-in-Memchr-clause-served : goal.returns-in-Memchr-clause-served
 returns-in-Memchr-clause-served g c =
@@ -29,33 +25,33 @@ pub returns-in-Strchr-clause-served : goal.returns-in-Strchr-clause-served
 returns-in-Strchr-clause-served g c =
     served_as
     (ap (serves_sysclib c.args.guest.now.ram c.args.cpu.now) c.in-Strchr.is
-    ∙ ap word (sym c.strchr.ensures))
+    ∙ ap answers (sym c.strchr.ensures))
     (served_reading (Some c.strchr.result) c.args.now c.args.guest.now _)
 
 pub returns-in-Strcmp-clause-served : goal.returns-in-Strcmp-clause-served
 returns-in-Strcmp-clause-served g c =
     served_as
     (ap (serves_sysclib c.args.guest.now.ram c.args.cpu.now) c.in-Strcmp.is
-    ∙ ap word (sym c.strcmp.ensures))
+    ∙ ap answers (sym c.strcmp.ensures))
     (served_reading (Some c.strcmp.result) c.args.now c.args.guest.now _)
 
 pub returns-in-Strlen-clause-served : goal.returns-in-Strlen-clause-served
 returns-in-Strlen-clause-served g c =
     served_as
     (ap (serves_sysclib c.args.guest.now.ram c.args.cpu.now) c.in-Strlen.is
-    ∙ ap word (sym c.strlen.ensures))
+    ∙ ap answers (sym c.strlen.ensures))
     (served_reading (Some c.strlen.result) c.args.now c.args.guest.now _)
 
 pub returns-in-Strncmp-clause-served : goal.returns-in-Strncmp-clause-served
 returns-in-Strncmp-clause-served g c =
     served_as
     (ap (serves_sysclib c.args.guest.now.ram c.args.cpu.now) c.in-Strncmp.is
-    ∙ ap word (sym c.strncmp.ensures))
+    ∙ ap answers (sym c.strncmp.ensures))
     (served_reading (Some c.strncmp.result) c.args.now c.args.guest.now _)
 
 pub returns-in-Strrchr-clause-served : goal.returns-in-Strrchr-clause-served
 returns-in-Strrchr-clause-served g c =
     served_as
     (ap (serves_sysclib c.args.guest.now.ram c.args.cpu.now) c.in-Strrchr.is
-    ∙ ap word (sym c.strrchr.ensures))
+    ∙ ap answers (sym c.strrchr.ensures))
     (served_reading (Some c.strrchr.result) c.args.now c.args.guest.now _)

@@ -4,8 +4,8 @@ use Rattle.iop_sysclib.proofs.ServedCalls.{served_as}
 use Rattle.iop_sysclib.proofs.StringRanges.{held_text, strncpy_is}
 use Rattle.iop_sysclib.proofs.string_stores.strncpy.Goals as goal
 
-pub copy_padded-requires-clause-source : goal.copy_padded-requires-clause-source
-copy_padded-requires-clause-source g c =
+pub copy-requires-clause-source : goal.copy-requires-clause-source
+copy-requires-clause-source g c =
     (held_text c.args.guest.now c.args.to c.args.from c.args.len c.string_at.result.now
     (c.string_at.ensures.text
     ∙ ap (λ ram. take c.args.len (string_at ram c.args.from)) c.ram.ensures.value)).open_is
@@ -16,4 +16,4 @@ returns-clause-served g c =
     (strncpy_is c.args.guest.now c.args.to c.args.from c.args.len c.string_at.result.now
     (c.string_at.ensures.text
     ∙ ap (λ ram. take c.args.len (string_at ram c.args.from)) c.ram.ensures.value))
-    c.copy_padded.ensures.served
+    c.copy.ensures.served

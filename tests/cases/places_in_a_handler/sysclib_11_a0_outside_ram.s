@@ -1,0 +1,20 @@
+; memcmp reads five bytes at $a0, and RAM ends before the last
+    .name place
+    .entry main
+main:
+    lui $a0, %hi(soon)
+    addiu $a0, $a0, %lo(soon)
+    lui $a1, %hi(handles)
+    addiu $a1, $a1, %lo(handles)
+    syscall 803
+    jr $ra
+    addu $v0, $0, $0
+; the handler of an alarm
+handles:
+    lui $a0, 0x20
+    addiu $a0, $a0, -4
+    addiu $a2, $0, 5
+    syscall 2571
+    .data
+soon:
+    .word 100, 0
