@@ -1,5 +1,6 @@
 -- What the calls on a line answer and leave, by the sets and the table.
 use Rattle.std.proofs.Common.{◌≡◌, ◌≢◌, ℕ, ◌<◌, ◌≤◌, Bool, true, false, ◌&&◌, None, Some, is_some, List, length, get_or, refl, sym, ap, ◌∙◌, arith}
+use Rattle.std.specs.Bool.{then_some}
 use Rattle.std.specs.List.{slice_get}
 use Rattle.std.proofs.Math.ListN.{set, length-set}
 use Rattle.std.proofs.lemmas.List.{get_or-set_same, get_or-set_other}
@@ -9,6 +10,7 @@ use Rattle.iop_base.specs.Bits.{has, ChangesOnly}
 use Rattle.iop_base.specs.declared.code.Code.{Code}
 use Rattle.iop_base.specs.declared.code.TheConstants.Code.{OK, ILLEGAL_INTERRUPT, LINE_DISABLED, HANDLER_FOUND, HANDLER_NOT_FOUND}
 use Rattle.iop_intr.specs.InterruptLines.{IrqLine, line_of, on_line, is_deliverable, register_line, release_line, enable_line, disable_line, registering, releasing, enabling, disabling, raising, lowering, delivering, finished, finishing}
+use Rattle.iop_intr.specs.Laws.{line_with}
 use Rattle.iop_intr.specs.LineViews.{line_in, lines_in}
 use Rattle.iop_intr.specs.declared.handler.Handler.{Handler}
 use Rattle.iop_intr.specs.declared.irqs.TheConstants.{IRQ_LINES}
@@ -131,6 +133,20 @@ module _ (a : Inside) {lines : List IrqLine} (view : lines_in a ≡ lines) (n : 
         by_bit true found = rw (has_one size no_handler found, found) refl
         by_bit false none = rw (has_none none, none) refl
 
+    -- the line as the sets and the table tell it
+    pub tells : (d : Handler) (r e is_in : Bool) → r ≡ has a.raised n → e ≡ has a.enabled n →
+        is_in ≡ has a.handled n →
+        line_with r e (then_some is_in (get_or a.handlers n d)) ≡ line_of lines n
+    tells d r e is_in is_raised is_enabled is_in_set =
+        same_line _ _ _ _ _ _ is_raised is_enabled (its_own is_in is_in_set)
+        ∙ sym (line_is a view n below)
+      where
+        its_own : (bit : Bool) → bit ≡ has a.handled n →
+            then_some bit (get_or a.handlers n d) ≡ (line_in a n).handler
+        its_own true found =
+            rw (← found) (sym (slice_get-get_or a.handlers n d (omega arith)))
+        its_own false none = rw (← none) refl
+
     pub finishes_enabled : (enabled : ℕ) (value : ℕ) → value ≢ 0 → has a.handled n ≡ true →
         ChangesOnly a.enabled enabled n true →
         lines_in (record a { enabled = enabled }) ≡ finishing lines n value
@@ -202,6 +218,29 @@ module _ (a : Inside) {lines : List IrqLine} (view : lines_in a ≡ lines) (n : 
       where
         here : line_in a n ≡ line_of lines n
         here = sym (line_is a view n below)
+
+    pub puts : (raised enabled : ℕ) (r e : Bool) → ChangesOnly a.raised raised n r →
+        ChangesOnly a.enabled enabled n e →
+        lines_in (record registered { raised = raised; enabled = enabled })
+        ≡ set lines n (line_with r e (Some h))
+    puts raised enabled r e to_raised to_enabled =
+        set_is a view n below (record registered { raised = raised; enabled = enabled })
+        (line_with r e (Some h))
+        (same_line _ _ _ _ _ _ to_raised.changed to_enabled.changed its_handler)
+        (λ i h other. same_line _ _ _ _ _ _ (to_raised.others i other)
+        (to_enabled.others i other) (other_handlers i h other))
+
+  pub puts_without : (raised enabled handled : ℕ) (r e : Bool) →
+      ChangesOnly a.raised raised n r → ChangesOnly a.enabled enabled n e →
+      ChangesOnly a.handled handled n false →
+      lines_in (record a { raised = raised; enabled = enabled; handled = handled })
+      ≡ set lines n (line_with r e None)
+  puts_without raised enabled handled r e to_raised to_enabled taken =
+      set_is a view n below
+      (record a { raised = raised; enabled = enabled; handled = handled }) (line_with r e None)
+      (same_line _ _ _ _ _ _ to_raised.changed to_enabled.changed (rw taken.changed refl))
+      (λ i h other. same_line _ _ _ _ _ _ (to_raised.others i other) (to_enabled.others i other)
+      (rw (taken.others i other) refl))
 
   module _ (size : length a.handlers ≡ IRQ_LINES) (found : has a.handled n ≡ true) where
     pub is_found : (h : Handler) → (HANDLER_FOUND, lines) ≡ registering lines n h

@@ -3,3 +3,4 @@ pub mod Calls
 pub mod Changing
 pub mod Finding
 pub mod Keeping
+pub mod PuttingBack

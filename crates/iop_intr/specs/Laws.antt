@@ -3,6 +3,7 @@ use Rattle.std.specs.Prelude.{◌≡◌, ◌≢◌, ℕ, ◌<◌, Bool, true, fa
 use Rattle.iop_base.specs.declared.code.Code.{Code}
 use Rattle.iop_base.specs.declared.code.TheConstants.Code.{OK}
 use Rattle.iop_intr.specs.InterruptLines.{IrqLine, line_of, registering, releasing, enabling, disabling, raising, lowering, deliverable, delivering, finishing}
+use Rattle.iop_intr.specs.Restoring.{with_lines}
 use Rattle.iop_intr.specs.declared.handler.Handler.{Handler}
 use Rattle.iop_intr.specs.declared.irqs.TheConstants.{IRQ_LINES}
 
@@ -88,3 +89,8 @@ pub record CallsChangeOneLine (lines : List IrqLine) (n : ℕ) (was : IrqLine) :
 abbrev pub EachCallChangesOneLine : Type 0
 EachCallChangesOneLine = (lines : List IrqLine) (n : ℕ)
     → length lines ≡ IRQ_LINES → CallsChangeOneLine lines n (line_of lines n)
+
+-- all lines put back as others are, whatever they were, are those others
+abbrev pub LinesArePutBack : Type 0
+LinesArePutBack = (lines others : List IrqLine)
+    → length lines ≡ IRQ_LINES → length others ≡ IRQ_LINES → with_lines lines 0 others ≡ others

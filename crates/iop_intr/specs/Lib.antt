@@ -1,3 +1,4 @@
 pub mod InterruptLines
 pub mod LineViews
+pub mod Restoring
 pub mod Laws

@@ -1,8 +1,10 @@
-ghost use Rattle.std.specs.Prelude.{◌≡◌, ◌<◌, IfSome, Some, replicate};
+ghost use Rattle.std.specs.Prelude.{◌≡◌, ◌<◌, IfSome, Some, replicate, set};
 ghost use Rattle.iop_intr.specs.InterruptLines.{idle, line_of, IsDeliverable, handler_of, registering, releasing, enabling, disabling, raising, lowering, deliverable, delivering, finishing};
+ghost use Rattle.iop_intr.specs.Restoring.{irq_line};
 ghost use Rattle.iop_intr.specs.declared.irqs.TheConstants.{IRQ_LINES};
 
 use crate::handler::Handler;
+use crate::line::Line;
 use crate::line_set::LineSet;
 use iop_base::Code;
 use std::marker::Model;
@@ -187,6 +189,35 @@ impl Irqs {
             self.enabled.remove(line);
         } else if self.handled.has(line) {
             self.enabled.insert(line);
+        }
+    }
+    /// Tells how a line below `IRQ_LINES` stands.
+    pub fn line(&self, number: u8) -> Line
+        requires { number < IRQ_LINES }
+        ensures { irq_line result ≡ line_of self.now number }
+    {
+        let number = number as u32;
+        Line {
+            raised: self.raised.has(number),
+            enabled: self.enabled.has(number),
+            handler: self
+                .handled
+                .has(number)
+                .then_some(self.handlers[number as usize]),
+        }
+    }
+
+    /// Makes a line below `IRQ_LINES` stand so, whatever it was.
+    pub fn put_line(&mut self, number: u8, line: Line)
+        requires { number < IRQ_LINES }
+        ensures { self.new ≡ set self.old number (irq_line line) }
+    {
+        let number = number as u32;
+        self.raised.put(number, line.raised);
+        self.enabled.put(number, line.enabled);
+        self.handled.put(number, line.handler.is_some());
+        if let Some(handler) = line.handler {
+            self.handlers[number as usize] = handler;
         }
     }
 }

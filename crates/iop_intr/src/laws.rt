@@ -1,7 +1,7 @@
 //! Facts about the definitions that no call computes. Each is the contract of a function that does
 //! nothing.
 
-ghost use Rattle.iop_intr.specs.Laws.{DeliverableIsLowest, RaisedStaysRaised, LoweredStaysLowered, DeliveryChangesOneLine, ZeroDisables, ResultsEnableOrDisable, EachCallChangesOneLine};
+ghost use Rattle.iop_intr.specs.Laws.{DeliverableIsLowest, RaisedStaysRaised, LoweredStaysLowered, DeliveryChangesOneLine, ZeroDisables, ResultsEnableOrDisable, EachCallChangesOneLine, LinesArePutBack};
 
 /// The line that is deliverable is raised, is enabled and has a handler, and no lower line is so.
 /// None is deliverable only where no line is so.
@@ -42,4 +42,9 @@ pub fn results_enable_or_disable()
 /// do `raise` and `lower`, of which one raises its line and the other lowers it.
 pub fn each_call_changes_one_line()
     ensures { EachCallChangesOneLine }
+{}
+
+/// All lines put back as others are, whatever they were, are those others.
+pub fn lines_are_put_back()
+    ensures { LinesArePutBack }
 {}

@@ -4,7 +4,9 @@
 mod handler;
 mod irqs;
 pub mod laws;
+mod line;
 mod line_set;
 
 pub use handler::Handler;
 pub use irqs::{IRQ_LINES, Irqs};
+pub use line::Line;

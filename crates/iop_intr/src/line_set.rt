@@ -53,6 +53,18 @@ impl LineSet {
         self.bits &= !(1 << line);
     }
 
+    /// Puts a line into the set, or takes it out.
+    pub(crate) fn put(&mut self, line: u32, is_in: bool)
+        requires { line < IRQ_LINES }
+        ensures { ChangesOnly self.old self.new line is_in }
+    {
+        if is_in {
+            self.insert(line);
+        } else {
+            self.remove(line);
+        }
+    }
+
     /// Makes the set of the lines that are in both.
     pub(crate) fn intersection(self, other: Self) -> Self
         ensures { (n : ℕ) → has result n ≡ (has self n && has other n) }

@@ -1,5 +1,5 @@
 use iop_base::Code;
-use iop_intr::Irqs;
+use iop_intr::{Handler, Irqs, Line};
 use std::test::Fail;
 
 /// A call of the table.
@@ -79,5 +79,39 @@ fn deliveries(rt: HostRuntime) -> Result<(), Fail> {
     assert_eq!(rt; raised.deliverable(), Some(3));
     irqs.raise(3);
     assert_eq!(rt; irqs.deliverable(), Some(3));
+    Ok(())
+}
+
+#[test]
+fn lines_are_put_back(rt: HostRuntime) -> Result<(), Fail> {
+    let mut irqs = Irqs::new();
+    irqs.raise(63);
+    assert_eq!(rt; irqs.register(63, 0x1000, 7, 0x8000), Code::OK);
+    assert_eq!(rt; irqs.enable(0), Code::OK);
+    let mut others = Irqs::new();
+    others.raise(5);
+    assert_eq!(rt; others.register(5, 0x2000, 8, 0x9000), Code::OK);
+    assert_eq!(rt; others.enable(63), Code::OK);
+    for number in 0..64 {
+        others.put_line(number, irqs.line(number));
+    }
+    let handler = Handler {
+        address: 0x1000,
+        arg: 7,
+        gp: 0x8000,
+    };
+    let rows = [
+        (0, false, true, None),
+        (5, false, false, None),
+        (63, true, false, Some(handler)),
+    ];
+    for (number, raised, enabled, handler) in rows {
+        let line = Line {
+            raised,
+            enabled,
+            handler,
+        };
+        assert_eq!(rt; others.line(number), line);
+    }
     Ok(())
 }

@@ -3,6 +3,7 @@ pub mod Changes
 pub mod KeptApart
 pub mod MappedLists
 pub mod Places
+pub mod Restored
 pub mod Rooms
 pub mod TableChanges
 pub mod TableQueues

@@ -1,28 +1,26 @@
 -- What an object more or less leaves of a table, or one of which something else is known.
-use Rattle.std.proofs.Common.{◌≡◌, ◌≢◌, ℕ, ◌+◌, ◌<◌, ◌≤◌, true, false, if◌then◌else◌, not, Some, Result, Ok, Err, option_map, List, [], ◌∷◌, ◌++◌, length, map, find, take, drop, refl, ap, sym, ◌∙◌, subst, suc, arith, get_or, set}
+use Rattle.std.proofs.Common.{◌≡◌, ◌≢◌, ℕ, ◌+◌, ◌<◌, ◌≤◌, false, if◌then◌else◌, not, Some, option_map, List, [], ◌∷◌, ◌++◌, length, map, find, take, drop, refl, ap, sym, ◌∙◌, subst, suc, arith, get_or, set}
 use Rattle.std.specs.Prelude.{◌==◌}
 use Rattle.std.specs.List.{remove}
-use Rattle.std.proofs.lemmas.Bool.{cond-true, eq-eqb, ne_eqb}
-use Rattle.std.proofs.lemmas.Bool.Decides.{nat_tests}
-use Rattle.std.proofs.lemmas.List.{length-map, length-set, length_push, get_or-map, map_push, map-set, set-get_or}
+use Rattle.std.proofs.lemmas.Bool.{eq-eqb, ne_eqb}
+use Rattle.std.proofs.lemmas.List.{length-map, length-set, get_or-map, map_push, map-set, set-get_or}
 use Rattle.std.proofs.lemmas.List.Elements.{All-append, All-take, All-drop, All-push, All-weaker, All-set}
 use Rattle.std.proofs.lemmas.List.Quantifiers.{all_pairs_push, all_pairs_remove}
 use Rattle.std.proofs.lemmas.Simd.{map-map}
-use Rattle.iop_base.specs.declared.code.Code.{Code}
-use Rattle.iop_base.specs.declared.code.TheConstants.Code.{NO_MEMORY}
 use Rattle.iop_base.specs.declared.limits.TheConstants.{LAST_ID}
 use Rattle.iop_queues.specs.Numbers.{AreAssigned}
 use Rattle.iop_queues.specs.Queues.{queue_at, with_queue}
 use Rattle.iop_queues.specs.declared.queued.Queued.{Queued}
 use Rattle.iop_queues.proofs.Assigned.{AreAssigned-given_back, AreAssigned-taken, free_is_empty}
-use Rattle.iop_objects.specs.Objects.{Object, Objects, waiters_of, has_room, creates, deletes, changes, with_state}
+use Rattle.iop_objects.specs.Objects.{Object, Objects, waiters_of, deletes, changes, with_state}
+use Rattle.iop_objects.specs.Restoring.{with_last}
 use Rattle.iop_objects.specs.Standing.{object_in, objects_in, IsTable}
 use Rattle.iop_objects.specs.declared.objects.Live.{Live}
 use Rattle.iop_objects.specs.declared.objects.TheConstants.{MOST_OBJECTS}
 use Rattle.iop_objects.specs.declared.waiter.Waiter.{Waiter}
 use Rattle.iop_objects.proofs.MappedLists.{filter-map, map-remove, map-at_one, filter-one_passes}
 use Rattle.iop_objects.proofs.Places.{IsObject, ids_apart, has_id}
-use Rattle.iop_objects.proofs.Tables.{table_of, changed, all_queues, waiters_of-queue}
+use Rattle.iop_objects.proofs.Tables.{table_of, changed, waiters_of-queue}
 
 module _ {A W : Type 0} (live : List (Live A)) (free : List ℕ)
     (waiters : List (List (Queued (Waiter W)))) (next : ℕ)
@@ -144,51 +142,36 @@ module _ {A W : Type 0} (live : List (Live A)) (free : List ℕ)
 -- an object more, with the last of the free queues
 module _ {A W : Type 0} (live : List (Live A)) (free : List ℕ) (queue : ℕ)
     (waiters : List (List (Queued (Waiter W)))) (next : ℕ)
-    (table : IsTable live (free ++ queue ∷ []) waiters next) (state : A)
-    (left : next ≤ LAST_ID) where
+    (table : IsTable live (free ++ queue ∷ []) waiters next) (id : ℕ) (state : A)
+    (order : next ≤ id) (last : id ≤ LAST_ID) where
   abbrev was : Objects A W
   was = objects_in live waiters next
 
   abbrev made : Live A
-  made = record { id = next; state = state; queue = queue }
+  made = record { id = id; state = state; queue = queue }
 
   abbrev new : List (Queued (Waiter W)) → Object A W
-  new others = record { id = next; state = state; waiters = others }
+  new others = record { id = id; state = state; waiters = others }
 
-  abbrev with_one : List (Object A W) → Result ℕ Code × Objects A W
-  with_one objects = (Ok next, table_of objects (next + 1))
+  pub objects_in-put : objects_in (live ++ made ∷ []) waiters (id + 1) ≡ with_last was id state
+  objects_in-put =
+      ap (λ l. table_of l (id + 1))
+      (map_push (object_in waiters) live made
+      ∙ ap (λ q. was.live ++ new q ∷ []) (free_is_empty free queue table.queues))
 
-  room : has_room was ≡ true
-  room =
-      let few : length was.live < MOST_OBJECTS =
-      omega (
-        arith,
-        length-map live (object_in waiters),
-        length_push free queue,
-        all_queues live (free ++ queue ∷ []) waiters next table,
-      ) in
-      grind (arith, nat_tests, few, left)
-
-  more : map (object_in waiters) (live ++ made ∷ []) ≡ was.live ++ new [] ∷ []
-  more =
-      map_push (object_in waiters) live made
-      ∙ ap (λ q. was.live ++ new q ∷ []) (free_is_empty free queue table.queues)
-
-  pub creates-one : creates was state ≡ with_one (map (object_in waiters) (live ++ made ∷ []))
-  creates-one =
-      cond-true (has_room was) (with_one (was.live ++ new [] ∷ [])) (Err NO_MEMORY, was) room
-      ∙ ap with_one (sym more)
-
-  pub IsTable-created : IsTable (live ++ made ∷ []) free waiters (next + 1)
-  IsTable-created = record {
-    ids = all_pairs_push (λ a b. a.id < b.id) live made table.ids table.given;
+  pub IsTable-put : IsTable (live ++ made ∷ []) free waiters (id + 1)
+  IsTable-put = record {
+    ids =
+        all_pairs_push (λ a b. a.id < b.id) live made table.ids
+        (All-weaker (λ o. o.id < next) (λ o. o.id < id) (λ o less. omega (arith, less, order))
+        live table.given);
     given =
-        All-push (λ o. o.id < next + 1) live made
-        (All-weaker (λ o. o.id < next) (λ o. o.id < next + 1) (λ o less. omega (arith, less))
-        live table.given)
+        All-push (λ o. o.id < id + 1) live made
+        (All-weaker (λ o. o.id < next) (λ o. o.id < id + 1)
+        (λ o less. omega (arith, less, order)) live table.given)
         (omega arith);
-    next_first = omega (arith, table.next_first);
-    next_last = omega (arith, left);
+    next_first = omega (arith, table.next_first, order);
+    next_last = omega (arith, last);
     queues =
         subst (λ used. AreAssigned MOST_OBJECTS used free waiters)
         (sym (map_push (λ o. o.queue) live made)) (AreAssigned-taken free queue table.queues);

@@ -95,6 +95,20 @@ module _ {A W : Type 0} (live : List (Live A)) (free : List ℕ)
       either None = refl
       either (Some o) = refl
 
+  pub object_waiters : (id : ℕ) (r : Option ℕ)
+      → r ≡ option_map (λ o. o.queue) (find (has_id id) live)
+      → option_map (λ queue. queue_at queue waiters) r
+      ≡ option_map (λ o. o.waiters) (object_of own.live id)
+  object_waiters id r is =
+      ap (option_map (λ queue. queue_at queue waiters)) is ∙ either (find (has_id id) live)
+      ∙ sym (ap (option_map (λ (o : Object A W). o.waiters)) (object_of-live id))
+    where
+      either : (o : Option (Live A))
+          → option_map (λ queue. queue_at queue waiters) (option_map (λ p. p.queue) o)
+          ≡ option_map (λ (p : Object A W). p.waiters) (option_map (object_in waiters) o)
+      either None = refl
+      either (Some o) = refl
+
   -- what is known of an object
   pub state_of-live : (id : ℕ)
       → state_of own id ≡ option_map (λ o. o.state) (find (has_id id) live)

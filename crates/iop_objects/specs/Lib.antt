@@ -1,4 +1,5 @@
 pub mod WaiterQueues
 pub mod Objects
 pub mod Standing
+pub mod Restoring
 pub mod Laws

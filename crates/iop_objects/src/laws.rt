@@ -2,6 +2,7 @@
 //! nothing.
 
 ghost use Rattle.iop_objects.specs.Laws.{ObjectsKeepApart, WaitersLeaveRoom, WaitersKeepOrder};
+ghost use Rattle.iop_objects.specs.Restoring.{ObjectsAreRestored};
 
 /// Each call changes the object of one id alone; what a wait, a take, a drop or a requeue changes
 /// of it is its waiters. Ids rise, and that of an object that was deleted is never given again.
@@ -19,4 +20,10 @@ pub fn waiters_leave_room<A, W>()
 /// all others where they are chosen by priority, and else where it waited.
 pub fn waiters_keep_order<A, W>()
     ensures { WaitersKeepOrder A W }
+{}
+
+/// The objects of a table whose ids rise, with those that wait for them, can all be put back into a
+/// table of none, in their order, and so can its next id. That gives the table again.
+pub fn objects_are_restored<A, W>()
+    ensures { ObjectsAreRestored A W }
 {}

@@ -1,4 +1,4 @@
-use iop_base::Code;
+use iop_base::{Code, LAST_ID};
 use iop_objects::{MOST_OBJECTS, Objects, Waiter};
 use iop_queues::Condition;
 use std::alloc::{AllocError, Global};
@@ -113,6 +113,49 @@ fn ids_and_places(rt: HostRuntime) -> Result<(), Fail> {
     ];
     for (id, state) in rows {
         assert_eq!(rt; objects.state(id), state);
+    }
+    Ok(())
+}
+
+#[test]
+fn objects_are_put_back(rt: HostRuntime) -> Result<(), Fail> {
+    let mut objects: Objects<u32, ()> = Objects::new(rt.alloc())?;
+    let rows = [
+        (0, false),
+        (2, true),
+        (2, false),
+        (1, false),
+        (7, true),
+        (LAST_ID + 1, false),
+    ];
+    for (id, put) in rows {
+        assert_eq!(rt; objects.put_back(id, id), put);
+    }
+    for (place, object) in [(0, Some((2, 2))), (1, Some((7, 7))), (2, None)] {
+        assert_eq!(rt; objects.nth(place), object);
+    }
+    assert_eq!(rt; objects.len(), 2);
+    assert_eq!(rt; objects.next_id(), 8);
+    for (id, put) in [(7, false), (LAST_ID + 2, false), (LAST_ID + 1, true)] {
+        assert_eq!(rt; objects.put_next(id), put);
+    }
+    assert_eq!(rt; objects.next_id(), LAST_ID + 1);
+    Ok(())
+}
+
+#[test]
+fn waiters_are_put_back(rt: HostRuntime) -> Result<(), Fail> {
+    let mut objects = Objects::new(rt.alloc())?;
+    let _ = objects.create(5);
+    for (id, thread, put) in [(1, 4, true), (2, 5, false), (1, 6, true), (1, 3, true)] {
+        assert_eq!(rt; objects.put_waiter(id, waiter(thread), 20), put);
+    }
+    assert!(rt; objects.walk(2).is_none());
+    if let Some(mut walk) = objects.walk(1) {
+        for thread in [Some(4), Some(6), Some(3), None] {
+            let next = walk.next();
+            assert_eq!(rt; next.map(|queued| queued.item.thread), thread);
+        }
     }
     Ok(())
 }

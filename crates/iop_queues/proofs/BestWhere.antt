@@ -3,10 +3,10 @@ use Rattle.std.proofs.Common.{◌≡◌, ◌∙◌, ℕ, ◌<◌, Bool, true, fa
 use Rattle.std.proofs.lemmas.Bool.Decides.{nat_tests}
 use Rattle.iop_cblock.specs.Lists.{Lists, list_at, next_of}
 use Rattle.iop_queues.specs.Queue.{Choice, chooses_behind, chooses_best_where, chooses_between}
-use Rattle.iop_queues.specs.Walks.{item_at, items_of, CanBeWalked, priority_at, with_later, IsRanked, holds_at, Finds}
+use Rattle.iop_queues.specs.Walks.{IsInside, item_at, items_of, CanBeWalked, priority_at, with_later, IsRanked, holds_at, Finds}
 use Rattle.iop_queues.specs.declared.queued.Queued.{Queued}
 use Rattle.iop_queues.specs.declared.walks.Ranked.{Ranked}
-use Rattle.iop_queues.proofs.Walking.{passed, IsInside, IsStep}
+use Rattle.iop_queues.proofs.Walking.{passed, IsStep}
 use Rattle.iop_queues.proofs.Finding.{with_last, between_last, items_of-between, node_before, node_with_later, node_of, with_later-either}
 use Rattle.iop_queues.proofs.Steps.{item, go_on, node_below}
 

@@ -1,13 +1,13 @@
 -- What a cursor finds among the nodes of a list, step by step.
-use Rattle.std.proofs.Common.{◌≡◌, ◌∙◌, ℕ, ◌+◌, ◌<◌, ◌≤◌, Bool, true, false, cond, Option, Some, IfSome, List, ◌++◌, length, refl, sym, ap, arith}
+use Rattle.std.proofs.Common.{◌≡◌, ◌∙◌, ℕ, ◌+◌, ◌<◌, ◌≤◌, Bool, true, false, cond, Option, Some, IfSome, MatchOption, List, [], ◌∷◌, ◌++◌, length, refl, sym, ap, arith}
 use Rattle.std.specs.List.{count_by}
 use Rattle.std.proofs.lemmas.Bool.{cond_both}
-use Rattle.iop_cblock.specs.Lists.{Lists, holds, list_at, next_of}
+use Rattle.iop_cblock.specs.Lists.{Lists, holds, list_at, first_node, next_of}
 use Rattle.iop_queues.specs.Queue.{chooses_best, chooses_where}
-use Rattle.iop_queues.specs.Walks.{item_at, items_of, CanBeWalked, priority_at, with_later, IsRanked, holds_at, Finds}
+use Rattle.iop_queues.specs.Walks.{ahead, IsInside, item_at, items_of, items_ahead, IsWalk, CanBeWalked, priority_at, with_later, IsRanked, holds_at, Finds}
 use Rattle.iop_queues.specs.declared.queued.Queued.{Queued}
 use Rattle.iop_queues.specs.declared.walks.Ranked.{Ranked}
-use Rattle.iop_queues.proofs.Walking.{passed, ahead, passed-ahead, IsInside, IsStep, below-held, length-list, steps}
+use Rattle.iop_queues.proofs.Walking.{passed, passed-ahead, inside-head, ahead-head, IsStep, below-held, length-list, steps}
 use Rattle.iop_queues.proofs.Finding.{Finds-more, Finds-where, NoneMeets, NoneMeets-more, count-more, item_of, node_of, with_later-either}
 
 -- what is found when a cursor has come so far
@@ -28,6 +28,17 @@ module _ {T : Type 0} (items : List (Option (Queued T))) (s : Lists) (list : ℕ
     pub count_is : count
         ≡ count_by (λ x. p x.item) (items_of items (passed cursor (list_at list s)))
     pub few : count + length (ahead cursor (list_at list s)) ≤ length (list_at list s)
+
+-- a walk begins at the first node
+module _ {T : Type 0} (items : List (Option (Queued T))) (s : Lists) (list : ℕ)
+    {cursor : Option ℕ} (is : cursor ≡ first_node list s) where
+  pub IsWalk-first : CanBeWalked items s list → IsWalk items s list cursor
+  IsWalk-first can = record { list_can = can; inside = rw is (inside-head (list_at list s)) }
+
+  pub all_ahead : items_ahead items s list cursor ≡ items_of items (list_at list s)
+  all_ahead =
+      ap (items_of items)
+      (ap (λ c. ahead c (list_at list s)) is ∙ ahead-head (list_at list s))
 
 -- what a step from a node of the list adds
 module _ {T : Type 0} {items : List (Option (Queued T))} {s : Lists} {list : ℕ}
@@ -52,6 +63,19 @@ module _ {T : Type 0} {items : List (Option (Queued T))} {s : Lists} {list : ℕ
   pub nearer : {next : Option ℕ} → next ≡ next_of node s
       → length (ahead next (list_at list s)) < length (ahead cursor (list_at list s))
   nearer {next} next_is = omega (arith, ap length (go_on next next_is).ahead_is)
+
+  pub IsWalk-next : {next : Option ℕ} → next ≡ next_of node s → IsWalk items s list next
+  IsWalk-next {next} next_is = record { list_can = walk; inside = (go_on next next_is).inside }
+
+  -- the node's item is the next one
+  pub reads_next : {next : Option ℕ} {read : Option (Queued T)} {now : List (Queued T)}
+      → items_ahead items s list cursor ≡ now → next ≡ next_of node s
+      → read ≡ item_at items node
+      → MatchOption read ((now ≡ []) × (items_ahead items s list next ≡ []))
+      (λ x. now ≡ x ∷ items_ahead items s list next)
+  reads_next {next} view next_is read_is =
+      rw (read_is ∙ item.1)
+      (sym view ∙ ap (items_of items) (go_on next next_is).ahead_is ∙ rw item.1 refl)
 
   pub best_more : {next : Option ℕ} {best : Option Ranked} {priority : ℕ} {better : Ranked}
       → BestSoFar items s list cursor best → next ≡ next_of node s

@@ -1,5 +1,5 @@
 -- How a cursor walks the nodes of a list, from the first one on to the one behind each.
-use Rattle.std.proofs.Common.{◌≡◌, ◌≢◌, ◌∙◌, ℕ, zero, suc, ◌<◌, ◌≤◌, Bool, true, false, cond, eqb, nat_eq, Option, Some, None, IfSome, List, [], ◌∷◌, ◌++◌, append-nil, length, get_or, refl, sym, ap, subst, arith}
+use Rattle.std.proofs.Common.{◌≡◌, ◌≢◌, ◌∙◌, ℕ, zero, suc, ◌<◌, ◌≤◌, Bool, true, false, cond, eqb, nat_eq, Option, Some, None, List, [], ◌∷◌, ◌++◌, append-nil, length, get_or, refl, sym, ap, subst, arith}
 use Rattle.std.specs.List.{All, AllPairs}
 use Rattle.std.proofs.lemmas.Bool.{eq-eqb, ne_eqb, eqb-true, or_right, false_from_ne_true}
 use Rattle.std.proofs.lemmas.Bool.Decides.{Decides-eqb, nat_tests}
@@ -11,24 +11,17 @@ use Rattle.iop_cblock.specs.Lists.{Lists, AreDisjoint, holds, head, behind, list
 use Rattle.iop_cblock.specs.Links.{AreApart}
 use Rattle.iop_cblock.proofs.Rings.{holds-tail}
 use Rattle.iop_cblock.proofs.Changes.{not_lacked}
+use Rattle.iop_queues.specs.Walks.{from, ahead, IsInside}
 
--- the nodes in front of one, and those from it on
+-- the nodes in front of one
 abbrev pub before : ℕ → List ℕ → List ℕ
 before node [] = []
 before node (x ∷ xs) = cond (eqb node x) [] (x ∷ before node xs)
 
-abbrev pub from : ℕ → List ℕ → List ℕ
-from node [] = []
-from node (x ∷ xs) = cond (eqb node x) (x ∷ xs) (from node xs)
-
--- the nodes that a cursor has passed, and those that are ahead
+-- the nodes that a cursor has passed
 abbrev pub passed : Option ℕ → List ℕ → List ℕ
 passed None xs = xs
 passed (Some node) xs = before node xs
-
-abbrev pub ahead : Option ℕ → List ℕ → List ℕ
-ahead None xs = []
-ahead (Some node) xs = from node xs
 
 before-from : (node : ℕ) (xs : List ℕ) → before node xs ++ from node xs ≡ xs
 before-from node [] = refl
@@ -37,10 +30,6 @@ before-from node (x ∷ xs) = grind (arith, nat_tests, before-from node xs)
 pub passed-ahead : (cursor : Option ℕ) (xs : List ℕ) → passed cursor xs ++ ahead cursor xs ≡ xs
 passed-ahead None xs = append-nil xs
 passed-ahead (Some node) xs = before-from node xs
-
--- a cursor stands at a node of the list, or at its end
-abbrev pub IsInside : Option ℕ → List ℕ → Type 0
-IsInside cursor xs = IfSome cursor (λ node. holds node xs ≡ true)
 
 -- at first it stands at the first node
 pub inside-head : (xs : List ℕ) → IsInside (head xs) xs

@@ -1,9 +1,9 @@
 -- The items of nodes, and which of the nodes in a list is chosen. No contract of a public call
 -- cites this.
-use Rattle.std.specs.Prelude.{◌≡◌, ℕ, ◌<◌, ◌≤◌, Bool, true, false, is_some, Option, Some, None, option_map, unwrap_or}
-use Rattle.std.specs.Prelude.{List, ◌∷◌, ◌++◌, slice_index_or, length, filter_map, All}
+use Rattle.std.specs.Prelude.{◌≡◌, ℕ, ◌<◌, ◌≤◌, ◌==◌, Bool, true, false, if◌then◌else◌, is_some, Option, Some, None, IfSome, option_map, unwrap_or}
+use Rattle.std.specs.Prelude.{List, [], ◌∷◌, ◌++◌, slice_index_or, length, filter_map, All}
 use Rattle.iop_base.specs.Choosing.{better}
-use Rattle.iop_cblock.specs.Lists.{Lists, AreDisjoint, list_at}
+use Rattle.iop_cblock.specs.Lists.{Lists, AreDisjoint, holds, list_at}
 use Rattle.iop_queues.specs.Queue.{Choice}
 use Rattle.iop_queues.specs.declared.queued.Queued.{Queued}
 use Rattle.iop_queues.specs.declared.walks.Ranked.{Ranked}
@@ -12,6 +12,20 @@ use Rattle.iop_queues.specs.declared.walks.Ranked.{Ranked}
 abbrev pub with_later : Option Ranked → Ranked → Ranked
 with_later None later = later
 with_later (Some first) later = better (λ r. r.priority) first (Some later)
+
+-- the nodes of a list from one of them on
+abbrev pub from : ℕ → List ℕ → List ℕ
+from node [] = []
+from node (x ∷ xs) = if node == x then x ∷ xs else from node xs
+
+-- the nodes of a list that are ahead of a cursor
+abbrev pub ahead : Option ℕ → List ℕ → List ℕ
+ahead None xs = []
+ahead (Some node) xs = from node xs
+
+-- a cursor stands at a node of the list, or at its end
+abbrev pub IsInside : Option ℕ → List ℕ → Type 0
+IsInside cursor xs = IfSome cursor (λ node. holds node xs ≡ true)
 
 module _ {T : Type 0} where
   -- the item of a node
@@ -32,6 +46,17 @@ module _ {T : Type 0} where
     pub nodes_below : s.nodes ≤ length items
     pub disjoint : AreDisjoint s
     pub filled : AreFilled items (list_at list s)
+
+  -- the items of a list that are ahead of a cursor
+  abbrev pub items_ahead : List (Option (Queued T)) → Lists → (list : ℕ) → Option ℕ
+      → List (Queued T)
+  items_ahead items s list cursor = items_of items (ahead cursor (list_at list s))
+
+  -- a walk over the items of a list, which has come to a cursor
+  pub record IsWalk (items : List (Option (Queued T))) (s : Lists) (list : ℕ)
+      (cursor : Option ℕ) : Type 0 where
+    pub list_can : CanBeWalked items s list
+    pub inside : IsInside cursor (list_at list s)
 
   -- the number of a node's priority
   abbrev pub priority_at : List (Option (Queued T)) → ℕ → ℕ

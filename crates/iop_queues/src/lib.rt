@@ -7,9 +7,11 @@ pub mod laws;
 mod numbers;
 mod queued;
 mod queues;
+mod walk;
 mod walks;
 
 pub use condition::Condition;
 pub use numbers::Numbers;
 pub use queued::Queued;
 pub use queues::Queues;
+pub use walk::Walk;

@@ -6,6 +6,7 @@ ghost use Rattle.iop_queues.specs.Queues.{queue_at, with_queue, total, those_whe
 
 use crate::condition::Condition;
 use crate::queued::Queued;
+use crate::walk::Walk;
 use crate::walks::{count_where, next_node, next_node_where, node_where};
 use iop_cblock::Arena;
 use std::alloc::{AllocError, Global};
@@ -81,6 +82,14 @@ impl<T: Copy, const ROOM: u32> Queues<T, ROOM> {
         ensures few { result ≤ ROOM }
     {
         count_where(&self.nodes, &self.items, queue + 1, condition)
+    }
+
+    /// Walks over the items of a queue, in order.
+    pub fn walk(&self, queue: u32) -> Walk<'_, T>
+        requires { queue < length self.now }
+        ensures { result ≡ queue_at queue self.now }
+    {
+        Walk::new(&self.nodes, &self.items, queue + 1)
     }
 
     /// Puts an item behind all others of a queue. There is room for it.

@@ -44,6 +44,8 @@ enum Call {
     Last(u32, u8),
     /// Gives an item a priority, and tells how many there are.
     Priority(u32, u8),
+    /// Tells which stands behind so many others.
+    Behind(u32),
     /// Empties the queue, and tells how many items stand in all together.
     Clear,
 }
@@ -64,6 +66,7 @@ fn answer(queues: &mut Queues<u32, ROOM>, queue: u32, call: Call) -> Option<usiz
         Call::NextFirst => return Some(queues.peek(queue, false)?.item as usize),
         Call::First => return Some(queues.take(queue, false)?.item as usize),
         Call::Item(item) => return Some(queues.take_where(queue, &Is { item })?.item as usize),
+        Call::Behind(others) => return Some(behind(queues, queue, others)? as usize),
         Call::Remove(item) => queues.remove_where(queue, &Is { item }),
         Call::Last(item, priority) => queues.move_last(queue, &Is { item }, priority),
         Call::Priority(item, priority) => queues.set_priority(queue, &Is { item }, priority),
@@ -88,6 +91,17 @@ fn put(queues: &mut Queues<u32, ROOM>, queue: u32, queued: Queued<u32>) -> Optio
     Some(queues.count(queue))
 }
 
+/// Finds the item that stands behind so many others of a queue.
+fn behind(queues: &Queues<u32, ROOM>, queue: u32, others: u32) -> Option<u32>
+    requires { queue < length queues.now }
+{
+    let mut walk = queues.walk(queue);
+    for _ in 0..others {
+        walk.next()?;
+    }
+    Some(walk.next()?.item)
+}
+
 #[test]
 fn items_leave_in_order(rt: HostRuntime) -> Result<(), Fail> {
     let mut queues = Queues::new(rt.alloc(), QUEUES)?;
@@ -98,6 +112,10 @@ fn items_leave_in_order(rt: HostRuntime) -> Result<(), Fail> {
         (2, Call::Push(3, 5), Some(1)),
         (0, Call::Push(4, 20), Some(3)),
         (1, Call::Push(5, 1), None),
+        (0, Call::Behind(0), Some(1)),
+        (0, Call::Behind(2), Some(4)),
+        (0, Call::Behind(3), None),
+        (1, Call::Behind(0), None),
         (0, Call::Best, Some(2)),
         (0, Call::Priority(1, 20), Some(2)),
         (0, Call::Best, Some(1)),

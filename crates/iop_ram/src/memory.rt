@@ -71,6 +71,16 @@ impl Ram {
         Ok(Ram { bytes })
     }
 
+    /// Memory that holds a copy of these bytes: 2 MiB or 8 MiB of them.
+    pub fn of_bytes(alloc: Global, bytes: &[u8]) -> Result<Self, AllocError>
+        requires { IsRamSize (length bytes.now) }
+        ensures { IfOk result (λ ram. ram ≡ bytes.now) }
+    {
+        Ok(Ram {
+            bytes: bytes.to_vec(alloc)?,
+        })
+    }
+
     /// How many bytes it has: 2 MiB or 8 MiB.
     pub fn size(&self) -> u32
         ensures value { result ≡ length self.now }

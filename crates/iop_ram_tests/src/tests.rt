@@ -62,3 +62,16 @@ fn a_window_is_written(rt: HostRuntime) -> Result<(), Fail> {
     assert_eq!(rt; ram.window(0x100, 8), Some(b"\0\0iopm\0\0".as_slice()));
     Ok(())
 }
+
+#[test]
+fn bytes_are_copied(rt: HostRuntime) -> Result<(), Fail> {
+    let mut ram = Ram::new(rt.alloc(), 0x20_0000)?;
+    assert_eq!(rt; ram.store32(0x1F_FFFC, 0x5678_1234), Ok(()));
+    let bytes = ram.window(0, 0x20_0000).unwrap_or(&[]);
+    assert_eq!(rt; bytes.len(), 0x20_0000);
+    let copy = Ram::of_bytes(rt.alloc(), bytes)?;
+    assert_eq!(rt; copy.size(), 0x20_0000);
+    assert_eq!(rt; copy.load32(0), Ok(0));
+    assert_eq!(rt; copy.load32(0x1F_FFFC), Ok(0x5678_1234));
+    Ok(())
+}

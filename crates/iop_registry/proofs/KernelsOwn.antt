@@ -7,13 +7,14 @@ use Rattle.std.proofs.lemmas.List.Elements.{All-cons}
 use Rattle.std.proofs.lemmas.List.Kept.{AllPairs-cons}
 use Rattle.iop_registry.specs.Entries.{is_library, IsTable, IsRegistry}
 use Rattle.iop_registry.specs.KernelLibraries.{kernel_libraries}
+use Rattle.iop_registry.specs.Restoring.{has_place}
 use Rattle.iop_registry.specs.declared.registry.Entry.{Entry}
 
 both : (a b : Bool) → (a && b) ≡ true → (a ≡ true) × (b ≡ true)
 both true b is = (refl, is)
 both false b is = absurd (cc is)
 
-off : (b : Bool) → not b ≡ true → b ≡ false
+pub off : (b : Bool) → not b ≡ true → b ≡ false
 off false is = refl
 off true is = absurd (cc is)
 
@@ -41,19 +42,18 @@ distinct (entry ∷ entries) all =
     AllPairs-cons (λ first second. is_library second.name second.major first ≡ false) entry entries
     (differs_from_all entry entries is.0) (distinct entries is.1)
 
--- a table is a physical place, a multiple of 4
-abbrev has_place : Entry → Bool
-has_place entry = nat_lt entry.table (2 ^ 29) && entry.table % 4 == 0
+pub is_place : (entry : Entry) → has_place entry ≡ true → IsTable entry.table
+is_place entry is =
+    let place = both (nat_lt entry.table (2 ^ 29)) (entry.table % 4 == 0) is in
+    (grind (arith, nat_tests, place.0), grind (arith, nat_tests, place.1))
 
 has_places : (entries : List Entry) → list_all has_place entries ≡ true
     → All (λ entry. IsTable entry.table) entries
 has_places [] all = λ i d below. absurd (omega (arith, below))
 has_places (entry ∷ entries) all =
     let is = both (has_place entry) (list_all has_place entries) all in
-    let place = both (nat_lt entry.table (2 ^ 29)) (entry.table % 4 == 0) is.0 in
     All-cons (λ entry. IsTable entry.table) entry entries
-    (grind (arith, nat_tests, place.0), grind (arith, nat_tests, place.1))
-    (has_places entries is.1)
+    (is_place entry is.0) (has_places entries is.1)
 
 pub kernels_own : IsRegistry kernel_libraries
 kernels_own = record {

@@ -1,2 +1,4 @@
 pub mod Entries
 pub mod KernelLibraries
+pub mod Restoring
+pub mod Laws

@@ -1,6 +1,7 @@
-ghost use Rattle.std.specs.Prelude.{◌≡◌, ◌<◌, IfOk, IfSome, length, position};
+ghost use Rattle.std.specs.Prelude.{◌≡◌, ◌<◌, if◌then◌else◌, IfOk, IfSome, [], length, position};
 ghost use Rattle.iop_registry.specs.Entries.{is_library, has_table, lies_in, table_of, library_of, register, release, drop_range, IsTable, IsRegistry};
 ghost use Rattle.iop_registry.specs.KernelLibraries.{kernel_table, kernel_library, kernel_libraries};
+ghost use Rattle.iop_registry.specs.Restoring.{has_place, may_follow, with_last};
 
 use iop_base::{Code, KERNEL_LIBRARIES};
 use std::alloc::{AllocError, Global};
@@ -34,14 +35,14 @@ fn kernel_table(number: u32) -> u32
 }
 
 /// A registered library.
-#[derive(Clone, Copy, Drop)]
-struct Entry {
+#[derive(Clone, Copy, Debug, PartialEq, Eq, Drop)]
+pub struct Entry {
     /// Its name, filled up with zeros.
-    name: [u8; 8],
+    pub name: [u8; 8],
     /// Its major version.
-    major: u8,
+    pub major: u8,
     /// The physical place of its export table, a multiple of 4 below 2^29.
-    table: u32,
+    pub table: u32,
 }
 
 impl Entry {
@@ -69,6 +70,13 @@ impl Entry {
         ensures { result ≡ lies_in from len self.now }
     {
         from <= self.table && self.table - from < len
+    }
+
+    /// Tells whether its table is a multiple of 4 below 2^29.
+    fn has_place(&self) -> bool
+        ensures { result ≡ has_place self.now }
+    {
+        self.table < 0x2000_0000 && self.table % 4 == 0
     }
 }
 
@@ -127,6 +135,48 @@ impl Registry {
             Entry::of_kernel(10, KERNEL_LIBRARIES[10]),
         ])?;
         Ok(Registry { entries })
+    }
+
+    /// Makes a registry of no library. It takes all the memory that the registry will need;
+    /// `AllocError` where the host has less.
+    pub fn empty(alloc: Global) -> Result<Self, AllocError>
+        ensures { IfOk result (λ registry. registry ≡ []) }
+    {
+        Ok(Registry {
+            entries: Vec::with_capacity(alloc, MOST_LIBRARIES)?,
+        })
+    }
+
+    /// Lends the libraries in order of their registration.
+    pub fn entries(&self) -> &[Entry]
+        ensures entries { result.now ≡ self.now }
+        ensures sound { IsRegistry self.now }
+    {
+        &self.entries
+    }
+
+    /// Tells whether a library may stand behind all others.
+    fn may_follow(&self, entry: Entry) -> bool
+        ensures { result ≡ may_follow self.now entry }
+    {
+        entry.has_place()
+            && self.entries.len() < MOST_LIBRARIES
+            && self.find(entry.name, entry.major).is_none()
+    }
+
+    /// Puts a library back behind the others. False, and no change, exactly where `MOST_LIBRARIES`
+    /// stand, one of its name and major version does, or its table is not a multiple of 4 below
+    /// 2^29.
+    pub fn put_back(&mut self, entry: Entry) -> bool
+        ensures may { result ≡ may_follow self.old entry }
+        ensures put { self.new ≡ if result then with_last self.old entry else self.old }
+        ensures sound { IsRegistry self.new }
+    {
+        let may = self.may_follow(entry);
+        if may {
+            self.entries.push_reserved(entry);
+        }
+        may
     }
 
     /// Registers a library behind the others, by its name, its major version and the place of its

@@ -1,5 +1,5 @@
 use iop_base::Code;
-use iop_registry::Registry;
+use iop_registry::{Entry, Registry};
 use std::test::Fail;
 
 #[test]
@@ -52,5 +52,33 @@ fn room_for_263(rt: HostRuntime) -> Result<(), Fail> {
     }
     assert_eq!(rt; registry.register(vbcount, 252, 0x1_0000), Code(-400));
     assert_eq!(rt; registry.register(vbcount, 251, 0x1_0000), Code(-212));
+    assert_eq!(rt; registry.put_back(vbcount_at(252, 0x1_0000)), false);
+    Ok(())
+}
+
+/// The library `vbcount` of a major version, with its table.
+fn vbcount_at(major: u8, table: u32) -> Entry {
+    Entry {
+        name: *b"vbcount\0",
+        major,
+        table,
+    }
+}
+
+#[test]
+fn libraries_are_put_back(rt: HostRuntime) -> Result<(), Fail> {
+    let mut registry = Registry::empty(rt.alloc())?;
+    let rows = [
+        (1, 0x1_0000, true),
+        (1, 0x1_0004, false),
+        (2, 0x1_0002, false),
+        (2, 0x2000_0000, false),
+        (2, 0x1FFF_FFFC, true),
+    ];
+    for (major, table, accepted) in rows {
+        assert_eq!(rt; registry.put_back(vbcount_at(major, table)), accepted);
+    }
+    let entries = [vbcount_at(1, 0x1_0000), vbcount_at(2, 0x1FFF_FFFC)];
+    assert_eq!(rt; registry.entries(), entries.as_slice());
     Ok(())
 }

@@ -9,3 +9,4 @@ pub mod WordSets
 pub mod Covering
 pub mod Copying
 pub mod Joining
+pub mod PuttingBack

@@ -1,6 +1,7 @@
 pub mod Stubs
 pub mod Binding
 pub mod Layers
+pub mod Restoring
 pub mod Laws
 pub mod Lending
 pub mod Copying

@@ -3,6 +3,7 @@
 
 ghost use Rattle.iop_stubs.specs.Laws.{LayersAreSeen, LayersAreFound};
 ghost use Rattle.iop_stubs.specs.Laws.{StoresKeepLayers, BindingsKeepLayers, StoresJoin};
+ghost use Rattle.iop_stubs.specs.Restoring.{StubsComeBack};
 
 /// Every memory is what is seen of its layers: base, where each live stub reads `jr $ra` and the
 /// word of its index, under the jumps of the live stubs.
@@ -30,4 +31,10 @@ pub fn bindings_keep_layers()
 /// both: they leave the same memory, and their lines are those of the one.
 pub fn stores_join()
     ensures { StoresJoin }
+{}
+
+/// All live stubs of a memory are taken back, in the order of their places, by a memory of the same
+/// RAM in which none is live. It is the same memory then.
+pub fn stubs_come_back()
+    ensures { StubsComeBack }
 {}

@@ -6,6 +6,7 @@ mod guest_memory;
 pub mod laws;
 mod live_stub;
 mod live_stubs;
+mod restoring;
 mod stores;
 mod word_set;
 

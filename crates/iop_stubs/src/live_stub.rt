@@ -1,6 +1,7 @@
 ghost use Rattle.std.specs.Prelude.{◌≡◌, [], ◌∷◌};
 ghost use Rattle.iop_base.specs.Output.{Gives};
 ghost use Rattle.iop_stubs.specs.Stubs.{is_of, meets, stub_lines};
+ghost use Rattle.iop_stubs.specs.Restoring.{ends_by, is_placed};
 
 use iop_base::{Line, Lines};
 
@@ -43,6 +44,20 @@ impl Stub {
         let place = u64::from(place);
         let at = u64::from(self.at);
         at.max(place) < (at + u64::from(Self::SIZE)).min(place + u64::from(len))
+    }
+
+    /// Tells whether it ends at a place or before it.
+    pub(crate) fn ends_by(&self, place: u32) -> bool
+        ensures { result ≡ ends_by place self.now }
+    {
+        u64::from(self.at) + u64::from(Self::SIZE) <= u64::from(place)
+    }
+
+    /// Tells whether its place and its target may be those of a stub in `size` bytes of RAM.
+    pub(crate) fn is_placed(&self, size: u32) -> bool
+        ensures { result ≡ is_placed size self.now }
+    {
+        self.at % 4 == 0 && self.ends_by(size) && self.target % 4 == 0 && self.target < 0x1000_0000
     }
 
     /// Gives a line of moment `t` if a byte of it lies in the range of `len` bytes from `place` on.

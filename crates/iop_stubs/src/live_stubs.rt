@@ -1,8 +1,9 @@
 ghost use Rattle.std.specs.Prelude.{◌≡◌, ◌+◌, ◌*◌, ◌%◌, ◌≤◌, ◌<◌, false, All, [], find, IfOk, is_some, length, option_copied, vec_capacity, vec_len};
-ghost use Rattle.std.specs.List.{list_any, prefix_len};
+ghost use Rattle.std.specs.List.{list_all, list_any, prefix_len};
 ghost use Rattle.iop_base.specs.Output.{Gives};
 ghost use Rattle.iop_stubs.specs.Stubs.{is_of, stands_at, stands_before, stands_from, meets, remaining_stubs, stub_lines};
 ghost use Rattle.iop_stubs.specs.Binding.{with_stub, IsInOrder};
+ghost use Rattle.iop_stubs.specs.Restoring.{ends_by, has_room_behind};
 ghost use Rattle.iop_stubs.specs.Covering.{StandsIn, Uncovers, bytes_of_room};
 ghost use Rattle.iop_stubs.specs.declared.word_set.TheConstants.{WORDS, WORD_BYTES};
 ghost use Rattle.iop_stubs.specs.declared.live_stub.TheConstants.Stub.{SIZE, MOST_LIVE};
@@ -55,6 +56,20 @@ impl LiveStubs {
         ensures { result ≡ length self.now.stubs }
     {
         self.stubs.len()
+    }
+
+    /// Lends them.
+    pub(crate) fn stubs(&self) -> &[Stub]
+        ensures { result.now ≡ self.now.stubs }
+    {
+        &self.stubs
+    }
+
+    /// Tells whether one more can be live, and all end at a place or before it.
+    pub(crate) fn has_room_behind(&self, place: u32) -> bool
+        ensures { result ≡ has_room_behind place self.now.stubs }
+    {
+        self.stubs.len() < Stub::MOST_LIVE as usize && end_by(&self.stubs, place)
     }
 
     /// Finds the stub at a place.
@@ -118,6 +133,18 @@ fn count_before(stubs: &[Stub], place: u32) -> usize
     ensures { result ≡ prefix_len (stands_before place) stubs.now }
 {
     stubs.partition_point(|stub| stub.at < place)
+}
+
+/// Tells whether all stubs end at a place or before it. The last does, or there is one that does
+/// not.
+fn end_by(stubs: &[Stub], place: u32) -> bool
+    requires { IsInOrder stubs.now }
+    ensures { result ≡ list_all (ends_by place) stubs.now }
+{
+    match stubs.last() {
+        Some(stub) => stub.ends_by(place),
+        None => true,
+    }
 }
 
 /// Finds the first stub that stands at a place or behind it.

@@ -326,3 +326,47 @@ fn a_store_ends_two_stubs(rt: HostRuntime) -> Result<(), Fail> {
     );
     Ok(())
 }
+
+/// The stubs of one memory are put back into another of its bytes. What may not follow is refused.
+#[test]
+fn stubs_are_put_back(rt: HostRuntime) -> Result<(), Fail> {
+    let mut told = Told {
+        stubs: Vec::new(rt.alloc()),
+    };
+    let mut guest = with_words(&rt, rt.alloc(), &mut told)?;
+    bind_first(&rt, &mut guest, STUB);
+    bind_behind(&rt, &mut guest, STUB, NEXT);
+    assert_eq!(rt; guest.stubs(), [STUB, NEXT].as_slice());
+    let bytes = guest.ram().window(0, 0x20_0000).unwrap_or(&[]);
+    assert_eq!(rt; bytes.len(), 0x20_0000);
+    let mut copy = Guest::of_bytes(rt.alloc(), bytes)?;
+    let rows = [
+        (Stub { index: 15, ..STUB }, false),
+        (
+            Stub {
+                target: 0x4500,
+                ..STUB
+            },
+            false,
+        ),
+        (
+            Stub {
+                at: 0x1_0018,
+                ..STUB
+            },
+            false,
+        ),
+        (STUB, true),
+        (STUB, false),
+        (NEXT, true),
+    ];
+    for (stub, wanted) in rows {
+        assert_eq!(rt; copy.put_back(stub), wanted);
+    }
+    assert_eq!(rt; copy.stubs(), guest.stubs());
+    assert_eq!(rt; copy.at(NEXT.at), Some(NEXT));
+    assert_eq!(rt; copy.store(0x1_001B, Width::Byte, 7, 6, &mut told), Ok(()));
+    assert_eq!(rt; copy.stubs(), [NEXT].as_slice());
+    assert_eq!(rt; told.stubs.as_slice(), [(6, 0x1_0014)].as_slice());
+    Ok(())
+}

@@ -5,3 +5,4 @@ pub mod Finding
 pub mod MostFree
 pub mod Freed
 pub mod Keeping
+pub mod PuttingBack

@@ -1,5 +1,5 @@
 use iop_base::Code;
-use iop_sysmem::Blocks;
+use iop_sysmem::{Block, Blocks, KERNEL};
 use std::test::Fail;
 
 #[test]
@@ -23,5 +23,37 @@ fn blocks_are_given_and_freed(rt: HostRuntime) -> Result<(), Fail> {
     assert_eq!(rt; blocks.block_size(0x1_0050), 0x100);
     assert_eq!(rt; blocks.top(0x2_0000), 0xFFFF_FFFF);
     assert_eq!(rt; blocks.size(), 0x20_0000);
+    Ok(())
+}
+
+#[test]
+fn blocks_are_put_back(rt: HostRuntime) -> Result<(), Fail> {
+    let mut blocks = Blocks::new(rt.alloc(), 0x20_0000)?;
+    let rows = [
+        (0xFF00, 0x100, false),
+        (0x1_0080, 0x100, false),
+        (0x1_0000, 0x80, false),
+        (0x1_0000, 0, false),
+        (0x1_0000, 0x200, true),
+        (0x1_0100, 0x100, false),
+        (0x1F_FF00, 0x200, false),
+        (0xFFFF_FF00, 0x100, false),
+        (0x1F_FF00, 0x100, true),
+    ];
+    for (start, size, accepted) in rows {
+        assert_eq!(rt; blocks.put_back(Block { start, size }), accepted);
+    }
+    let used = [
+        KERNEL,
+        Block {
+            start: 0x1_0000,
+            size: 0x200,
+        },
+        Block {
+            start: 0x1F_FF00,
+            size: 0x100,
+        },
+    ];
+    assert_eq!(rt; blocks.used(), used.as_slice());
     Ok(())
 }

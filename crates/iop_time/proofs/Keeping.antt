@@ -27,13 +27,13 @@ fails_at p (x ∷ xs) none (suc k) d below =
     fails_at p xs (both_fail (p x) (list_any p xs) none).1 k d (omega arith)
 
 -- a number that was given stays so
-abbrev IsAlarm : ℕ → Alarm → Type 0
+abbrev pub IsAlarm : ℕ → Alarm → Type 0
 IsAlarm next alarm = IsTimer next alarm.number alarm.moment
 
-abbrev IsDelay : ℕ → Delay → Type 0
+abbrev pub IsDelay : ℕ → Delay → Type 0
 IsDelay next delay = IsTimer next delay.number delay.moment
 
-abbrev AreApart : List Delay → Alarm → Type 0
+abbrev pub AreApart : List Delay → Alarm → Type 0
 AreApart ds alarm = All (λ delay. alarm.number ≢ delay.number) ds
 
 older : (next number moment : ℕ) → IsTimer next number moment → IsTimer (next + 1) number moment

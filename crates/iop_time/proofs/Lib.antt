@@ -5,5 +5,6 @@ mod Least
 pub mod Leaving
 pub mod Nexts
 mod Numbers
+pub mod PuttingBack
 pub mod Results
 pub mod Rooms

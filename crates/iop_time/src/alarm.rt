@@ -1,4 +1,5 @@
 ghost use Rattle.std.specs.Prelude.{◌≡◌, map};
+ghost use Rattle.std.specs.List.{list_any};
 ghost use Rattle.iop_time.specs.Timers.{is_alarm_of, later};
 ghost use Rattle.iop_time.specs.Turns.{turn_of_alarm};
 
@@ -51,6 +52,13 @@ impl Alarm {
             number: self.number,
         }
     }
+}
+
+/// Tells whether an alarm of a handler and its argument stands.
+pub(crate) fn is_set(alarms: &[Alarm], handler: u32, arg: u32) -> bool
+    ensures { result ≡ list_any (is_alarm_of handler arg) alarms.now }
+{
+    alarms.iter().any(|alarm| alarm.is_of(handler, arg))
 }
 
 /// Puts the alarm of a number off by so many ticks, if it stands.

@@ -1,6 +1,7 @@
 //! Facts about the definitions that no call computes. Each is the contract of a function that does
 //! nothing.
 
+ghost use Rattle.iop_time.specs.Restoring.{TimersComeBack};
 ghost use Rattle.iop_time.specs.Laws.{TimesAgree, DueIsNext, TakenIsNext, NextMomentIsLeast, DelaysLeaveRoom, NumbersRise, ResultsGoToTheirAlarm, EachCallLeaves};
 
 /// Microseconds that become ticks and microseconds again are at most one fewer, and ticks that
@@ -32,8 +33,8 @@ pub fn delays_leave_room()
     ensures { DelaysLeaveRoom }
 {}
 
-/// Every call keeps what holds of a clock. Numbers rise, and one that is no longer in use is never
-/// given again.
+/// Every call keeps what holds of a clock. Where nothing is put back, numbers rise, and one that is
+/// no longer in use is never given again.
 pub fn numbers_rise()
     ensures { NumbersRise }
 {}
@@ -50,4 +51,10 @@ pub fn results_go_to_their_alarm()
 /// and delays are as they were.
 pub fn each_call_leaves()
     ensures { EachCallLeaves }
+{}
+
+/// All that stands in a clock is taken back by one without alarm and delay: its alarms and then its
+/// delays, each in the order of their numbers, and then its next number. It is the same clock then.
+pub fn timers_come_back()
+    ensures { TimersComeBack }
 {}

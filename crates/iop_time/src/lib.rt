@@ -6,6 +6,7 @@ mod clock;
 mod delay;
 mod due;
 pub mod laws;
+mod restoring;
 mod ticks;
 mod turn;
 

@@ -1,5 +1,5 @@
 use iop_base::Code;
-use iop_time::{Clock, Due, NEVER, micros_of, moment_after, ticks_of};
+use iop_time::{Alarm, Clock, Delay, Due, NEVER, micros_of, moment_after, ticks_of};
 use std::test::Fail;
 
 #[test]
@@ -95,5 +95,69 @@ fn room_for_255_alarms(rt: HostRuntime) -> Result<(), Fail> {
     }
     assert_eq!(rt; clock.set_alarm(20, 0x1_0000, 255, 0), Code(-400));
     assert_eq!(rt; clock.set_alarm(20, 0x1_0000, 254, 0), Code(-104));
+    Ok(())
+}
+
+/// What stood in a clock is put back. What may not follow is refused.
+#[test]
+fn what_stood_is_put_back(rt: HostRuntime) -> Result<(), Fail> {
+    let mut clock = Clock::new(rt.alloc())?;
+    let first = Alarm {
+        number: 2,
+        moment: 1000,
+        handler: 0x1_0000,
+        arg: 7,
+        gp: 0,
+    };
+    let second = Alarm {
+        number: 5,
+        arg: 8,
+        ..first
+    };
+    let rows = [
+        (Alarm { number: 0, ..first }, false),
+        (
+            Alarm {
+                moment: NEVER + 1,
+                ..first
+            },
+            false,
+        ),
+        (first, true),
+        (Alarm { number: 5, ..first }, false),
+        (
+            Alarm {
+                number: 2,
+                ..second
+            },
+            false,
+        ),
+        (second, true),
+    ];
+    for (alarm, wanted) in rows {
+        assert_eq!(rt; clock.put_alarm(alarm), wanted);
+    }
+    let delay = Delay {
+        number: 3,
+        moment: 500,
+        thread: 4,
+    };
+    let rows = [
+        (Delay { number: 5, ..delay }, false),
+        (delay, true),
+        (Delay { number: 4, ..delay }, false),
+        (Delay { thread: 6, ..delay }, false),
+    ];
+    for (delay, wanted) in rows {
+        assert_eq!(rt; clock.put_delay(delay), wanted);
+    }
+    assert_eq!(rt; clock.next_number(), 6);
+    assert_eq!(rt; clock.put_next(5), false);
+    assert_eq!(rt; clock.put_next(9), true);
+    assert_eq!(rt; clock.next_number(), 9);
+    assert_eq!(rt; clock.alarms(), [first, second].as_slice());
+    assert_eq!(rt; clock.delays(), [delay].as_slice());
+    assert_eq!(rt; clock.next_moment(), Some(500));
+    assert_eq!(rt; clock.due(1000), Some(3));
     Ok(())
 }

@@ -1,6 +1,6 @@
 use Rattle.std.proofs.Common.{length}
 use Rattle.iop_cblock.specs.Lists.{list_at}
-use Rattle.iop_queues.proofs.Walking.{ahead}
+use Rattle.iop_queues.specs.Walks.{ahead}
 use Rattle.iop_queues.proofs.BestWhere.{BestWhereSoFar}
 use Rattle.iop_queues.proofs.walks.best_node_where.Given as goal
 
