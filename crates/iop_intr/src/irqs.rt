@@ -1,4 +1,4 @@
-ghost use Rattle.std.specs.Prelude.{◌≡◌, ◌<◌, IfSome, Some, replicate, set};
+ghost use Rattle.std.specs.Prelude.{◌≡◌, ◌<◌, IfSome, Some, length, replicate, set};
 ghost use Rattle.iop_intr.specs.InterruptLines.{idle, line_of, IsDeliverable, handler_of, registering, releasing, enabling, disabling, raising, lowering, deliverable, delivering, finishing};
 ghost use Rattle.iop_intr.specs.Restoring.{irq_line};
 ghost use Rattle.iop_intr.specs.declared.irqs.TheConstants.{IRQ_LINES};
@@ -191,10 +191,12 @@ impl Irqs {
             self.enabled.insert(line);
         }
     }
+
     /// Tells how a line below `IRQ_LINES` stands.
     pub fn line(&self, number: u8) -> Line
         requires { number < IRQ_LINES }
-        ensures { irq_line result ≡ line_of self.now number }
+        ensures line { irq_line result ≡ line_of self.now number }
+        ensures all { length self.now ≡ IRQ_LINES }
     {
         let number = number as u32;
         Line {

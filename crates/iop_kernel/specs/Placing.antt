@@ -1,7 +1,7 @@
 -- Where threads and those that wait stand, at all times (ps2sdk: thread.h): a law of the services.
-use Rattle.std.specs.Prelude.{◌≡◌, ◌≢◌, ℕ, ◌<◌, ◌≤◌, ◌==◌, ◌&&◌, Bool, true, false, Option, Some, length, map, All, AllPairs}
+use Rattle.std.specs.Prelude.{◌≡◌, ℕ, ◌≤◌, ◌==◌, ◌&&◌, Bool, true, false, Option, Some, length, map, All}
 use Rattle.iop_base.specs.Numbers.{one_if}
-use Rattle.iop_objects.specs.Objects.{waiters_of}
+use Rattle.iop_objects.specs.Objects.{AreObjects, waiters_of}
 use Rattle.iop_queues.specs.declared.queued.Queued.{Queued}
 use Rattle.iop_objects.specs.declared.waiter.Waiter.{Waiter}
 use Rattle.iop_thread.specs.Placing as threads
@@ -38,9 +38,8 @@ pub record AreWaited (kind : Kind) (s : Table kind) (threads : ThreadTable) : Ty
       → times thread (threads_of (waiters_of s id))
       ≡ one_if (is_for kind id (wait_of threads thread))
   pub priorities : (id : ℕ) → All (HasItsPriority threads) (waiters_of s id)
-  -- no two live objects have one id, and none has one that is still to be given
-  pub ids : AllPairs (λ a b. a.id ≢ b.id) s.live
-  pub given : All (λ o. o.id < s.next) s.live
+  -- what holds of all objects of a kind holds
+  pub sound : AreObjects s
 
 -- the threads that wait for a time are those whose delays stand, each once
 pub record AreDelayed (timers : Timers) (threads : ThreadTable) : Type 0 where

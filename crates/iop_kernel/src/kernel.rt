@@ -21,23 +21,34 @@ use iop_thread::Threads;
 use iop_time::Clock;
 use std::alloc::{AllocError, Global};
 
-/// The kernel: the moment, whether interrupts are on, whether dispatch is enabled, the handler that
-/// runs, the threads, the objects that threads wait for, the alarms and delays, and the interrupt
-/// lines.
+/// The kernel. What holds of it at all times is said by the clauses of its calls, and not by its
+/// type: whoever puts a kernel together says of its parts what they ask for.
 #[derive(Drop)]
 pub struct Kernel<R> {
-    pub(crate) clock: u64,
-    pub(crate) interrupts: bool,
-    pub(crate) dispatching: bool,
-    pub(crate) handler: Option<ActiveHandler>,
-    pub(crate) threads: Threads<R>,
-    pub(crate) semaphores: Semaphores,
-    pub(crate) event_flags: EventFlags,
-    pub(crate) mailboxes: Mailboxes,
-    pub(crate) variable_pools: VariablePools,
-    pub(crate) fixed_pools: FixedPools,
-    pub(crate) timers: Clock,
-    pub(crate) irqs: Irqs,
+    /// The moment, in ticks.
+    pub clock: u64,
+    /// Whether interrupts are on.
+    pub interrupts: bool,
+    /// Whether dispatch is enabled.
+    pub dispatching: bool,
+    /// The handler that runs, if one does.
+    pub handler: Option<ActiveHandler>,
+    /// The threads.
+    pub threads: Threads<R>,
+    /// The semaphores.
+    pub semaphores: Semaphores,
+    /// The event flags.
+    pub event_flags: EventFlags,
+    /// The mailboxes.
+    pub mailboxes: Mailboxes,
+    /// The variable pools.
+    pub variable_pools: VariablePools,
+    /// The fixed pools.
+    pub fixed_pools: FixedPools,
+    /// The alarms and delays.
+    pub timers: Clock,
+    /// The interrupt lines.
+    pub irqs: Irqs,
 }
 
 impl<R: Ready> Kernel<R> {

@@ -1,5 +1,5 @@
 -- What a change of the object of one id leaves of all objects.
-use Rattle.std.proofs.Common.{◌≡◌, ◌≢◌, ℕ, ◌+◌, ◌<◌, ◌≤◌, ◌⊎◌, inl, inr, Bool, true, false, cond, not, is_some, Some, None, List, [], ◌∷◌, ◌++◌, length, map, filter, All, AllPairs, refl, ap, sym, ◌∙◌, arith, get_or}
+use Rattle.std.proofs.Common.{◌≡◌, ◌≢◌, ℕ, ◌+◌, ◌<◌, ◌≤◌, ◌⊎◌, inl, inr, Bool, true, false, cond, not, is_some, Some, None, List, [], ◌∷◌, ◌++◌, length, map, filter, All, AllPairs, refl, ap, sym, subst, ◌∙◌, arith, get_or}
 use Rattle.std.specs.Prelude.{◌==◌, if◌then◌else◌}
 use Rattle.std.proofs.lemmas.Bool.Decides.{nat_tests}
 use Rattle.std.proofs.lemmas.List.{length-map, get_or-map}
@@ -11,11 +11,11 @@ use Rattle.std.proofs.lemmas.Grind.{length_at_push}
 use Rattle.iop_base.specs.declared.limits.TheConstants.{LAST_ID}
 use Rattle.iop_objects.specs.Objects.{Object, Objects, AreObjects, object_of, changes, deletes}
 use Rattle.iop_objects.specs.Laws.{IsChangeOf, GivesNoId}
-use Rattle.iop_objects.specs.declared.objects.TheConstants.{MOST_OBJECTS}
+use Rattle.iop_objects.specs.declared.objects.TheConstants.{FIRST_ID, MOST_OBJECTS}
 
 module _ {A W : Type 0} where
-  abbrev pub TwoIds : Object A W → Object A W → Type 0
-  TwoIds a b = a.id ≢ b.id
+  abbrev pub Rise : Object A W → Object A W → Type 0
+  Rise a b = a.id < b.id
 
   -- the object of an id changes
   module _ (id : ℕ) (change : Object A W → Object A W)
@@ -62,22 +62,30 @@ module _ {A W : Type 0} where
         either false later = later
 
     module _ (s : Objects A W) (h : AreObjects s) where
-      two_ids_changed : AllPairs TwoIds (map one s.live)
-      two_ids_changed i j d less below e =
+      ids_rise : AllPairs Rise (map one s.live)
+      ids_rise i j d less below =
           let inside : j < length s.live = omega (arith, length-map s.live one, below) in
           let before : i < length s.live = omega (arith, less, inside) in
           let first = ap (λ o. o.id) (get_or-map one s.live i d d before) in
           let second = ap (λ o. o.id) (get_or-map one s.live j d d inside) in
-          h.ids i j d less inside
-          (sym (first ∙ id-one (get_or s.live i d)) ∙ e ∙ second ∙ id-one (get_or s.live j d))
+          omega (
+            arith,
+            h.ids i j d less inside,
+            first ∙ id-one (get_or s.live i d),
+            second ∙ id-one (get_or s.live j d),
+          )
+
+      ids_stay : (P : ℕ → Type 0) → All (λ o. P o.id) s.live → All (λ o. P o.id) (map one s.live)
+      ids_stay P all =
+          All-map (λ o. P o.id) one s.live
+          (All-weaker (λ o. P o.id) (λ o. P (one o).id) (λ o p. subst P (sym (id-one o)) p) s.live
+          all)
 
       AreObjects-changed : AreObjects (changes s id change)
       AreObjects-changed = record {
-        ids = two_ids_changed;
-        given =
-            All-map (λ o. o.id < s.next) one s.live
-            (All-weaker (λ o. o.id < s.next) (λ o. (one o).id < s.next)
-            (λ o less. omega (arith, less, id-one o)) s.live h.given);
+        ids = ids_rise;
+        first = ids_stay (λ id. FIRST_ID ≤ id) h.first;
+        given = ids_stay (λ id. id < s.next) h.given;
         few = omega (arith, length-map s.live one, h.few);
         next_first = h.next_first;
         next_last = h.next_last;
@@ -145,7 +153,8 @@ module _ {A W : Type 0} where
       change = record {
         change = record {
           sound = record {
-            ids = AllPairs-filter TwoIds stays s.live h.ids;
+            ids = AllPairs-filter Rise stays s.live h.ids;
+            first = All-filter stays (λ o. FIRST_ID ≤ o.id) s.live h.first;
             given = All-filter stays (λ o. o.id < s.next) s.live h.given;
             few = omega (arith, length-filter stays s.live, count_by-le-length stays s.live, h.few);
             next_first = h.next_first;
@@ -195,8 +204,10 @@ module _ {A W : Type 0} where
     makes_one s h own room left = record {
       change = record {
         sound = record {
-          ids = all_pairs_push TwoIds s.live made h.ids
-              (λ k d below e. let less = h.given k d below in omega (arith, less, e, own));
+          ids = all_pairs_push Rise s.live made h.ids
+              (λ k d below. let less = h.given k d below in omega (arith, less, own));
+          first = All-push (λ o. FIRST_ID ≤ o.id) s.live made h.first
+              (omega (arith, own, h.next_first));
           given =
               All-push (λ o. o.id < s.next + 1) s.live made
               (All-weaker (λ o. o.id < s.next) (λ o. o.id < s.next + 1)

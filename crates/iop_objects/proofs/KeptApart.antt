@@ -110,6 +110,7 @@ module _ {A W : Type 0} where
   opening : AreObjects (no_objects {A = A} {W = W})
   opening = record {
     ids = λ i j d less below. absurd (omega arith);
+    first = λ k d below. absurd (omega arith);
     given = λ k d below. absurd (omega arith);
     few = omega arith;
     next_first = omega arith;

@@ -1,5 +1,5 @@
 -- What an object more or less leaves of a table, or one of which something else is known.
-use Rattle.std.proofs.Common.{◌≡◌, ◌≢◌, ℕ, ◌+◌, ◌<◌, ◌≤◌, false, if◌then◌else◌, not, Some, option_map, List, [], ◌∷◌, ◌++◌, length, map, find, take, drop, refl, ap, sym, ◌∙◌, subst, suc, arith, get_or, set}
+use Rattle.std.proofs.Common.{◌≡◌, ◌≢◌, ℕ, ◌+◌, ◌<◌, ◌≤◌, false, if◌then◌else◌, not, Some, option_map, List, [], ◌∷◌, ◌++◌, length, map, find, take, drop, refl, ap, sym, ◌∙◌, subst, suc, arith, get_or, set, All}
 use Rattle.std.specs.Prelude.{◌==◌}
 use Rattle.std.specs.List.{remove}
 use Rattle.std.proofs.lemmas.Bool.{eq-eqb, ne_eqb}
@@ -16,7 +16,7 @@ use Rattle.iop_objects.specs.Objects.{Object, Objects, waiters_of, deletes, chan
 use Rattle.iop_objects.specs.Restoring.{with_last}
 use Rattle.iop_objects.specs.Standing.{object_in, objects_in, IsTable}
 use Rattle.iop_objects.specs.declared.objects.Live.{Live}
-use Rattle.iop_objects.specs.declared.objects.TheConstants.{MOST_OBJECTS}
+use Rattle.iop_objects.specs.declared.objects.TheConstants.{FIRST_ID, MOST_OBJECTS}
 use Rattle.iop_objects.specs.declared.waiter.Waiter.{Waiter}
 use Rattle.iop_objects.proofs.MappedLists.{filter-map, map-remove, map-at_one, filter-one_passes}
 use Rattle.iop_objects.proofs.Places.{IsObject, ids_apart, has_id}
@@ -89,6 +89,9 @@ module _ {A W : Type 0} (live : List (Live A)) (free : List ℕ)
               same_ids j d inside,
               table.ids i j d less inside,
             );
+        first =
+            All-set (λ x. FIRST_ID ≤ x.id) live place other
+            (subst (λ x. FIRST_ID ≤ x.id) h.object (table.first place o h.inside)) table.first;
         given =
             All-set (λ x. x.id < next) live place other
             (subst (λ x. x.id < next) h.object (table.given place o h.inside)) table.given;
@@ -114,13 +117,16 @@ module _ {A W : Type 0} (live : List (Live A)) (free : List ℕ)
           ∙ ap (map (object_in waiters)) (filter-one_passes (has_id id) live place o h.inside
           (ap (has_id id) h.object ∙ eq-eqb o.id id h.same_id) other_ids)))
 
+      others_all : (P : Live A → Type 0) → All P live → All P (remove live place)
+      others_all P all =
+          All-append P (take place live) (drop (suc place) live) (All-take P place live all)
+          (All-drop P (suc place) live all)
+
       pub IsTable-deleted : IsTable (remove live place) (free ++ o.queue ∷ []) waiters next
       IsTable-deleted = record {
         ids = all_pairs_remove (λ a b. a.id < b.id) live place h.inside table.ids;
-        given =
-            All-append (λ x. x.id < next) (take place live) (drop (suc place) live)
-            (All-take (λ x. x.id < next) place live table.given)
-            (All-drop (λ x. x.id < next) (suc place) live table.given);
+        first = others_all (λ x. FIRST_ID ≤ x.id) table.first;
+        given = others_all (λ x. x.id < next) table.given;
         next_first = table.next_first;
         next_last = table.next_last;
         queues =
@@ -165,6 +171,9 @@ module _ {A W : Type 0} (live : List (Live A)) (free : List ℕ) (queue : ℕ)
         all_pairs_push (λ a b. a.id < b.id) live made table.ids
         (All-weaker (λ o. o.id < next) (λ o. o.id < id) (λ o less. omega (arith, less, order))
         live table.given);
+    first =
+        All-push (λ o. FIRST_ID ≤ o.id) live made table.first
+        (omega (arith, table.next_first, order));
     given =
         All-push (λ o. o.id < id + 1) live made
         (All-weaker (λ o. o.id < next) (λ o. o.id < id + 1)

@@ -72,6 +72,7 @@ module _ {A W : Type 0} (live : List (Live A)) (free : List ℕ)
       IsTable-at_place : IsTable live free left next
       IsTable-at_place = record {
         ids = table.ids;
+        first = table.first;
         given = table.given;
         next_first = table.next_first;
         next_last = table.next_last;

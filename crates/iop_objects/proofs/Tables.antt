@@ -1,5 +1,5 @@
 -- What a table stands for.
-use Rattle.std.proofs.Common.{◌≡◌, ◌≢◌, ℕ, ◌+◌, ◌<◌, false, if◌then◌else◌, not, Option, Some, None, option_map, List, [], length, map, find, replicate, sum, All, AllPairs, refl, ap, sym, ◌∙◌, arith, get_or}
+use Rattle.std.proofs.Common.{◌≡◌, ◌≢◌, ℕ, ◌+◌, ◌<◌, ◌≤◌, false, if◌then◌else◌, not, Option, Some, None, option_map, List, [], length, map, find, replicate, sum, All, AllPairs, refl, ap, sym, ◌∙◌, arith, get_or}
 use Rattle.std.specs.Prelude.{◌==◌}
 use Rattle.std.specs.List.{range_with_len}
 use Rattle.std.proofs.lemmas.List.{length-map, get_or-map}
@@ -37,6 +37,7 @@ module _ {A W : Type 0} where
       (replicate MOST_OBJECTS []) FIRST_ID
   IsTable-first = record {
     ids = λ i j d less below. absurd (omega (arith, below));
+    first = λ k d below. absurd (omega (arith, below));
     given = λ k d below. absurd (omega (arith, below));
     next_first = omega arith;
     next_last = omega arith;
@@ -59,19 +60,20 @@ module _ {A W : Type 0} (live : List (Live A)) (free : List ℕ)
       total-assigned (λ o. o.queue) live table.queues
       ∙ ap sum (sym (map-map (λ (o : Object A W). length o.waiters) (object_in waiters) live))
 
-  two_ids_in : AllPairs (λ a b. a.id ≢ b.id) own.live
-  two_ids_in i j d less below e =
+  ids_rise_in : AllPairs (λ a b. a.id < b.id) own.live
+  ids_rise_in i j d less below =
       let inside : j < length live = omega (arith, length-map live (object_in waiters), below) in
       let before : i < length live = omega (arith, less, inside) in
       let none : Live A = record { id = d.id; state = d.state; queue = 0 } in
       let first = ap (λ o. o.id) (get_or-map (object_in waiters) live i none d before) in
       let second = ap (λ o. o.id) (get_or-map (object_in waiters) live j none d inside) in
-      omega (arith, table.ids i j none less inside, first, second, e)
+      omega (arith, table.ids i j none less inside, first, second)
 
   -- what holds of the table holds of the objects that it stands for
   pub AreObjects-in : AreObjects own
   AreObjects-in = record {
-    ids = two_ids_in;
+    ids = ids_rise_in;
+    first = All-map (λ (o : Object A W). FIRST_ID ≤ o.id) (object_in waiters) live table.first;
     given = All-map (λ (o : Object A W). o.id < next) (object_in waiters) live table.given;
     few = omega (arith, length-map live (object_in waiters), all_queues);
     next_first = table.next_first;

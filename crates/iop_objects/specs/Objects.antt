@@ -1,7 +1,7 @@
 -- The objects of one kind that are live, and the threads that wait for them (ps2sdk: thsemap,
 -- thevent, thmsgbx; the codes are those of its kerr.h). That ids are never used again, and how many
 -- objects can stand, is this project's own profile.
-use Rattle.std.specs.Prelude.{◌≢◌, ℕ, ◌+◌, ◌<◌, ◌≤◌, ◌==◌, nat_lt, nat_le, Bool, ◌&&◌, not, if◌then◌else◌, Option, Some, None, option_map, Result, Ok, Err, List, [], ◌∷◌, ◌++◌, length, find, filter, map, sum, All, AllPairs}
+use Rattle.std.specs.Prelude.{ℕ, ◌+◌, ◌<◌, ◌≤◌, ◌==◌, nat_lt, nat_le, Bool, ◌&&◌, not, if◌then◌else◌, Option, Some, None, option_map, Result, Ok, Err, List, [], ◌∷◌, ◌++◌, length, find, filter, map, sum, All, AllPairs}
 use Rattle.iop_base.specs.declared.code.Code.{Code}
 use Rattle.iop_base.specs.declared.code.TheConstants.Code.{NO_MEMORY}
 use Rattle.iop_base.specs.declared.limits.TheConstants.{LAST_ID}
@@ -32,8 +32,9 @@ module _ {A W : Type 0} where
 
   -- what holds of all objects of a kind
   pub record AreObjects (s : Objects A W) : Type 0 where
-    -- no two live ones have one id, and none has one that is still to be given
-    pub ids : AllPairs (λ a b. a.id ≢ b.id) s.live
+    -- ids rise, from the first one on, and none is one that is still to be given
+    pub ids : AllPairs (λ a b. a.id < b.id) s.live
+    pub first : All (λ o. FIRST_ID ≤ o.id) s.live
     pub given : All (λ o. o.id < s.next) s.live
     pub few : length s.live ≤ MOST_OBJECTS
     pub next_first : FIRST_ID ≤ s.next

@@ -1,11 +1,11 @@
 -- How objects are put back, one behind the other, into a table of none: those that were live, in
 -- the order of their ids, and the threads that waited for each, in the order of their arrival. It
 -- is this project's own profile.
-use Rattle.std.specs.Prelude.{◌≡◌, ℕ, ◌+◌, ◌<◌, ◌≤◌, nat_lt, nat_le, Bool, ◌&&◌, is_some, if◌then◌else◌, Option, Some, None, option_and_then, List, [], ◌∷◌, ◌++◌, length, All, AllPairs}
+use Rattle.std.specs.Prelude.{◌≡◌, ℕ, ◌+◌, ◌≤◌, nat_lt, nat_le, Bool, ◌&&◌, is_some, if◌then◌else◌, Option, Some, None, option_and_then, List, [], ◌∷◌, ◌++◌, length}
 use Rattle.iop_base.specs.declared.limits.TheConstants.{LAST_ID}
 use Rattle.iop_queues.specs.declared.queued.Queued.{Queued}
 use Rattle.iop_objects.specs.Objects.{Object, Objects, AreObjects, no_objects, object_of, waiting, waits}
-use Rattle.iop_objects.specs.declared.objects.TheConstants.{FIRST_ID, MOST_OBJECTS, MOST_WAITERS}
+use Rattle.iop_objects.specs.declared.objects.TheConstants.{MOST_OBJECTS, MOST_WAITERS}
 use Rattle.iop_objects.specs.declared.waiter.Waiter.{Waiter}
 
 module _ {A W : Type 0} where
@@ -64,13 +64,8 @@ module _ {A W : Type 0} where
   restored s =
       option_and_then (λ t. with_next_back t s.next) (with_objects_back no_objects s.live)
 
-  -- a sound table in which ids rise, from the first one on, and no more threads wait than can
-  pub record IsInIdOrder (s : Objects A W) : Type 0 where
-    pub sound : AreObjects s
-    pub first : All (λ o. FIRST_ID ≤ o.id) s.live
-    pub rising : AllPairs (λ a b. a.id < b.id) s.live
-    pub few : waiting s ≤ MOST_WAITERS
-
--- all that stands in such a table can be put back, and gives the table again
+-- all that stands in a sound table, in which no more threads wait than can, can be put back, and
+-- gives the table again
 abbrev pub ObjectsAreRestored : (A W : Type 0) → Type 0
-ObjectsAreRestored A W = (s : Objects A W) → IsInIdOrder s → restored s ≡ Some s
+ObjectsAreRestored A W =
+    (s : Objects A W) → AreObjects s → waiting s ≤ MOST_WAITERS → restored s ≡ Some s

@@ -28,8 +28,9 @@ module _ {A W : Type 0} where
   -- what holds of every table
   pub record IsTable (live : List (Live A)) (free : List ℕ)
       (waiters : List (List (Queued (Waiter W)))) (next : ℕ) : Type 0 where
-    -- no two live objects have one id, and none has one that is still to be given
+    -- ids rise, from the first one on, and none is one that is still to be given
     pub ids : IsInOrder live
+    pub first : All (λ o. FIRST_ID ≤ o.id) live
     pub given : All (λ o. o.id < next) live
     pub next_first : FIRST_ID ≤ next
     pub next_last : next ≤ LAST_ID + 1

@@ -22,8 +22,9 @@ pub fn waiters_keep_order<A, W>()
     ensures { WaitersKeepOrder A W }
 {}
 
-/// The objects of a table whose ids rise, with those that wait for them, can all be put back into a
-/// table of none, in their order, and so can its next id. That gives the table again.
+/// The objects of a table in which no more threads wait than can, with those that wait for them, can
+/// all be put back into a table of none, in their order, and so can its next id. That gives the table
+/// again.
 pub fn objects_are_restored<A, W>()
     ensures { ObjectsAreRestored A W }
 {}

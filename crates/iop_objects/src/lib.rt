@@ -3,6 +3,7 @@
 
 pub mod laws;
 mod objects;
+mod restoring;
 mod waiter;
 
 pub use objects::{FIRST_ID, MOST_OBJECTS, MOST_WAITERS, Objects};

@@ -1,13 +1,13 @@
-ghost use Rattle.std.specs.Prelude.{◌≡◌, ◌==◌, ◌<◌, ◌≤◌, [], IfOk, IfSome, if◌then◌else◌, is_some, option_map, find, length, position, slice_get, true};
+ghost use Rattle.std.specs.Prelude.{◌≡◌, ◌==◌, ◌<◌, ◌≤◌, [], IfOk, IfSome, if◌then◌else◌, is_some, option_map, find, length, position, true};
 ghost use Rattle.iop_objects.specs.Objects.{AreObjects, no_objects, object_of, state_of, waiters_of, waiting, has_room, creates, deletes, with_state, waits, takes_next, takes_next_where, takes_where, drops, requeues};
-ghost use Rattle.iop_objects.specs.Restoring.{has_place, is_ahead, may_follow, with_last, may_wait, may_be_next, with_next};
+ghost use Rattle.iop_objects.specs.Restoring.{has_place, with_last};
 ghost use Rattle.iop_objects.specs.Standing.{IsInOrder};
 ghost use Rattle.iop_base.specs.declared.limits.TheConstants.{LAST_ID};
 ghost use Rattle.iop_objects.specs.declared.objects.TheConstants.{MOST_OBJECTS, MOST_WAITERS};
 
 use crate::waiter::Waiter;
 use iop_base::{Code, LAST_ID};
-use iop_queues::{Condition, Numbers, Queued, Queues, Walk};
+use iop_queues::{Condition, Numbers, Queued, Queues};
 use std::alloc::{AllocError, Global};
 use std::marker::Model;
 
@@ -22,13 +22,13 @@ pub const MOST_WAITERS: u32 = 255;
 
 /// A live object.
 #[derive(Clone, Copy, Drop)]
-struct Live<A> {
+pub(crate) struct Live<A> {
     /// Its id.
-    id: u32,
+    pub id: u32,
     /// What is known of it.
-    state: A,
+    pub state: A,
     /// The queue of those that wait for it.
-    queue: u32,
+    pub queue: u32,
 }
 
 /// The live objects of one kind, and the threads that wait for each. An object has an id, from
@@ -36,11 +36,11 @@ struct Live<A> {
 #[derive(Drop)]
 pub struct Objects<A, W> {
     /// In the order of their ids.
-    live: Vec<Live<A>>,
+    pub(crate) live: Vec<Live<A>>,
     /// The queues of no live object.
     free: Numbers<MOST_OBJECTS>,
-    waiters: Queues<Waiter<W>, MOST_WAITERS>,
-    next: u32,
+    pub(crate) waiters: Queues<Waiter<W>, MOST_WAITERS>,
+    pub(crate) next: u32,
 }
 
 impl<A, W> Model for Objects<A, W> {
@@ -103,7 +103,7 @@ impl<A: Copy, W: Copy> Objects<A, W> {
 
     /// Puts an object behind all others, if there is a place. Its id is still to be given, and the
     /// next one is the one behind it then.
-    fn put(&mut self, id: u32, state: A) -> bool
+    pub(crate) fn put(&mut self, id: u32, state: A) -> bool
         requires order { self.old.next ≤ id }
         requires last { id ≤ LAST_ID }
         ensures may { result ≡ has_place self.old }
@@ -115,93 +115,6 @@ impl<A: Copy, W: Copy> Objects<A, W> {
         self.live.push_reserved(Live { id, state, queue });
         self.next = id + 1;
         true
-    }
-
-    /// Puts an object back behind all others, for which no thread waits. The next id is the one
-    /// behind its own then. False exactly where its id is below the next one or above `LAST_ID`, or
-    /// `MOST_OBJECTS` are live; nothing changes then.
-    pub fn put_back(&mut self, id: u32, state: A) -> bool
-        ensures may { result ≡ may_follow self.old id }
-        ensures put { self.new ≡ if result then with_last self.old id state else self.old }
-    {
-        if !self.is_ahead(id, LAST_ID) {
-            return false;
-        }
-        self.put(id, state)
-    }
-
-    /// Lets a thread wait for an object again, behind all others. False exactly where no object of
-    /// this id is live, or `MOST_WAITERS` wait; nothing changes then.
-    pub fn put_waiter(&mut self, id: u32, waiter: Waiter<W>, priority: u8) -> bool
-        ensures may { result ≡ may_wait self.old id }
-        ensures put { self.new ≡ if result
-            then waits self.old id (record { priority = priority; item = waiter }) else self.old }
-    {
-        if !self.may_wait(id) {
-            return false;
-        }
-        self.wait(id, waiter, priority);
-        true
-    }
-
-    /// Puts the id of the next object back. False exactly where it is below the one that is next or
-    /// above the one behind `LAST_ID`; nothing changes then.
-    pub fn put_next(&mut self, id: u32) -> bool
-        ensures may { result ≡ may_be_next self.old id }
-        ensures put { self.new ≡ if result then with_next self.old id else self.old }
-    {
-        if !self.is_ahead(id, LAST_ID + 1) {
-            return false;
-        }
-        self.next = id;
-        true
-    }
-
-    /// Says whether an id is still to be given, and at most a last one.
-    fn is_ahead(&self, id: u32, last: u32) -> bool
-        ensures { result ≡ is_ahead self.now id last }
-    {
-        self.next <= id && id <= last
-    }
-
-    /// Says whether one more thread may wait for the object of an id.
-    fn may_wait(&self, id: u32) -> bool
-        ensures { result ≡ may_wait self.now id }
-    {
-        self.state(id).is_some() && self.waiters.len() < MOST_WAITERS as usize
-    }
-
-    /// Tells how many objects are live.
-    pub fn len(&self) -> usize
-        ensures count { result ≡ length self.now.live }
-        ensures few { result ≤ MOST_OBJECTS }
-    {
-        self.live.len()
-    }
-
-    /// Reads the id of the live object at a place in the order of ids, and what is known of it.
-    /// None exactly where so many or fewer are live.
-    pub fn nth(&self, place: usize) -> Option<(u32, A)>
-        ensures { result ≡ option_map (λ o. (o.id, o.state)) (slice_get self.now.live place) }
-    {
-        let object = self.live.get(place)?;
-        Some((object.id, object.state))
-    }
-
-    /// Walks over the threads that wait for an object, in order of their arrival. None exactly
-    /// where none of this id is live.
-    pub fn walk(&self, id: u32) -> Option<Walk<'_, Waiter<W>>>
-        ensures { result ≡ option_map (λ o. o.waiters) (object_of self.now.live id) }
-    {
-        let queue = queue_of(&self.live, id)?;
-        Some(self.waiters.walk(queue))
-    }
-
-    /// Tells the id of the next object. Where none is left it is the one behind `LAST_ID`.
-    pub fn next_id(&self) -> u32
-        ensures { result ≡ self.now.next }
-    {
-        self.next
     }
 
     /// Deletes an object, if it is live. No thread waits for it.
@@ -341,7 +254,7 @@ fn position<A>(live: &[Live<A>], id: u32) -> Option<usize>
 }
 
 /// Finds the queue of those that wait for an object.
-fn queue_of<A>(live: &[Live<A>], id: u32) -> Option<u32>
+pub(crate) fn queue_of<A>(live: &[Live<A>], id: u32) -> Option<u32>
     requires { IsInOrder live.now }
     ensures { result
         ≡ option_map (λ object. object.queue) (find (λ object. object.id == id) live.now) }

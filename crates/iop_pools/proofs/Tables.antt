@@ -77,21 +77,21 @@ module _ {A W : Type 0} where
 
   -- no other object has its id
   pub one_alone : (id : ℕ) (live : List (Object A W)) (x : A)
-      → AllPairs (λ a b. a.id ≢ b.id) live → known live id ≡ Some x
+      → AllPairs (λ a b. a.id < b.id) live → known live id ≡ Some x
       → All (λ o. o.id ≡ id → o.state ≡ x) live
   one_alone id [] x ids is = All-nil (λ o. o.id ≡ id → o.state ≡ x)
   one_alone id (o ∷ live) x ids is =
       by (o.id == id) refl
-      (λ e. one_alone id live x (AllPairs-tail (λ a b. a.id ≢ b.id) o live ids) e) is
+      (λ e. one_alone id live x (AllPairs-tail (λ a b. a.id < b.id) o live ids) e) is
     where
       by : (b : Bool) → (o.id == id) ≡ b → (known live id ≡ Some x → All (IsOwn id x) live)
           → option_map (λ p. p.state) (cond b (Some o) (object_of live id)) ≡ Some x
           → All (IsOwn id x) (o ∷ live)
       by true same later e =
           All-cons (IsOwn id x) o live (λ k. cc)
-          (All-weaker (λ p. o.id ≢ p.id) (IsOwn id x)
-          (λ p apart own. absurd (apart (eqb-true o.id id same ∙ sym own))) live
-          (AllPairs-head (λ a b. a.id ≢ b.id) o live ids))
+          (All-weaker (λ p. o.id < p.id) (IsOwn id x)
+          (λ p less own. absurd (omega (arith, less, eqb-true o.id id same, own))) live
+          (AllPairs-head (λ a b. a.id < b.id) o live ids))
       by false same later e =
           All-cons (IsOwn id x) o live (λ own. absurd (eqb-false o.id id same own)) (later e)
 

@@ -8,12 +8,10 @@ ghost use Rattle.iop_stubs.specs.Binding.{after_bind, MayBind, IsSound};
 ghost use Rattle.iop_stubs.specs.Layers.{base_of};
 ghost use Rattle.iop_stubs.specs.Lending.{IsWrittenBy};
 ghost use Rattle.iop_stubs.specs.Copying.{copy_place, copied_bytes};
-ghost use Rattle.iop_stubs.specs.Restoring.{stub_may_follow, with_last_stub};
 ghost use Rattle.iop_stubs.specs.declared.live_stub.TheConstants.Stub.{MOST_LIVE};
 
 use crate::live_stub::Stub;
 use crate::live_stubs::LiveStubs;
-use crate::restoring::is_bound;
 use crate::stores::{find_range, move_bytes, put_bytes, store_number, store_word, write_into};
 use iop_base::{Bad, Lines, Width};
 use iop_ram::Ram;
@@ -27,8 +25,8 @@ use std::marker::Model;
 /// An address is `Bad` as it is for `Ram`.
 #[derive(Drop)]
 pub struct Guest {
-    ram: Ram,
-    live: LiveStubs,
+    pub(crate) ram: Ram,
+    pub(crate) live: LiveStubs,
 }
 
 impl Model for Guest {
@@ -259,33 +257,6 @@ impl Guest {
         ensures sound { IsSound self.now }
     {
         self.live.stubs()
-    }
-
-    /// Tells whether a stub may be put back.
-    fn may_follow(&self, stub: Stub) -> bool
-        ensures { result ≡ stub_may_follow self.now stub }
-    {
-        self.live.has_room_behind(stub.at) && is_bound(&self.ram, stub)
-    }
-
-    /// Puts a stub back behind those that are live: RAM has its two words already. It looks at the
-    /// last of them alone.
-    ///
-    /// False, and no change, exactly where `Stub::MOST_LIVE` are live, where a live stub ends
-    /// behind its place, where its place or its target is not a multiple of 4, where its 8 bytes
-    /// are not in RAM or its target is not below 2^28, or where RAM does not have the jump to its
-    /// target at its place and `STUB_INDEX` + its index behind it.
-    pub fn put_back(&mut self, stub: Stub) -> bool
-        ensures may { result ≡ stub_may_follow self.old stub }
-        ensures put { self.new ≡ if result then with_last_stub self.old stub else self.old }
-        ensures was_sound { IsSound self.old }
-        ensures sound { IsSound self.new }
-    {
-        if !self.may_follow(stub) {
-            return false;
-        }
-        self.live.insert(stub);
-        true
     }
 
     /// Finds the live stub at a physical place. None exactly where none begins there.

@@ -10,7 +10,7 @@ use Rattle.std.proofs.lemmas.List.Quantifiers.{all_pairs_push}
 use Rattle.std.proofs.lemmas.List.Sums.{AllPass-from_list_all, list_all-from_AllPass}
 use Rattle.std.proofs.Math.Seq.{get_or-append_seam}
 use Rattle.iop_time.specs.Timers.{Timers, IsTimer, AlarmsDiffer, DelaysDiffer, AreTimers, is_alarm_of, is_delay_of}
-use Rattle.iop_time.specs.Restoring.{may_be_timer, alarm_may_follow, delay_may_follow, number_may_follow, with_last_alarm, with_last_delay, alarms_put_back, delays_put_back, all_put_back, TimersComeBack}
+use Rattle.iop_time.specs.Restoring.{may_be_timer, alarm_may_follow, delay_may_follow, with_last_alarm, with_last_delay, alarms_put_back, delays_put_back, all_put_back, TimersComeBack}
 use Rattle.iop_time.specs.declared.alarm.Alarm.{Alarm}
 use Rattle.iop_time.specs.declared.delay.Delay.{Delay}
 use Rattle.iop_time.specs.declared.clock.TheConstants.{MOST_ALARMS, MOST_DELAYS}
@@ -108,25 +108,17 @@ last_delay-keeps timers delay h may =
           (eqb-false _ _ (fails_at _ timers.alarms (not-true _ apart) k d below));
     }
 
-pub next-keeps : (timers : Timers) (number : ℕ) → AreTimers timers
-    → number_may_follow timers.alarms timers.delays number ≡ true
+pub next-keeps : (timers : Timers) (number : ℕ) → AreTimers timers → timers.next ≤ number
     → AreTimers (record timers { next = number })
-next-keeps timers number h may =
-    let (some, alarms, delays) = three _ _ _ may in
+next-keeps timers number h rises =
     record {
-      next = ltb-true _ _ some;
+      next = omega (arith, h.next, rises);
       few_alarms = h.few_alarms;
       few_delays = h.few_delays;
-      alarms = λ k d below. (
-        (h.alarms k d below).0,
-        ltb-true _ _ (AllPass-from_list_all _ timers.alarms alarms k d below),
-        (h.alarms k d below).2,
-      );
-      delays = λ k d below. (
-        (h.delays k d below).0,
-        ltb-true _ _ (AllPass-from_list_all _ timers.delays delays k d below),
-        (h.delays k d below).2,
-      );
+      alarms = All-weaker (IsAlarm timers.next) (IsAlarm number)
+          (λ a timer. (timer.0, omega (arith, timer.1, rises), timer.2)) timers.alarms h.alarms;
+      delays = All-weaker (IsDelay timers.next) (IsDelay number)
+          (λ d timer. (timer.0, omega (arith, timer.1, rises), timer.2)) timers.delays h.delays;
       alarms_differ = h.alarms_differ;
       delays_differ = h.delays_differ;
       apart = h.apart;
@@ -157,15 +149,25 @@ module _ (timers : Timers) (h : AreTimers timers) (small : timers.next < 2 ^ 64)
   is_timer number moment timer =
       all_three _ _ _ (lt-ltb _ _ timer.0) (lt-ltb _ _ (omega arith)) (le-leb _ _ timer.2)
 
+  alarm_is : (before rest : List Alarm) (alarm : Alarm) → before ++ alarm ∷ rest ≡ timers.alarms
+      → IsTimer timers.next alarm.number alarm.moment
+  alarm_is before rest alarm is =
+      at_seam before alarm rest (IsAlarm timers.next)
+      (subst (All (IsAlarm timers.next)) (sym is) h.alarms)
+
+  delay_is : (before rest : List Delay) (delay : Delay) → before ++ delay ∷ rest ≡ timers.delays
+      → IsTimer timers.next delay.number delay.moment
+  delay_is before rest delay is =
+      at_seam before delay rest (IsDelay timers.next)
+      (subst (All (IsDelay timers.next)) (sym is) h.delays)
+
   alarm_follows : (before rest : List Alarm) (alarm : Alarm) → before ++ alarm ∷ rest ≡ timers.alarms
       → alarm_may_follow before [] alarm ≡ true
   alarm_follows before rest alarm is =
       let pairs = before_seam before alarm rest AlarmsDiffer
       (subst (AllPairs AlarmsDiffer) (sym is) h.alarms_differ) in
       all_five _ _ _ _ _
-      (is_timer alarm.number alarm.moment
-      (at_seam before alarm rest (IsAlarm timers.next)
-      (subst (All (IsAlarm timers.next)) (sym is) h.alarms)))
+      (is_timer alarm.number alarm.moment (alarm_is before rest alarm is))
       (lt-ltb _ _ (room before alarm rest MOST_ALARMS
       (subst (λ l. length l ≤ MOST_ALARMS) (sym is) h.few_alarms)))
       (list_all-from_AllPass _ before (λ k d below. lt-ltb _ _ (pairs k d below).0))
@@ -178,9 +180,7 @@ module _ (timers : Timers) (h : AreTimers timers) (small : timers.next < 2 ^ 64)
       let pairs = before_seam before delay rest DelaysDiffer
       (subst (AllPairs DelaysDiffer) (sym is) h.delays_differ) in
       all_five _ _ _ _ _
-      (is_timer delay.number delay.moment
-      (at_seam before delay rest (IsDelay timers.next)
-      (subst (All (IsDelay timers.next)) (sym is) h.delays)))
+      (is_timer delay.number delay.moment (delay_is before rest delay is))
       (lt-ltb _ _ (room before delay rest MOST_DELAYS
       (subst (λ l. length l ≤ MOST_DELAYS) (sym is) h.few_delays)))
       (list_all-from_AllPass _ before (λ k d below. lt-ltb _ _ (pairs k d below).0))
@@ -190,44 +190,45 @@ module _ (timers : Timers) (h : AreTimers timers) (small : timers.next < 2 ^ 64)
       (subst (All (λ other. (get_or timers.alarms k d).number ≢ other.number)) (sym is)
       (h.apart k d below))))))
 
-  number_follows : number_may_follow timers.alarms timers.delays timers.next ≡ true
-  number_follows =
-      all_three _ _ _ (lt-ltb _ _ h.next)
-      (list_all-from_AllPass _ timers.alarms (λ k d below. lt-ltb _ _ (h.alarms k d below).1))
-      (list_all-from_AllPass _ timers.delays (λ k d below. lt-ltb _ _ (h.delays k d below).1))
-
-  alarms_come : (before rest : List Alarm) (n : ℕ) → before ++ rest ≡ timers.alarms
-      → (m : ℕ) × (alarms_put_back (record { next = n; alarms = before; delays = [] }) rest
+  alarms_come : (before rest : List Alarm) (n : ℕ) → n ≤ timers.next
+      → before ++ rest ≡ timers.alarms
+      → (m : ℕ) × (m ≤ timers.next)
+      × (alarms_put_back (record { next = n; alarms = before; delays = [] }) rest
       ≡ Some (record { next = m; alarms = timers.alarms; delays = [] }))
-  alarms_come before [] n is = (
+  alarms_come before [] n rises is = (
     n,
+    rises,
     ap (λ (l : List Alarm). Some (record { next = n; alarms = l; delays = [] }))
         (sym (append-nil before) ∙ is),
   )
-  alarms_come before (alarm ∷ rest) n is =
-      let (m, later) = alarms_come (before ++ alarm ∷ []) rest (max n (alarm.number + 1))
-      (append_assoc before (alarm ∷ []) rest ∙ is) in
-      (m, rw (alarm_follows before rest alarm is) later)
+  alarms_come before (alarm ∷ rest) n rises is =
+      let own = (alarm_is before rest alarm is).1 in
+      let (m, most, later) = alarms_come (before ++ alarm ∷ []) rest (max n (alarm.number + 1))
+      (omega (arith, rises, own)) (append_assoc before (alarm ∷ []) rest ∙ is) in
+      (m, most, rw (alarm_follows before rest alarm is) later)
 
-  delays_come : (before rest : List Delay) (n : ℕ) → before ++ rest ≡ timers.delays
-      → (m : ℕ)
+  delays_come : (before rest : List Delay) (n : ℕ) → n ≤ timers.next
+      → before ++ rest ≡ timers.delays
+      → (m : ℕ) × (m ≤ timers.next)
       × (delays_put_back (record { next = n; alarms = timers.alarms; delays = before }) rest
       ≡ Some (record { next = m; alarms = timers.alarms; delays = timers.delays }))
-  delays_come before [] n is = (
+  delays_come before [] n rises is = (
     n,
+    rises,
     ap (λ (l : List Delay). Some (record { next = n; alarms = timers.alarms; delays = l }))
         (sym (append-nil before) ∙ is),
   )
-  delays_come before (delay ∷ rest) n is =
-      let (m, later) = delays_come (before ++ delay ∷ []) rest (max n (delay.number + 1))
-      (append_assoc before (delay ∷ []) rest ∙ is) in
-      (m, rw (delay_follows before rest delay is) later)
+  delays_come before (delay ∷ rest) n rises is =
+      let own = (delay_is before rest delay is).1 in
+      let (m, most, later) = delays_come (before ++ delay ∷ []) rest (max n (delay.number + 1))
+      (omega (arith, rises, own)) (append_assoc before (delay ∷ []) rest ∙ is) in
+      (m, most, rw (delay_follows before rest delay is) later)
 
   pub all_come : all_put_back timers ≡ Some timers
   all_come =
-      let (n, alarms) = alarms_come [] timers.alarms 1 refl in
-      let (m, delays) = delays_come [] timers.delays n refl in
-      rw (alarms, delays, number_follows) refl
+      let (n, first, alarms) = alarms_come [] timers.alarms 1 (omega (arith, h.next)) refl in
+      let (m, most, delays) = delays_come [] timers.delays n first refl in
+      rw (alarms, delays, le-leb m timers.next most) refl
 
 pub timers_come_back : TimersComeBack
 timers_come_back timers h small = all_come timers h small

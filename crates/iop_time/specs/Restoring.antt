@@ -42,11 +42,6 @@ delay_may_follow alarms delays delay =
     && delays_are_below delay.number delays && not (list_any (is_delay_of delay.thread) delays)
     && not (alarms_have delay.number alarms)
 
--- whether the next number may be this one: from 1 on, and above that of every alarm and delay
-abbrev pub number_may_follow : List Alarm → List Delay → ℕ → Bool
-number_may_follow alarms delays number =
-    nat_lt 0 number && alarms_are_below number alarms && delays_are_below number delays
-
 -- the timers with this alarm behind the others; the next number is above its number
 abbrev pub with_last_alarm : Timers → Alarm → Timers
 with_last_alarm timers alarm = record timers {
@@ -78,9 +73,7 @@ delays_put_back timers (delay ∷ rest) =
 
 abbrev pub number_put_back : Timers → ℕ → Option Timers
 number_put_back timers number =
-    if number_may_follow timers.alarms timers.delays number
-    then Some (record timers { next = number })
-    else None
+    if nat_le timers.next number then Some (record timers { next = number }) else None
 
 -- all that stands in a clock, put back into one with no alarm and no delay: the alarms, the delays,
 -- and the next number

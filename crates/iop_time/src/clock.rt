@@ -3,12 +3,10 @@ ghost use Rattle.std.specs.List.{list_any};
 ghost use Rattle.iop_time.specs.Timers.{AreTimers, no_timers, is_alarm_of, is_delay_of, sets_alarm, cancels, delays, drops_delay, sets_again, removes};
 ghost use Rattle.iop_time.specs.Turns.{due, next_moment};
 ghost use Rattle.iop_time.specs.Taking.{alarm_of, delay_of, timer_of, takes_due};
-ghost use Rattle.iop_time.specs.Restoring.{alarm_may_follow, delay_may_follow, number_may_follow, with_last_alarm, with_last_delay};
 
 use crate::alarm::{Alarm, is_set, put_off};
 use crate::delay::Delay;
 use crate::due::Due;
-use crate::restoring::{alarm_may_follow, delay_may_follow, number_may_follow};
 use crate::ticks::NEVER;
 use crate::turn::{Turn, first_turn, first_with};
 use iop_base::Code;
@@ -28,13 +26,13 @@ pub const MOST_DELAYS: usize = 255;
 #[derive(Drop)]
 pub struct Clock {
     /// The number of the next alarm or delay.
-    next: u64,
+    pub(crate) next: u64,
     /// The alarms in the order of their numbers.
-    alarms: Vec<Alarm>,
+    pub(crate) alarms: Vec<Alarm>,
     /// The delays in the order of their numbers.
-    delays: Vec<Delay>,
+    pub(crate) delays: Vec<Delay>,
     /// The turn that comes first.
-    first: Option<Turn>,
+    pub(crate) first: Option<Turn>,
 }
 
 impl Model for Clock {
@@ -237,84 +235,5 @@ impl Clock {
     {
         self.alarms.retain(|alarm| alarm.number != number);
         self.first = first_turn(&self.alarms, &self.delays);
-    }
-
-    /// Lends the alarms in the order of their numbers.
-    pub fn alarms(&self) -> &[Alarm]
-        ensures alarms { result.now ≡ self.now.alarms }
-        ensures sound { AreTimers self.now }
-    {
-        &self.alarms
-    }
-
-    /// Lends the delays in the order of their numbers.
-    pub fn delays(&self) -> &[Delay]
-        ensures delays { result.now ≡ self.now.delays }
-        ensures sound { AreTimers self.now }
-    {
-        &self.delays
-    }
-
-    /// Tells the number of the next alarm or delay.
-    pub fn next_number(&self) -> u64
-        ensures number { result ≡ self.now.next }
-        ensures sound { AreTimers self.now }
-    {
-        self.next
-    }
-
-    /// Puts an alarm back behind those that stand. The next number is above its number then.
-    ///
-    /// False, and no change, exactly where its number is 0, 2^64 - 1, that of a delay or not above
-    /// that of every alarm, where its moment is above `NEVER`, where an alarm of its handler and
-    /// argument stands, or where `MOST_ALARMS` stand.
-    pub fn put_alarm(&mut self, alarm: Alarm) -> bool
-        ensures may { result ≡ alarm_may_follow self.old.alarms self.old.delays alarm }
-        ensures put { self.new ≡ if result then with_last_alarm self.old alarm else self.old }
-        ensures was_sound { AreTimers self.old }
-        ensures sound { AreTimers self.new }
-    {
-        if !alarm_may_follow(&self.alarms, &self.delays, alarm) {
-            return false;
-        }
-        self.next = self.next.max(alarm.number + 1);
-        self.alarms.push_reserved(alarm);
-        self.first = first_with(self.first, alarm.turn());
-        true
-    }
-
-    /// Puts a delay back behind those that stand. The next number is above its number then.
-    ///
-    /// False, and no change, exactly where its number is 0, 2^64 - 1, that of an alarm or not above
-    /// that of every delay, where its moment is above `NEVER`, where a delay of its thread stands,
-    /// or where `MOST_DELAYS` stand.
-    pub fn put_delay(&mut self, delay: Delay) -> bool
-        ensures may { result ≡ delay_may_follow self.old.alarms self.old.delays delay }
-        ensures put { self.new ≡ if result then with_last_delay self.old delay else self.old }
-        ensures was_sound { AreTimers self.old }
-        ensures sound { AreTimers self.new }
-    {
-        if !delay_may_follow(&self.alarms, &self.delays, delay) {
-            return false;
-        }
-        self.next = self.next.max(delay.number + 1);
-        self.delays.push_reserved(delay);
-        self.first = first_with(self.first, delay.turn());
-        true
-    }
-
-    /// Puts the number of the next alarm or delay back, which may be lower than the one before.
-    /// False, and no change, exactly where it is 0 or not above that of every alarm and delay.
-    pub fn put_next(&mut self, number: u64) -> bool
-        ensures may { result ≡ number_may_follow self.old.alarms self.old.delays number }
-        ensures put { self.new ≡ if result then record self.old { next = number } else self.old }
-        ensures was_sound { AreTimers self.old }
-        ensures sound { AreTimers self.new }
-    {
-        if !number_may_follow(&self.alarms, &self.delays, number) {
-            return false;
-        }
-        self.next = number;
-        true
     }
 }

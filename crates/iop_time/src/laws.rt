@@ -33,8 +33,8 @@ pub fn delays_leave_room()
     ensures { DelaysLeaveRoom }
 {}
 
-/// Every call keeps what holds of a clock. Where nothing is put back, numbers rise, and one that is
-/// no longer in use is never given again.
+/// Every call but those that put back is a change of a clock: what holds of it stays, numbers rise,
+/// and one that is no longer in use is never given again.
 pub fn numbers_rise()
     ensures { NumbersRise }
 {}

@@ -13,7 +13,7 @@ use Rattle.iop_objects.specs.declared.waiter.Waiter.{Waiter}
 use Rattle.iop_objects.proofs.Changes.{object_of-changed}
 use Rattle.iop_kernel.specs.EventFlags.{LiveFlag}
 use Rattle.iop_kernel.proofs.Bodies.ObjectChanges.{changes_twice, changes_alike}
-use Rattle.iop_kernel.proofs.Placing.Objects.{HaveOwnIds}
+use Rattle.iop_kernel.proofs.Placing.Objects.{HaveRisingIds}
 
 module _ (s : EventFlags) (id : ℕ) (o : LiveFlag) where
   -- the event flag has a pattern, and these threads wait for it
@@ -44,7 +44,7 @@ module _ (s : EventFlags) (id : ℕ) (o : LiveFlag) where
     waiters_left pattern waiters = ap waiters_in (found_left pattern waiters)
 
     -- it is so once bits are set
-    pub flag_set : HaveOwnIds s.live → (bits : ℕ)
+    pub flag_set : HaveRisingIds s.live → (bits : ℕ)
         → (sets s id bits).1 ≡ left_with (bit_or o.state.pattern bits) o.waiters
     flag_set ids bits =
         let pattern = bit_or o.state.pattern bits in

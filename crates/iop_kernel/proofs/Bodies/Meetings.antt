@@ -26,7 +26,7 @@ use Rattle.iop_kernel.specs.declared.kernel.Kernel.{Kernel as Program}
 use Rattle.iop_kernel.proofs.Bodies.FlagSteps.{IsMetNext, changed_to, left_with, state_left, waiters_left, flag_set, flag_met, flag_settled}
 use Rattle.iop_kernel.proofs.Bodies.ObjectChanges.{changes_alike}
 use Rattle.iop_kernel.proofs.Bodies.Standing.{holds_flags}
-use Rattle.iop_kernel.proofs.Placing.Objects.{HaveOwnIds, object_of_id}
+use Rattle.iop_kernel.proofs.Placing.Objects.{HaveRisingIds, object_of_id}
 
 -- what is known of an event flag once the threads that wait for it have settled
 abbrev settled_to : Settled → LiveFlag → LiveFlag
@@ -84,7 +84,7 @@ module _ {R : Type 0} (stands_for : R → List Entry → Type 0) (b : Board) (id
 
   -- at first none is
   pub meeting_begins : (o : LiveFlag) → object_of flags.live id ≡ Some o
-      → HaveOwnIds flags.live → (p : Program R)
+      → HaveRisingIds flags.live → (p : Program R)
       → Holds stands_for p (record b.core.kernel { event_flags = p.event_flags })
       → p.event_flags ≡ (sets flags id bits).1 → (a : Output)
       → IsMeeting p b.memory a a

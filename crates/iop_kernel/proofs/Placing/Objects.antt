@@ -1,37 +1,32 @@
 -- The threads that wait for an object, when one of a table changes, comes or goes.
-use Rattle.std.proofs.Common.{◌≡◌, ◌≢◌, ℕ, ◌+◌, ◌<◌, ◌==◌, false, not, if◌then◌else◌, Option, Some, None, option_map, List, [], ◌∷◌, ◌++◌, length, get_or, map, filter, All, AllPairs, refl, ap, sym, ◌∙◌, arith}
+use Rattle.std.proofs.Common.{◌≡◌, ℕ, ◌<◌, ◌==◌, false, not, if◌then◌else◌, Option, Some, None, option_map, List, [], ◌∷◌, ◌++◌, map, filter, All, AllPairs, refl, ap, ◌∙◌, arith}
 use Rattle.std.proofs.lemmas.Bool.{cond_both, cond-false}
 use Rattle.std.proofs.lemmas.Bool.Decides.{nat_tests}
-use Rattle.std.proofs.lemmas.List.{get_or-map, length-map}
-use Rattle.std.proofs.lemmas.List.Elements.{All-filter, All-map, All-push, All-weaker}
-use Rattle.std.proofs.lemmas.List.Kept.{AllPairs-filter}
-use Rattle.std.proofs.lemmas.List.Quantifiers.{all_pairs_push}
-use Rattle.iop_objects.specs.Objects.{Object, Objects, object_of, state_of, waiters_in, waiters_of, changes, deletes, with_state, with_waiters}
+use Rattle.iop_objects.specs.Objects.{Object, Objects, AreObjects, object_of, state_of, waiters_in, waiters_of, changes, deletes, with_state, with_waiters}
 use Rattle.iop_queues.specs.declared.queued.Queued.{Queued}
 use Rattle.iop_objects.specs.declared.waiter.Waiter.{Waiter}
+use Rattle.iop_objects.proofs.Apart.{changes_one, deletes_one}
 use Rattle.iop_objects.proofs.Changes.{object_of-changed}
 
 module _ {A W : Type 0} where
-  -- no two objects have one id
-  abbrev pub HaveOwnIds : List (Object A W) → Type 0
-  HaveOwnIds live = AllPairs (λ a b. a.id ≢ b.id) live
+  -- the ids of objects rise
+  abbrev pub HaveRisingIds : List (Object A W) → Type 0
+  HaveRisingIds live = AllPairs (λ a b. a.id < b.id) live
 
   -- none has an id that is still to be given
   abbrev pub HaveIdsBelow : ℕ → List (Object A W) → Type 0
   HaveIdsBelow next live = All (λ o. o.id < next) live
 
-  -- the objects of other ids are waited for as before, and ids are as good as they were
+  -- the objects of other ids are waited for as before, and all are as sound as they were
   pub record IsBut (id : ℕ) (s left : Objects A W) : Type 0 where
     pub others : (other : ℕ) → (other == id) ≡ false → waiters_of left other ≡ waiters_of s other
-    pub ids : HaveOwnIds s.live → HaveOwnIds left.live
-    pub given : HaveIdsBelow s.next s.live → HaveIdsBelow left.next left.live
+    pub sound : AreObjects s → AreObjects left
 
   -- so they are after two changes
   pub but_twice : (id : ℕ) {s t u : Objects A W} → IsBut id s t → IsBut id t u → IsBut id s u
   but_twice id g h = record {
     others = λ other apart. h.others other apart ∙ g.others other apart;
-    ids = λ own. h.ids (g.ids own);
-    given = λ below. h.given (g.given below);
+    sound = λ are. h.sound (g.sound are);
   }
 
   -- the object that is found has the id
@@ -54,22 +49,6 @@ module _ {A W : Type 0} where
   waiters_added (o ∷ live) made none id =
       grind (arith, nat_tests, waiters_added live made none id)
 
-  -- it has an id of its own
-  pub own_ids_added : (live : List (Object A W)) (made : Object A W) → HaveIdsBelow made.id live
-      → HaveOwnIds live → HaveOwnIds (live ++ made ∷ [])
-  own_ids_added live made given own =
-      all_pairs_push (λ a b. a.id ≢ b.id) live made own
-      (λ k d below. let small = given k d below in omega (arith, small))
-
-  -- and the next one is still to be given
-  pub ids_below_added : (live : List (Object A W)) (made : Object A W) → HaveIdsBelow made.id live
-      → HaveIdsBelow (made.id + 1) (live ++ made ∷ [])
-  ids_below_added live made given =
-      All-push (λ o. o.id < made.id + 1) live made
-      (All-weaker (λ (o : Object A W). o.id < made.id) (λ o. o.id < made.id + 1)
-      (λ o small. omega (arith, small)) live given)
-      (omega arith)
-
 module _ {A W : Type 0} (id : ℕ) (change : Object A W → Object A W)
     (keeps : (o : Object A W) → (change o).id ≡ o.id) where
   -- an object changes, if it is that of the id
@@ -80,23 +59,6 @@ module _ {A W : Type 0} (id : ℕ) (change : Object A W → Object A W)
   changed_id : (o : Object A W) → (changed o).id ≡ o.id
   changed_id o =
       cond_both (o.id == id) (change o) o (λ p. p.id ≡ o.id) (λ own. keeps o) (λ other. refl)
-
-  -- no two have one id then
-  own_ids_changed : (live : List (Object A W)) → HaveOwnIds live → HaveOwnIds (map changed live)
-  own_ids_changed live own = λ i j d less below.
-      let inside : j < length live = omega (arith, below, length-map live changed) in
-      let before : i < length live = omega (arith, less, inside) in
-      rw (get_or-map changed live i d d before, get_or-map changed live j d d inside)
-      (λ same. own i j d less inside
-      (sym (changed_id (get_or live i d)) ∙ same ∙ changed_id (get_or live j d)))
-
-  -- and none one that is still to be given
-  ids_below_changed : (next : ℕ) (live : List (Object A W)) → HaveIdsBelow next live
-      → HaveIdsBelow next (map changed live)
-  ids_below_changed next live given =
-      All-map (λ (o : Object A W). o.id < next) changed live
-      (All-weaker (λ (o : Object A W). o.id < next) (λ o. (changed o).id < next)
-      (λ o small. omega (arith, small, changed_id o)) live given)
 
   -- what is found is what was found, changed
   pub object_of_changed : (live : List (Object A W)) (other : ℕ)
@@ -122,8 +84,7 @@ module _ {A W : Type 0} (id : ℕ) (change : Object A W → Object A W)
     pub changes_but : IsBut id s (changes s id change)
     changes_but = record {
       others = waiters_other;
-      ids = own_ids_changed s.live;
-      given = ids_below_changed s.next s.live;
+      sound = λ are. (changes_one id change keeps s are).change.change.sound;
     }
 
 module _ {A W : Type 0} (s : Objects A W) (id : ℕ) where
@@ -147,8 +108,7 @@ module _ {A W : Type 0} (s : Objects A W) (id : ℕ) where
   deletes_but = record {
     others = λ other apart.
         ap waiters_in (object_of_without s.live id other ∙ cond-false (other == id) None _ apart);
-    ids = AllPairs-filter (λ a b. a.id ≢ b.id) (λ o. not (o.id == id)) s.live;
-    given = All-filter (λ o. not (o.id == id)) (λ o. o.id < s.next) s.live;
+    sound = λ are. (deletes_one id s are).change.change.sound;
   }
 
 -- what is known of an object that is found

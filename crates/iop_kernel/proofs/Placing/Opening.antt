@@ -3,6 +3,7 @@ use Rattle.std.proofs.Common.{◌≡◌, ℕ, ◌==◌, option_and_then, Some, N
 use Rattle.std.proofs.lemmas.Bool.{cond_both}
 use Rattle.iop_base.specs.Numbers.{one_if}
 use Rattle.iop_objects.specs.Objects.{no_objects}
+use Rattle.iop_objects.proofs.KeptApart.{keep_apart}
 use Rattle.iop_thread.specs.Operations.{opening, dormant_thread, loader_param}
 use Rattle.iop_thread.specs.States.{wait_in}
 use Rattle.iop_thread.specs.Waits.{wait_of}
@@ -25,8 +26,7 @@ none_waited : (kind : Kind) → AreWaited kind no_objects opening
 none_waited kind = record {
   waiters = λ id t. sym (ap (λ w. one_if (is_for kind id w)) (none_waits t));
   priorities = λ id k d below. absurd (omega (arith, below));
-  ids = λ i j d less below. absurd (omega (arith, less, below));
-  given = λ k d below. absurd (omega (arith, below));
+  sound = keep_apart.opening;
 }
 
 -- and no delay stands

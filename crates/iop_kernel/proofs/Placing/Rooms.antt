@@ -37,17 +37,18 @@ use Rattle.iop_kernel.specs.declared.active_handler.ActiveHandler.{ActiveHandler
 use Rattle.iop_kernel.specs.declared.kernel.Kernel.{Kernel as Program}
 use Rattle.iop_kernel.proofs.Bodies.KindTables.{one_object}
 use Rattle.iop_kernel.proofs.Placing.Live.{few}
-use Rattle.iop_kernel.proofs.Placing.Objects.{HaveOwnIds}
+use Rattle.iop_kernel.proofs.Placing.Objects.{HaveRisingIds}
 use Rattle.iop_kernel.proofs.Placing.Queues.{delayed, undelayed, times_append, times_in}
 use Rattle.iop_kernel.proofs.Placing.Threads.{running_waits_not}
 
 module _ {A W : Type 0} where
   -- no object has the id of one in front of it
-  none_behind : (id : ℕ) (live : List (Object A W)) → All (λ o. id ≢ o.id) live
+  none_behind : (id : ℕ) (live : List (Object A W)) → All (λ o. id < o.id) live
       → object_of live id ≡ None
   none_behind id live others =
       find-none (λ o. o.id == id) live
-      (λ k d below. ne_eqb (get_or live k d).id id (λ same. others k d below (sym same)))
+      (λ k d below. ne_eqb (get_or live k d).id id
+      (λ same. let less = others k d below in omega (arith, less, same)))
 
   module _ (kind : Kind) (t : ℕ) where
     -- how often a thread is among those that wait for the object of an id
@@ -60,11 +61,11 @@ module _ {A W : Type 0} where
     IsOnce live = (wait : Option Wait) → ((id : ℕ) → often live id ≡ one_if (is_for kind id wait))
         → times t (flat_map threads_of live) ≤ one_if (is_some wait)
 
-    module _ (o : Object A W) (live : List (Object A W)) (own : HaveOwnIds (o ∷ live)) where
+    module _ (o : Object A W) (live : List (Object A W)) (own : HaveRisingIds (o ∷ live)) where
       -- behind an object none has its id, and each other one is found as before
       behind : (id : ℕ) → often live id ≡ (if o.id == id then 0 else often (o ∷ live) id)
       behind id =
-          let none = none_behind o.id live (AllPairs-head (λ a b. a.id ≢ b.id) o live own) in
+          let none = none_behind o.id live (AllPairs-head (λ a b. a.id < b.id) o live own) in
           grind (arith, nat_tests, none)
 
       one_more : IsOnce live → IsOnce (o ∷ live)
@@ -103,10 +104,10 @@ module _ {A W : Type 0} where
               omega (arith, all, first ∙ ap one_if is, others)
 
     -- so it is for each list of objects
-    waits_once : (live : List (Object A W)) → HaveOwnIds live → IsOnce live
+    waits_once : (live : List (Object A W)) → HaveRisingIds live → IsOnce live
     waits_once [] own = λ wait each. omega arith
     waits_once (o ∷ live) own =
-        one_more o live own (waits_once live (AllPairs-tail (λ a b. a.id ≢ b.id) o live own))
+        one_more o live own (waits_once live (AllPairs-tail (λ a b. a.id < b.id) o live own))
 
 -- those that wait for all objects together
 length-waiting : {A W : Type 0} (live : List (Object A W))
@@ -146,7 +147,7 @@ module _ (s : ThreadTable) (placed : threads_placing.IsPlaced s) (one : ℕ)
   fewer_wait : (kind : Kind) (o : Table kind) → AreWaited kind o s → waiting o < length s.live
   fewer_wait kind o h =
       let less = fewer (threads_waiting o)
-      (λ t. waits_once kind t o.live h.ids (wait_of s t) (λ id. h.waiters id t)) in
+      (λ t. waits_once kind t o.live h.sound.ids (wait_of s t) (λ id. h.waiters id t)) in
       omega (arith, less, length-waiting o.live)
 
 module _ (k : Kernel) (h : IsPlaced k) (id : ℕ) (runs : k.threads.running ≡ Some id) where

@@ -1,12 +1,15 @@
 -- Threads that wait for something else than before. Still those that wait for the objects of a kind
 -- are those whose waits say so.
-use Rattle.std.proofs.Common.{◌≡◌, ℕ, ◌≤◌, ◌==◌, Bool, true, false, if◌then◌else◌, Option, Some, None, length, All, refl, ap, sym, ◌∙◌, subst, Result, [], arith}
-use Rattle.std.proofs.lemmas.Bool.{cond_both, eqb-false, eqb-true}
+use Rattle.std.proofs.Common.{◌≡◌, ℕ, ◌≤◌, ◌==◌, leb, ltb, Bool, true, false, if◌then◌else◌, Option, Some, None, length, All, refl, ap, sym, ◌∙◌, subst, Result, [], arith}
+use Rattle.std.proofs.lemmas.Bool.{and_parts, cond_both, eqb-false, eqb-true, leb-true, ltb-true}
 use Rattle.std.proofs.lemmas.Bool.Decides.{nat_tests}
 use Rattle.iop_base.specs.Numbers.{one_if}
 use Rattle.iop_base.specs.declared.code.Code.{Code}
+use Rattle.iop_base.specs.declared.limits.TheConstants.{LAST_ID}
 use Rattle.iop_objects.specs.Objects.{waiters_in, waiters_of, has_room, creates, with_state, requeues}
 use Rattle.iop_objects.specs.WaiterQueues.{requeued}
+use Rattle.iop_objects.specs.declared.objects.TheConstants.{MOST_OBJECTS}
+use Rattle.iop_objects.proofs.Apart.{makes_one}
 use Rattle.iop_objects.proofs.Changes.{waiters_of-with_state}
 use Rattle.iop_thread.specs.Placing.{IsPlaced}
 use Rattle.iop_thread.specs.ThreadTable.{ThreadTable}
@@ -18,7 +21,7 @@ use Rattle.iop_time.specs.declared.clock.TheConstants.{MOST_DELAYS}
 use Rattle.iop_kernel.specs.Kinds.{State, Live, Table}
 use Rattle.iop_kernel.specs.Placing.{AreWaited, HasItsPriority, is_for}
 use Rattle.iop_kernel.proofs.Bodies.KindTables.{own_object}
-use Rattle.iop_kernel.proofs.Placing.Objects.{IsBut, changes_but, with_waiters_but, waiters_now, waiters_added, own_ids_added, ids_below_added}
+use Rattle.iop_kernel.proofs.Placing.Objects.{IsBut, changes_but, with_waiters_but, waiters_now, waiters_added}
 use Rattle.iop_kernel.proofs.Placing.ObjectsKept.{none_new, none_requeued}
 use Rattle.iop_kernel.proofs.Placing.Priorities.{KeepFor, KeepPriorities, IsChanged, other_wait}
 use Rattle.iop_kernel.proofs.Placing.QueuedPriorities.{queued_on, requeued_priorities}
@@ -82,8 +85,7 @@ module _ (kind : Kind) (s : Table kind) {old : ThreadTable} (h : AreWaited kind 
   waited_alike left alike keep = record {
     waiters = λ id t. h.waiters id t ∙ ap one_if (sym (alike id t));
     priorities = λ id. queued_on kind s h id left (keep id);
-    ids = h.ids;
-    given = h.given;
+    sound = h.sound;
   }
 
   module _ (n : ℕ) {now : Table kind} (but : IsBut n s now) where
@@ -97,8 +99,7 @@ module _ (kind : Kind) (s : Table kind) {old : ThreadTable} (h : AreWaited kind 
     waited_but left own others queued keep = record {
       waiters = λ id t. by id t (id == n) refl;
       priorities = λ id. queued_by id (id == n) refl;
-      ids = but.ids h.ids;
-      given = but.given h.given;
+      sound = but.sound h.sound;
     }
       where
         by : (id t : ℕ) (b : Bool) → (id == n) ≡ b
@@ -163,11 +164,13 @@ module _ (kind : Kind) (s : Table kind) {old : ThreadTable} (h : AreWaited kind 
   waited_creates state =
       let made : Live kind = record { id = s.next; state = state; waiters = [] } in
       cond_both (has_room s) _ _ (λ (r : Result ℕ Code × Table kind). AreWaited kind r.1 old)
-      (λ room. record {
+      (λ room.
+      let (place, left) = and_parts (ltb (length s.live) MOST_OBJECTS) (leb s.next LAST_ID) room in
+      record {
         waiters = λ id t. ap (times_in t) (waiters_added s.live made refl id) ∙ h.waiters id t;
         priorities = λ id. subst (All (HasItsPriority old))
             (sym (waiters_added s.live made refl id)) (h.priorities id);
-        ids = own_ids_added s.live made h.given h.ids;
-        given = ids_below_added s.live made h.given;
+        sound = (makes_one made s h.sound refl (ltb-true _ _ place) (leb-true _ _ left)).change
+            .sound;
       })
       (λ full. h)

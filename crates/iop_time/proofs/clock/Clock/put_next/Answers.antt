@@ -1,4 +1,4 @@
-use Rattle.std.proofs.Common.{◌∙◌, sym}
+use Rattle.std.proofs.Common.{arith}
 use Rattle.iop_time.specs.Timers.{Timers, AreTimers}
 use Rattle.iop_time.proofs.PuttingBack.{next-keeps}
 use Rattle.iop_time.proofs.clock.Clock.put_next.Goals as goal
@@ -14,9 +14,7 @@ sound c =
       alarms = c.self.inside.alarms.items;
       delays = c.self.inside.delays.items;
     } in
-    next-keeps old c.args.number c.self.invariant.0
-    (rw (c.deref.ensures.value, c.deref-2.ensures.value)
-    at (sym c.number_may_follow.ensures ∙ c.if-not-number_may_follow.false))
+    next-keeps old c.args.number c.self.invariant.0 (omega arith)
 
 pub invariant_of-self : goal.invariant_of-self
 invariant_of-self c =
