@@ -63,6 +63,31 @@ bytes_lawful n = record {
       };
 }
 
+module _ {X : Type 0} where
+  tested_spells : (form : Form X) (test : X → Bool)
+      → ((all : List ℕ) (x : X) (rest : List ℕ) → All IsByte all
+      → form.read all ≡ Some (x, rest) → IsSpelled form all x rest)
+      → (all : List ℕ) (x : X) (rest : List ℕ) → All IsByte all
+      → (tested form test).read all ≡ Some (x, rest) → IsSpelled (tested form test) all x rest
+  tested_spells form test spells all x rest h e =
+      let one = then_some (form.read all) (if_passes test) (x, rest) e in
+      let two = cond_some (test one.0.0) one.0 (x, rest) one.2 in
+      let read = spells all one.0.0 one.0.1 h one.1 in
+      let made : IsSpelled (tested form test) all one.0.0 one.0.1 = record {
+        parts = read.parts;
+        fits = and_from (form.fits one.0.0) (test one.0.0) read.fits two.0;
+      } in
+      subst (λ (r : X × List ℕ). IsSpelled (tested form test) all r.0 r.1) two.1 made
+
+  pub tested_lawful : (form : Form X) (test : X → Bool) → IsLawful form
+      → IsLawful (tested form test)
+  tested_lawful form test law = record {
+    reads_spelled = λ x rest fits.
+        let parts = and_parts (form.fits x) (test x) fits in
+        rw (law.reads_spelled x rest parts.0, parts.1) refl;
+    spells_read = tested_spells form test law.spells_read;
+  }
+
 module _ {X Y : Type 0} where
   both_reads : (form : Form X) (next : X → Form Y) → IsLawful form → ((x : X) → IsLawful (next x))
       → (pair : X × Y) (rest : List ℕ) → (both form next).fits pair ≡ true
@@ -103,6 +128,24 @@ module _ {X Y : Type 0} where
     spells_read = both_spells form next law laws;
   }
 
+  seen_spells : (form : Form X) (seen : X → Option Y) (back : Y → X) → IsLawful form
+      → ((x : X) (y : Y) → form.fits x ≡ true → seen x ≡ Some y → back y ≡ x)
+      → (all : List ℕ) (y : Y) (rest : List ℕ) → All IsByte all
+      → (seen_as form seen back).read all ≡ Some (y, rest)
+      → IsSpelled (seen_as form seen back) all y rest
+  seen_spells form seen back law again all y rest h e =
+      let one = then_some (form.read all) (if_seen seen) (y, rest) e in
+      let x = one.0.0 in
+      let behind = one.0.1 in
+      let two = map_some (seen x) (λ (z : Y). (z, behind)) (y, rest) one.2 in
+      let read = law.spells_read all x behind h one.1 in
+      let same = again x two.0 read.fits two.1 in
+      let made : IsSpelled (seen_as form seen back) all two.0 behind = record {
+        parts = read.parts ∙ ap (λ (z : X). form.spell z ++ behind) (sym same);
+        fits = ap form.fits same ∙ read.fits;
+      } in
+      subst (λ (r : Y × List ℕ). IsSpelled (seen_as form seen back) all r.0 r.1) two.2 made
+
   pub seen_lawful : (form : Form X) (seen : X → Option Y) (back : Y → X) → IsLawful form
       → ((y : Y) → form.fits (back y) ≡ true → seen (back y) ≡ Some y)
       → ((x : X) (y : Y) → form.fits x ≡ true → seen x ≡ Some y → back y ≡ x)
@@ -110,38 +153,27 @@ module _ {X Y : Type 0} where
   seen_lawful form seen back law there again = record {
     reads_spelled = λ y rest fits.
         rw (law.reads_spelled (back y) rest fits, there y fits) refl;
-    spells_read = λ all y rest h e.
-        let one = then_some (form.read all) (if_seen seen) (y, rest) e in
-        let x = one.0.0 in
-        let behind = one.0.1 in
-        let two = map_some (seen x) (λ (z : Y). (z, behind)) (y, rest) one.2 in
-        let read = law.spells_read all x behind h one.1 in
-        let same = again x two.0 read.fits two.1 in
-        let made : IsSpelled (seen_as form seen back) all two.0 behind = record {
-          parts = read.parts ∙ ap (λ (z : X). form.spell z ++ behind) (sym same);
-          fits = ap form.fits same ∙ read.fits;
-        } in
-        subst (λ (r : Y × List ℕ). IsSpelled (seen_as form seen back) all r.0 r.1) two.2 made;
+    spells_read = seen_spells form seen back law again;
+  }
+
+  pub seen_tested_lawful : (form : Form X) (seen : X → Option Y) (back : Y → X)
+      (test : Y → Bool) → IsLawful form
+      → ((y : Y) → form.fits (back y) ≡ true → test y ≡ true → seen (back y) ≡ Some y)
+      → ((x : X) (y : Y) → form.fits x ≡ true → seen x ≡ Some y → back y ≡ x)
+      → IsLawful (tested (seen_as form seen back) test)
+  seen_tested_lawful form seen back test law there again = record {
+    reads_spelled = λ y rest fits.
+        let parts = and_parts (form.fits (back y)) (test y) fits in
+        rw (
+          law.reads_spelled (back y) rest parts.0,
+          there y parts.0 parts.1,
+          parts.1,
+        ) refl;
+    spells_read = tested_spells (seen_as form seen back) test
+        (seen_spells form seen back law again);
   }
 
 module _ {X : Type 0} where
-  pub tested_lawful : (form : Form X) (test : X → Bool) → IsLawful form
-      → IsLawful (tested form test)
-  tested_lawful form test law = record {
-    reads_spelled = λ x rest fits.
-        let parts = and_parts (form.fits x) (test x) fits in
-        rw (law.reads_spelled x rest parts.0, parts.1) refl;
-    spells_read = λ all x rest h e.
-        let one = then_some (form.read all) (if_passes test) (x, rest) e in
-        let two = cond_some (test one.0.0) one.0 (x, rest) one.2 in
-        let read = law.spells_read all one.0.0 one.0.1 h one.1 in
-        let made : IsSpelled (tested form test) all one.0.0 one.0.1 = record {
-          parts = read.parts;
-          fits = and_from (form.fits one.0.0) (test one.0.0) read.fits two.0;
-        } in
-        subst (λ (r : X × List ℕ). IsSpelled (tested form test) all r.0 r.1) two.1 made;
-  }
-
   present_reads : (there : Bool) (form : Form X) → IsLawful form → (o : Option X) (rest : List ℕ)
       → fits_where there form o ≡ true
       → (present there form).read (spell_where form o ++ rest) ≡ Some (o, rest)

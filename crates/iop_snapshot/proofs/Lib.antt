@@ -7,3 +7,4 @@ pub mod Listing
 pub mod Saving
 pub mod Restoring
 pub mod Laying
+pub mod Numbers

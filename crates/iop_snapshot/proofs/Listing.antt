@@ -1,8 +1,8 @@
 -- Lists of lawful forms are lawful.
-use Rattle.std.proofs.Common.{◌≡◌, ℕ, zero, suc, ◌^◌, ◌<◌, Bool, true, false, ◌&&◌, ltb, List, [], ◌∷◌, ◌++◌, length, get_or, Some, refl, sym, ap, subst, ◌∙◌, append_assoc, arith}
+use Rattle.std.proofs.Common.{◌≡◌, ℕ, zero, suc, ◌^◌, Bool, true, false, ◌&&◌, ltb, List, [], ◌∷◌, ◌++◌, length, get_or, Some, refl, sym, ap, subst, ◌∙◌, append_assoc, arith}
 use Rattle.std.specs.Prelude.{option_map}
 use Rattle.std.specs.List.{All, list_all, flat_map}
-use Rattle.std.proofs.lemmas.Bool.{ltb-true, lt-ltb, and_parts, and_from}
+use Rattle.std.proofs.lemmas.Bool.{and_parts, and_from}
 use Rattle.std.proofs.lemmas.Option.{same_Some}
 use Rattle.iop_base.specs.Numbers.{IsByte}
 use Rattle.iop_snapshot.specs.Items.{spell_item, fits_item, read_item}
@@ -12,12 +12,11 @@ use Rattle.iop_snapshot.specs.declared.widths.TheConstants.{COUNT}
 use Rattle.iop_snapshot.proofs.Spelling.{read_item-spell_item}
 use Rattle.iop_snapshot.proofs.Combining.{then_some, map_some, item_lawful, bytes_behind, tested_lawful}
 
--- what an item of one number of 4 bytes is
+-- a count is one number
 one_number : (numbers : List ℕ) → fits_item COUNT numbers ≡ true
-    → (numbers ≡ get_or numbers 0 0 ∷ []) × (get_or numbers 0 0 < 2 ^ 32)
+    → numbers ≡ get_or numbers 0 0 ∷ []
 one_number [] fits = absurd cc
-one_number (n ∷ []) fits =
-    (refl, ltb-true n (2 ^ 32) (and_parts (ltb n (2 ^ 32)) true fits).0)
+one_number (n ∷ []) fits = refl
 one_number (n ∷ m ∷ numbers) fits = absurd (never (and_parts (ltb n (2 ^ 32)) false fits).1)
   where
     never : ◌≡◌ {A = Bool} false true → ⊥
@@ -96,11 +95,10 @@ module _ {X : Type 0} (form : Form X) (next : List X → Form X) (s : IsSeries f
       → read_list next (spell_list form xs ++ rest) ≡ Some (xs, rest)
   unfolding read_list spell_list fits_list
   list_read xs rest fits =
-      let parts = and_parts (ltb (length xs) (2 ^ 32)) (fits_items next [] xs) fits in
-      let counted : fits_item COUNT (length xs ∷ []) ≡ true =
-      and_from (ltb (length xs) (2 ^ 32)) true parts.0 refl in
+      let counted = length xs ∷ [] in
+      let parts = and_parts (fits_item COUNT counted) (fits_items next [] xs) fits in
       let items = flat_map form.spell xs in
-      let count = read_item-spell_item COUNT (length xs ∷ []) (items ++ rest) counted in
+      let count = read_item-spell_item COUNT counted (items ++ rest) parts.0 in
       ap (read_list next) (append_assoc (spell_count (length xs)) items rest)
       ∙ rw count (items_read [] xs rest parts.1)
 
@@ -117,13 +115,13 @@ module _ {X : Type 0} (form : Form X) (next : List X → Form X) (s : IsSeries f
       let more = items_spelled [] (get_or numbers 0 0) middle xs rest (bytes_behind h count)
       one.2 in
       let counted : numbers ≡ length xs ∷ [] =
-      alone.0 ∙ ap (λ (n : ℕ). n ∷ []) (sym more.count) in
-      let few = lt-ltb (length xs) (2 ^ 32) (omega (arith, more.count, alone.1)) in
+      alone ∙ ap (λ (n : ℕ). n ∷ []) (sym more.count) in
+      let fits = subst (λ (l : List ℕ). fits_item COUNT l ≡ true) counted count.fits in
       record {
         parts = count.parts ∙ ap (λ (l : List ℕ). spell_item COUNT l ++ middle) counted
             ∙ ap (λ (l : List ℕ). spell_count (length xs) ++ l) more.parts
             ∙ sym (append_assoc (spell_count (length xs)) (flat_map form.spell xs) rest);
-        fits = and_from (ltb (length xs) (2 ^ 32)) (fits_items next [] xs) few more.fits;
+        fits = and_from (fits_item COUNT (length xs ∷ [])) (fits_items next [] xs) fits more.fits;
       }
 
   pub series_lawful : IsLawful (series form next)

@@ -1,25 +1,16 @@
 -- Lists that are written one item after the other.
-use Rattle.std.proofs.Common.{◌≡◌, ℕ, zero, suc, ◌+◌, ◌<◌, ◌≤◌, ◌^◌, true, ◌&&◌, ltb, Some, Result, Ok, Err, List, [], ◌∷◌, ◌++◌, length, drop, refl, ap, subst, ◌∙◌, arith}
-use Rattle.std.specs.Prelude.{slice_get}
+use Rattle.std.proofs.Common.{◌≡◌, ℕ, suc, ◌+◌, ◌-◌, ◌<◌, ◌≤◌, ◌^◌, true, ◌&&◌, ltb, Some, Result, Ok, Err, List, [], ◌∷◌, ◌++◌, length, refl, sym, ap, subst, ◌∙◌, arith}
 use Rattle.std.specs.Result.{IsErr}
 use Rattle.std.specs.List.{list_all, flat_map}
 use Rattle.std.proofs.lemmas.Bool.{and_from, lt-ltb}
-use Rattle.std.proofs.lemmas.List.{drop_all}
 use Rattle.iop_base.specs.declared.write_fault.WriteFault.{WriteFault}
+use Rattle.iop_snapshot.specs.Items.{fits_item}
 use Rattle.iop_snapshot.specs.Writing.{Place, Writes}
 use Rattle.iop_snapshot.specs.Forms.{Form, fits_items, fits_list, spell_count, spell_list}
+use Rattle.iop_snapshot.specs.declared.widths.TheConstants.{COUNT}
 use Rattle.iop_snapshot.proofs.Sending.{Continues, continues_first, continues_then, continues_exit, continues_last}
 
 module _ {X : Type 0} where
-  pub item_at : (xs : List X) (k : ℕ) → k < length xs
-      → (x : X) × (slice_get xs k ≡ Some x) × (drop k xs ≡ x ∷ drop (k + 1) xs)
-  item_at [] k inside = absurd (omega arith)
-  item_at (x ∷ xs) zero inside = (x, refl, refl)
-  item_at (x ∷ xs) (suc k) inside =
-      let there = item_at xs k (omega arith) in
-      let next : suc k + 1 ≡ suc (k + 1) = omega arith in
-      (there.0, there.1, rw next there.2)
-
   pub plain_fits : (form : Form X) (before xs : List X)
       → fits_items (λ _. form) before xs ≡ list_all form.fits xs
   unfolding fits_items
@@ -27,67 +18,92 @@ module _ {X : Type 0} where
   plain_fits form before (x ∷ xs) =
       ap (λ b. form.fits x && b) (plain_fits form (before ++ x ∷ []) xs)
 
-  -- so many items are written, and have spellings
-  pub record Saved (form : Form X) (xs : List X) (k : ℕ) (p q : Place) : Type 0 where
-    pub goes_on : Continues (spell_list form xs) (flat_map form.spell (drop k xs)) p q
-    pub fit : list_all form.fits (drop k xs) ≡ true → list_all form.fits xs ≡ true
+  -- so many items are still to be written, which are these; those before them have spellings
+  pub record Saved (form : Form X) (xs : List X) (ahead : List X → Type 0) (n : ℕ) (p q : Place)
+      : Type 0 where
+    pub rest : List X
+    pub there : ahead rest
+    pub count : length rest ≡ n
+    pub goes_on : Continues (spell_list form xs) (flat_map form.spell rest) p q
+    pub fit : list_all form.fits rest ≡ true → list_all form.fits xs ≡ true
 
-  pub saved_none : (form : Form X) (xs : List X) (n : ℕ) (p q : Place) (u : Unit {0})
-      → n ≡ length xs → Writes (Ok u) (spell_count n) p q → Saved form xs 0 p q
+  pub saved_none : (form : Form X) (xs : List X) (ahead : List X → Type 0) (n : ℕ)
+      (p q : Place) (u : Unit {0}) → ahead xs → length xs ≡ n → Writes (Ok u) (spell_count n) p q
+      → Saved form xs ahead (n - 0) p q
   unfolding spell_list
-  saved_none form xs n p q u e w = record {
+  saved_none form xs ahead n p q u h e w = record {
+    rest = xs;
+    there = h;
+    count = omega (arith, e);
     goes_on = continues_then (continues_first (spell_list form xs) p)
-        (subst (λ m. Writes (Ok u) (spell_count m) p q) e w);
+        (subst (λ m. Writes (Ok u) (spell_count m) p q) (sym e) w);
     fit = λ h. h;
   }
 
-  pub saved_more : (form : Form X) (xs : List X) (k : ℕ) (p q s : Place) (u : Unit {0})
-      → k < length xs → Saved form xs k p q
-      → ((x : X) → slice_get xs k ≡ Some x → Writes (Ok u) (form.spell x) q s)
-      → ((x : X) → slice_get xs k ≡ Some x → form.fits x ≡ true) → Saved form xs (k + 1) p s
-  saved_more form xs k p q s u inside h writes fits =
-      let there = item_at xs k inside in
-      let x = there.0 in
-      let left = drop (k + 1) xs in
-      let goes_on = subst
-      (λ (ys : List X). Continues (spell_list form xs) (flat_map form.spell ys) p q) there.2
-      h.goes_on in
-      let fit = subst
-      (λ (ys : List X). list_all form.fits ys ≡ true → list_all form.fits xs ≡ true) there.2
-      h.fit in
-      record {
-        goes_on = continues_then goes_on (writes x there.1);
-        fit = λ rest. fit (and_from (form.fits x) (list_all form.fits left) (fits x there.1) rest);
-      }
+  -- what is written of the first of some items, and what is ahead then
+  abbrev IsNext : (List X → Type 0) → (X → List X → Type 0) → Type 0
+  IsNext ahead Holds = (x : X) (rest : List X) → ahead (x ∷ rest) → Holds x rest
 
-  pub saved_short : (form : Form X) (xs : List X) (k : ℕ) (p q s : Place)
-      (r : Result Unit WriteFault) (f : WriteFault) → k < length xs → IsErr r
-      → Saved form xs k p q → ((x : X) → slice_get xs k ≡ Some x → Writes (Err f) (form.spell x) q s)
+  pub saved_more : (form : Form X) (xs : List X) (old new : List X → Type 0) (n i : ℕ)
+      (p q s : Place) (u : Unit {0}) → i < n → Saved form xs old (n - i) p q
+      → IsNext old (λ x rest. Writes (Ok u) (form.spell x) q s)
+      → IsNext old (λ x rest. new rest × (form.fits x ≡ true))
+      → Saved form xs new (n - (i + 1)) p s
+  saved_more form xs old new n i p q s u inside h writes next =
+      more h.rest h.there h.count h.goes_on h.fit
+    where
+      more : (rest : List X) → old rest → length rest ≡ n - i
+          → Continues (spell_list form xs) (flat_map form.spell rest) p q
+          → (list_all form.fits rest ≡ true → list_all form.fits xs ≡ true)
+          → Saved form xs new (n - (i + 1)) p s
+      more [] there count goes_on fit = absurd (omega (arith, inside, count))
+      more (x ∷ rest) there count goes_on fit =
+          let left = next x rest there in record {
+            rest = rest;
+            there = left.0;
+            count = omega (arith, count);
+            goes_on = continues_then goes_on (writes x rest there);
+            fit = λ all. fit (and_from (form.fits x) (list_all form.fits rest) left.1 all);
+          }
+
+  pub saved_short : (form : Form X) (xs : List X) (old : List X → Type 0) (n i : ℕ)
+      (p q s : Place) (r : Result Unit WriteFault) (f : WriteFault) → i < n → IsErr r
+      → Saved form xs old (n - i) p q → IsNext old (λ x rest. Writes (Err f) (form.spell x) q s)
       → Writes r (spell_list form xs) p s
-  saved_short form xs k p q s r f inside failed h writes =
-      let there = item_at xs k inside in
-      let goes_on = subst
-      (λ (ys : List X). Continues (spell_list form xs) (flat_map form.spell ys) p q) there.2
-      h.goes_on in
-      continues_exit r (flat_map form.spell (drop (k + 1) xs)) failed goes_on
-      (writes there.0 there.1)
+  saved_short form xs old n i p q s r f inside failed h writes =
+      short h.rest h.there h.count h.goes_on
+    where
+      short : (rest : List X) → old rest → length rest ≡ n - i
+          → Continues (spell_list form xs) (flat_map form.spell rest) p q
+          → Writes r (spell_list form xs) p s
+      short [] there count goes_on = absurd (omega (arith, inside, count))
+      short (x ∷ rest) there count goes_on =
+          continues_exit r (flat_map form.spell rest) failed goes_on (writes x rest there)
 
-  pub saved_all : (form : Form X) (xs : List X) (k : ℕ) (p q : Place) → length xs ≤ k
-      → length xs < 2 ^ 32 → Saved form xs k p q
+  pub saved_all : (form : Form X) (xs : List X) (ahead : List X → Type 0) (n i : ℕ)
+      (p q : Place) → n ≤ i → length xs < 2 ^ 32 → Saved form xs ahead (n - i) p q
       → Writes (Ok tt) (spell_list form xs) p q × (fits_list (λ _. form) xs ≡ true)
   unfolding fits_list
-  saved_all form xs k p q past few h =
-      let none = drop_all k xs past in
-      let fit = h.fit (ap (list_all form.fits) none) in (
-        continues_last h.goes_on (ap (flat_map form.spell) none),
-        and_from (ltb (length xs) (2 ^ 32)) (fits_items (λ _. form) [] xs)
-            (lt-ltb (length xs) (2 ^ 32) few) (plain_fits form [] xs ∙ fit),
+  saved_all form xs ahead n i p q past few h = all h.rest h.count h.goes_on h.fit
+    where
+      counted : fits_item COUNT (length xs ∷ []) ≡ true
+      counted = and_from (ltb (length xs) (2 ^ 32)) true (lt-ltb (length xs) (2 ^ 32) few) refl
+
+      all : (rest : List X) → length rest ≡ n - i
+          → Continues (spell_list form xs) (flat_map form.spell rest) p q
+          → (list_all form.fits rest ≡ true → list_all form.fits xs ≡ true)
+          → Writes (Ok tt) (spell_list form xs) p q × (fits_list (λ _. form) xs ≡ true)
+      all [] count goes_on fit = (
+        continues_last goes_on refl,
+        and_from (fits_item COUNT (length xs ∷ [])) (fits_items (λ _. form) [] xs) counted
+            (plain_fits form [] xs ∙ fit refl),
       )
+      all (x ∷ rest) count goes_on fit = absurd (omega (arith, past, count))
 
   pub count_short : (form : Form X) (xs : List X) (n : ℕ) (p q : Place)
-      (r : Result Unit WriteFault) (f : WriteFault) → IsErr r → n ≡ length xs
+      (r : Result Unit WriteFault) (f : WriteFault) → IsErr r → length xs ≡ n
       → Writes (Err f) (spell_count n) p q → Writes r (spell_list form xs) p q
   unfolding spell_list
   count_short form xs n p q r f failed e w =
       continues_exit r (flat_map form.spell xs) failed (continues_first (spell_list form xs) p)
-      (subst (λ m. Writes (Err f) (spell_count m) p q) e w)
+      (subst (λ m. Writes (Err f) (spell_count m) p q) (sym e) w)

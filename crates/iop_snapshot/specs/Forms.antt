@@ -1,6 +1,6 @@
 -- Forms: how the values of a type are spelled in bytes and read back, and how forms are made of
 -- others. This project's own profile.
-use Rattle.std.specs.Prelude.{ℕ, zero, suc, ◌≡◌, ◌^◌, nat_lt, Bool, true, not, ◌==◌, ◌&&◌, if◌then◌else◌, Option, Some, None, option_map, option_and_then, All, List, [], ◌∷◌, ◌++◌, length, slice_index}
+use Rattle.std.specs.Prelude.{ℕ, zero, suc, ◌≡◌, Bool, true, not, ◌==◌, ◌&&◌, if◌then◌else◌, Option, Some, None, option_map, option_and_then, All, List, [], ◌∷◌, ◌++◌, length, slice_index}
 use Rattle.std.specs.List.{list_all, flat_map}
 use Rattle.iop_base.specs.Numbers.{IsByte}
 use Rattle.iop_snapshot.specs.Items.{spell_item, fits_item, read_item, read_bytes}
@@ -123,7 +123,7 @@ module _ {X : Type 0} where
 
   -- a list: how many items it has, and the items
   unfoldable pub fits_list : (List X → Form X) → List X → Bool
-  fits_list next xs = nat_lt (length xs) (2 ^ 32) && fits_items next [] xs
+  fits_list next xs = fits_item COUNT (length xs ∷ []) && fits_items next [] xs
 
   unfoldable pub spell_list : Form X → List X → List ℕ
   spell_list form xs = spell_count (length xs) ++ flat_map form.spell xs

@@ -21,6 +21,14 @@ SeenIsLawful X Y =
     → ((x : X) (y : Y) → form.fits x ≡ true → seen x ≡ Some y → back y ≡ x)
     → IsLawful (seen_as form seen back)
 
+-- the same of the values that pass a test, where those alone are seen as themselves
+abbrev pub SeenTestedIsLawful : (X Y : Type 0) → Type 0
+SeenTestedIsLawful X Y =
+    (form : Form X) (seen : X → Option Y) (back : Y → X) (test : Y → Bool) → IsLawful form
+    → ((y : Y) → form.fits (back y) ≡ true → test y ≡ true → seen (back y) ≡ Some y)
+    → ((x : X) (y : Y) → form.fits x ≡ true → seen x ≡ Some y → back y ≡ x)
+    → IsLawful (tested (seen_as form seen back) test)
+
 abbrev pub TestedIsLawful : (X : Type 0) → Type 0
 TestedIsLawful X = (form : Form X) (test : X → Bool) → IsLawful form → IsLawful (tested form test)
 

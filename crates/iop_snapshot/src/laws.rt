@@ -1,7 +1,7 @@
 //! Laws of forms: to spell and to read are inverse, and each way of making a form of others keeps
 //! this; and which bytes stand where. Each is the contract of a function that does nothing.
 
-ghost use Rattle.iop_snapshot.specs.Laws.{ItemsAreLawful, BothIsLawful, SeenIsLawful, TestedIsLawful, PresentIsLawful, SeriesIsLawful, FollowingIsSeries, NoneBeginsAnother, WholeIsExact};
+ghost use Rattle.iop_snapshot.specs.Laws.{ItemsAreLawful, BothIsLawful, SeenIsLawful, SeenTestedIsLawful, TestedIsLawful, PresentIsLawful, SeriesIsLawful, FollowingIsSeries, NoneBeginsAnother, WholeIsExact};
 ghost use Rattle.iop_snapshot.specs.Layout.{ItemsAreLaid, ListsBeginWithCount, RepeatedIsLawful};
 
 /// Items, and so many bytes, are read as they were spelled.
@@ -17,6 +17,11 @@ pub fn both_is_lawful<X, Y>()
 /// A value that is seen as one of another type, and goes back.
 pub fn seen_is_lawful<X, Y>()
     ensures { SeenIsLawful X Y }
+{}
+
+/// A value that passes a test, where such a one is seen as one of another type, and goes back.
+pub fn seen_tested_is_lawful<X, Y>()
+    ensures { SeenTestedIsLawful X Y }
 {}
 
 /// The values that pass a test.

@@ -5,12 +5,12 @@ mod decoder;
 mod encoder;
 mod fault;
 pub mod laws;
-mod listed;
-mod lists;
+mod restore;
+mod save;
 pub mod widths;
 
 pub use decoder::Decoder;
 pub use encoder::Encoder;
 pub use fault::SnapFault;
-pub use listed::{Listed, Takes};
-pub use lists::{restore_list, save_list};
+pub use restore::{RestoreItems, restore_list};
+pub use save::{SaveItems, save_list};

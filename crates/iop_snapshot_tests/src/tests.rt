@@ -3,10 +3,10 @@ ghost use Rattle.iop_ports.specs.Sinks.{Sends};
 ghost use Rattle.iop_snapshot.specs.Items.{spell_item};
 ghost use Rattle.iop_snapshot.specs.Writing.{place_of, Writes};
 
-use crate::words::Words;
+use crate::words::{Words, save_words};
 use iop_base::WriteFault;
 use iop_ports::{MemSink, Sink, TrickleSink};
-use iop_snapshot::{Decoder, Encoder, SnapFault, restore_list, save_list};
+use iop_snapshot::{Decoder, Encoder, SnapFault, restore_list};
 use std::alloc::{AllocError, Global};
 use std::process::Abort;
 use std::test::Fail;
@@ -130,10 +130,7 @@ fn lists_are_written_and_read_back(rt: HostRuntime) -> Result<(), Fail> {
     );
     let mut sink = MemSink::new(alloc, 12, Vec::new(alloc))?;
     let mut encoder = Encoder::new(&mut sink);
-    assert_eq!(rt;
-        save_list::<u32, Words, MemSink>(&words, &mut encoder),
-        Ok(())
-    );
+    assert_eq!(rt; save_words(&words, &mut encoder), Ok(()));
     assert_eq!(rt; sink.bytes(), TWO_WORDS.as_slice());
     Ok(())
 }

@@ -8,7 +8,7 @@ ghost use Rattle.iop_snapshot_tests.specs.Words.{word_form, next_word, grown_non
 use iop_base::WriteFault;
 use iop_ports::Sink;
 use iop_snapshot::widths::COUNT;
-use iop_snapshot::{Decoder, Encoder, Listed, SnapFault, Takes};
+use iop_snapshot::{Decoder, Encoder, RestoreItems, SaveItems, SnapFault, save_list};
 use std::alloc::{AllocError, Global};
 use std::marker::Model;
 
@@ -65,6 +65,15 @@ impl Words {
     }
 }
 
+/// Writes a list of words.
+pub fn save_words<S: Sink>(words: &Words, encoder: &mut Encoder<'_, S>) -> Result<(), WriteFault> {
+    let count = words.words.len() as u32;
+    let mut unwritten = Unwritten {
+        words: &words.words,
+    };
+    save_list::<u32, Unwritten<'_>, S>(count, &mut unwritten, encoder)
+}
+
 #[tactic(auto, unfolding(iop_snapshot::specs::Forms::item))]
 fn save_word<S: Sink>(word: u32, encoder: &mut Encoder<'_, S>) -> Result<(), WriteFault>
     ensures written { Writes result (word_form.spell word) (place_of S.told encoder.old)
@@ -92,35 +101,35 @@ fn take_word(words: &mut Words, decoder: &mut Decoder<'_>) -> Result<(), SnapFau
     Ok(())
 }
 
-impl Listed<u32> for Words {
-    ghost lists = { λ words xs. words ≡ xs };
+/// The words of a list that are still to be written.
+#[derive(Drop)]
+pub struct Unwritten<'a> {
+    words: &'a [u32],
+}
+
+impl SaveItems<u32> for Unwritten<'_> {
+    ghost ahead = { λ unwritten xs. unwritten.words.now ≡ xs };
 
     ghost form = { word_form };
 
-    fn len(&self) -> usize {
-        self.words.len()
-    }
-
-    fn save_at<S: Sink>(
-        &self,
-        place: usize,
-        encoder: &mut Encoder<'_, S>,
-    ) -> Result<(), WriteFault> {
-        match self.nth(place) {
-            None => Ok(()),
-            Some(word) => save_word(word, encoder),
-        }
+    fn save_next<S: Sink>(&mut self, encoder: &mut Encoder<'_, S>) -> Result<(), WriteFault> {
+        let Some((word, rest)) = self.words.split_first() else {
+            return Ok(());
+        };
+        save_word(*word, encoder)?;
+        self.words = rest;
+        Ok(())
     }
 }
 
-impl Takes<u32> for Words {
+impl RestoreItems<u32> for Words {
     ghost starts = { λ _. Unit {0} };
 
     ghost grows = { λ base now xs. now ≡ base ++ xs };
 
     ghost next_form = { λ base xs. next_word (base ++ xs) };
 
-    fn take_next(&mut self, decoder: &mut Decoder<'_>) -> Result<(), SnapFault> {
+    fn restore_next(&mut self, decoder: &mut Decoder<'_>) -> Result<(), SnapFault> {
         take_word(self, decoder)
     }
 

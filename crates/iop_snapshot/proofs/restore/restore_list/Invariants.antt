@@ -1,10 +1,10 @@
 use Rattle.std.proofs.Common.{◌-◌}
 use Rattle.iop_snapshot.specs.Forms.{read_list}
 use Rattle.iop_snapshot.proofs.Restoring.{Restored}
-use Rattle.iop_snapshot.proofs.lists.restore_list.Given as goal
+use Rattle.iop_snapshot.proofs.restore.restore_list.Given as goal
 
 abbrev pub invariant-loop : goal.invariant-loop
 invariant-loop g l =
-    let next = g.T.Takes.next_form l.fn.table in
-    Restored next (g.T.Takes.grows l.fn.table l.table) (l.end - l.counter) l.decoder
+    let next = g.T.RestoreItems.next_form l.fn.table in
+    Restored next (g.T.RestoreItems.grows l.fn.table l.table) (l.end - l.counter) l.decoder
     (read_list next l.fn.decoder)
