@@ -166,11 +166,11 @@ module _ (kind : Kind) (s : Table kind) {old : ThreadTable} (h : AreWaited kind 
       cond_both (has_room s) _ _ (λ (r : Result ℕ Code × Table kind). AreWaited kind r.1 old)
       (λ room.
       let (place, left) = and_parts (ltb (length s.live) MOST_OBJECTS) (leb s.next LAST_ID) room in
+      let one = makes_one made s h.sound refl (ltb-true _ _ place) (leb-true _ _ left) in
       record {
         waiters = λ id t. ap (times_in t) (waiters_added s.live made refl id) ∙ h.waiters id t;
         priorities = λ id. subst (All (HasItsPriority old))
             (sym (waiters_added s.live made refl id)) (h.priorities id);
-        sound = (makes_one made s h.sound refl (ltb-true _ _ place) (leb-true _ _ left)).change
-            .sound;
+        sound = one.change.sound;
       })
       (λ full. h)
