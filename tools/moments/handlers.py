@@ -1,6 +1,7 @@
 """The watcher: the instructions of a module, and of the handlers that it leaves.
 
-It is no part of the run, and stands before it. It copies its handler to where nothing stands, and is removed."""
+It is no part of the run, and stands before it. It copies its handler to where nothing stands, and is removed.
+"""
 
 from typing import NamedTuple
 

@@ -28,24 +28,21 @@ def fail(text):
     sys.exit(f"when: {text}")
 
 
-def output_of(program, *words):
-    """What a program writes, which has to end well."""
-    made = made_by(program, *words)
-    if made.returncode != 0:
-        fail(last_line(made.stderr.decode(errors="replace")) or f"{program} ended with {made.returncode}")
-    return made.stdout.decode(errors="replace")
-
-
-def made_by(program, *words):
+def made_by(program, words, stderr=None):
     """What comes of a program with these words."""
     try:
-        return subprocess.run([program, *words], stdin=subprocess.DEVNULL, capture_output=True, check=False)
+        return subprocess.run([program, *words], stdin=subprocess.DEVNULL, stdout=subprocess.PIPE, stderr=stderr,
+                              check=False)
     except OSError as error:
         fail(f"cannot run {program}: {error.strerror}")
 
 
-def last_line(text):
-    return text.strip().rpartition("\n")[2]
+def output_of(program, *words):
+    """What a program writes, which has to end well."""
+    made = made_by(program, words)
+    if made.returncode != 0:
+        fail(f"{program} ended with {made.returncode}")
+    return made.stdout.decode(errors="replace")
 
 
 def tick_of(line):
@@ -116,11 +113,13 @@ class Run:
 
     def run_to_end(self, words, number=None):
         """The moment at the end of a run with these words."""
-        made = made_by(self.program, *words)
-        lines = made.stderr.decode(errors="replace").splitlines()
+        made = made_by(self.program, words, subprocess.PIPE)
+        written = made.stderr.decode(errors="replace").splitlines()
+        # (where the program is built first it tells of its progress)
+        lines = [line for line in written if not line.startswith("iop: ")]
         at = next((n for n, line in enumerate(lines) if re.match(r"\d+ end ", line)), None)
         if at is None:
-            fail(lines[-1] if lines else f"the program ended with {made.returncode}")
+            fail(written[-1] if written else f"{self.program} ended with {made.returncode}")
         tick, _, ended = lines[at].split(" ", 2)
         dump = bytes.fromhex("".join(line.split(": ")[1] for line in lines[at + 1:]))
         return Moment(number, int(tick), lines[:at] if ended == "budget" else lines[:at + 1], made.stdout, ended, dump)
