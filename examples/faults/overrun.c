@@ -34,7 +34,7 @@ static void keeps(void *argument)
     (void)argument;
     DelayThread(1000);
     printf("slept\n");
-    sleeps++;
+    sleeps++; /* so that `keeps` returns by itself: gcc makes a jump of a call that comes last */
 }
 
 int _start(void)
