@@ -26,6 +26,7 @@ class Searches:
         self.run, self.watcher = run, watcher
 
     def next_at(self, moment):
+        """The instruction that is next, by a watcher, or else by what was next before."""
         start = start_of(moment)
         address = self.watcher.next_address(start)
         if address is not None:
