@@ -2,7 +2,7 @@
 -- change.
 use Rattle.std.proofs.Common.{◌≡◌, ◌≢◌, ℕ, ◌<◌, Bool, true, false, cond, not, Option, Some, None, option_map, List, [], ◌∷◌, ◌++◌, length, refl, ap, sym, ◌∙◌, arith, subst, nat_lt, IfSome}
 use Rattle.std.specs.Prelude.{◌==◌}
-use Rattle.std.specs.List.{All, find, filter}
+use Rattle.std.specs.List.{All, find, filter, slice_get}
 use Rattle.std.proofs.lemmas.Bool.Decides.{nat_tests}
 use Rattle.std.proofs.lemmas.List.Elements.{All-nil, All-cons, All-head, All-tail, All-push, All-filter, All-weaker, filter-append, filter_passes}
 use Rattle.std.proofs.lemmas.List.Kept.{AllPairs-filter, AllPairs-cons}
@@ -11,9 +11,10 @@ use Rattle.iop_base.specs.Choosing.{better}
 use Rattle.iop_ready.specs.declared.entry.Entry.{Entry}
 use Rattle.iop_ready.specs.declared.slot.TheConstants.{MOST_THREADS}
 use Rattle.iop_ready.specs.Priorities.{IsPriority}
-use Rattle.iop_ready.specs.ReadyList.{CanEnter, entry_of, HasNot, without, of_priority, first_of, moved_last, rotated, best_of, best_slot, IsReadyList, StandsFor}
+use Rattle.iop_ready.specs.ReadyList.{CanEnter, entry_of, HasNot, is_listed, slot_at, without, of_priority, first_of, moved_last, rotated, best_of, best_slot, IsReadyList, StandsFor}
 use Rattle.iop_ready.specs.Laws.{Agree}
 use Rattle.iop_ready.proofs.Lists.{find-filter, filter-swap, IfSome-find, length-le_from_distinct}
+use Rattle.iop_ready.proofs.Listing.{listed-has_not, has_not-listed}
 
 abbrev IsApart : Entry → Entry → Type 0
 IsApart x y = x.slot ≢ y.slot
@@ -50,6 +51,27 @@ stands_itself h = record { same = λ p. refl; left = h; right = h }
 
 pub stands_back : {xs ys : List Entry} → StandsFor xs ys → StandsFor ys xs
 stands_back h = record { same = λ p. sym (h.same p); left = h.right; right = h.left }
+
+-- a thread is in both or in neither
+pub listed-stands : {xs ys : List Entry} (slot : ℕ) → StandsFor xs ys
+    → is_listed slot xs ≡ is_listed slot ys
+listed-stands {xs} {ys} slot h = by (is_listed slot xs) refl (is_listed slot ys) refl
+  where
+    by : (a : Bool) → is_listed slot xs ≡ a → (b : Bool) → is_listed slot ys ≡ b → a ≡ b
+    by true here true there = refl
+    by false here false there = refl
+    by true here false there =
+        let none = listed-has_not slot xs
+        (has_not-stands slot (stands_back h) (has_not-listed slot ys there)) in
+        cc
+    by false here true there =
+        let none = listed-has_not slot ys (has_not-stands slot h (has_not-listed slot xs here)) in
+        cc
+
+pub slot_at-stands : {xs ys : List Entry} (p place : ℕ) → StandsFor xs ys
+    → slot_at p place xs ≡ slot_at p place ys
+slot_at-stands p place h =
+    ap (λ zs. option_map (λ (e : Entry). e.slot) (slice_get zs place)) (h.same p)
 
 can_enter_other : {e : Entry} {xs ys : List Entry} → StandsFor xs ys → CanEnter e xs → CanEnter e ys
 can_enter_other {e} h can = record {
@@ -246,6 +268,8 @@ best_slot-stands {xs} {ys} h = ap (option_map (λ e. e.slot)) (best_stands xs ys
 pub agree : (xs ys : List Entry) → StandsFor xs ys → Agree xs ys
 agree xs ys h = record {
   best = best_slot-stands h;
+  contains = λ slot. listed-stands slot h;
+  at = λ p place. slot_at-stands p place h;
   remove = λ slot. stands_without slot h;
   rotate = λ p. stands_rotated p h;
   add_last = λ e can. stands_last e h can;

@@ -1,4 +1,5 @@
 pub mod Lists
+pub mod Listing
 pub mod Agreeing
 pub mod Searching
 pub mod PrioritySets
@@ -6,3 +7,4 @@ pub mod Slots
 pub mod Holding
 pub mod Filling
 pub mod BestQueue
+pub mod QueuePlaces

@@ -1,12 +1,14 @@
 -- What the law of the ready lists says.
 use Rattle.std.specs.Prelude.{◌≡◌, ℕ, List, [], ◌∷◌, ◌++◌}
 use Rattle.iop_ready.specs.declared.entry.Entry.{Entry}
-use Rattle.iop_ready.specs.ReadyList.{CanEnter, without, rotated, best_slot, StandsFor}
+use Rattle.iop_ready.specs.ReadyList.{CanEnter, is_listed, slot_at, without, rotated, best_slot, StandsFor}
 use Rattle.iop_ready.specs.Queues.{Queues, Hold}
 
 -- what two lists that stand for one another have in common, and that every change keeps
 pub record Agree (xs ys : List Entry) : Type 0 where
   pub best : best_slot xs ≡ best_slot ys
+  pub contains : (slot : ℕ) → is_listed slot xs ≡ is_listed slot ys
+  pub at : (priority place : ℕ) → slot_at priority place xs ≡ slot_at priority place ys
   pub remove : (slot : ℕ) → StandsFor (without slot xs) (without slot ys)
   pub rotate : (priority : ℕ) → StandsFor (rotated priority xs) (rotated priority ys)
   pub add_last : (e : Entry) → CanEnter e xs → StandsFor (xs ++ e ∷ []) (ys ++ e ∷ [])

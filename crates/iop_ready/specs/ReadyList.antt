@@ -1,6 +1,7 @@
 -- The list of ready threads, in order of their arrival (ps2sdk: thbase). That the best is the first
 -- in it among those of the least priority number is this project's own profile.
-use Rattle.std.specs.Prelude.{◌≡◌, ◌≢◌, ℕ, ◌<◌, ◌==◌, not, option_map, Option, Some, None, List, [], ◌∷◌, ◌++◌, find, filter, All, AllPairs}
+use Rattle.std.specs.Prelude.{◌≡◌, ◌≢◌, ℕ, ◌<◌, ◌==◌, Bool, not, option_map, Option, Some, None, List, [], ◌∷◌, ◌++◌, find, filter, slice_get, All, AllPairs}
+use Rattle.std.specs.List.{list_any}
 use Rattle.iop_base.specs.Choosing.{better, best}
 use Rattle.iop_ready.specs.declared.slot.TheConstants.{MOST_THREADS}
 use Rattle.iop_ready.specs.declared.entry.Entry.{Entry}
@@ -20,6 +21,10 @@ pub record CanEnter (e : Entry) (xs : List Entry) : Type 0 where
   pub priority : IsPriority e.priority
   pub absent : HasNot e.slot xs
 
+-- whether the thread of a slot is in the list
+abbrev pub is_listed : ℕ → List Entry → Bool
+is_listed slot xs = list_any (λ e. e.slot == slot) xs
+
 -- the list without the thread of a slot
 abbrev pub without : ℕ → List Entry → List Entry
 without slot xs = filter (λ e. not (e.slot == slot)) xs
@@ -27,6 +32,10 @@ without slot xs = filter (λ e. not (e.slot == slot)) xs
 -- the threads of a priority, in order
 abbrev pub of_priority : ℕ → List Entry → List Entry
 of_priority priority xs = filter (λ e. e.priority == priority) xs
+
+-- the slot of the thread at a place among those of a priority, in order of their arrival
+abbrev pub slot_at : (priority place : ℕ) → List Entry → Option ℕ
+slot_at priority place xs = option_map (λ e. e.slot) (slice_get (of_priority priority xs) place)
 
 -- the first thread of a priority
 abbrev pub first_of : ℕ → List Entry → Option Entry

@@ -1,5 +1,5 @@
-ghost use Rattle.std.specs.Prelude.{◌≡◌, [], IfOk};
-ghost use Rattle.iop_ready.specs.ReadyList.{first_of, best_of, with_later, StandsFor};
+ghost use Rattle.std.specs.Prelude.{◌≡◌, [], IfOk, slice_get};
+ghost use Rattle.iop_ready.specs.ReadyList.{is_listed, of_priority, first_of, best_of, with_later, StandsFor};
 
 use crate::entry::Entry;
 use crate::priority::Priority;
@@ -65,9 +65,35 @@ impl Ready for PlainReady {
         }
     }
 
+    fn contains(&self, slot: Slot) -> bool {
+        is_listed(&self.entries, slot)
+    }
+
+    fn at(&self, priority: Priority, place: usize) -> Option<Slot> {
+        entry_at(&self.entries, priority, place).map(|entry| entry.slot)
+    }
+
     fn best(&self) -> Option<Slot> {
         best_of(&self.entries).map(|entry| entry.slot)
     }
+}
+
+/// Says whether the thread of a slot is among the entries.
+fn is_listed(entries: &[Entry], slot: Slot) -> bool
+    ensures { result ≡ is_listed slot entries.now }
+{
+    entries.iter().any(|entry| entry.slot == slot)
+}
+
+/// Finds the thread at a place among those of a priority.
+fn entry_at(entries: &[Entry], priority: Priority, place: usize) -> Option<Entry>
+    ensures { result ≡ slice_get (of_priority priority entries.now) place }
+{
+    entries
+        .iter()
+        .filter(|entry| entry.priority == priority)
+        .nth(place)
+        .copied()
 }
 
 /// Finds the first thread of a priority.

@@ -1,4 +1,5 @@
-ghost use Rattle.std.specs.Prelude.{◌≡◌, ◌+◌, ◌<◌, List, [], IfOk, length};
+ghost use Rattle.std.specs.Prelude.{◌≡◌, ◌+◌, ◌<◌, List, [], IfOk, IfSome, length, slice_get};
+ghost use Rattle.iop_cblock.specs.Lists.{AreDisjoint, list_at};
 ghost use Rattle.iop_ready.specs.declared.entry.Entry.{Entry};
 ghost use Rattle.iop_ready.specs.declared.priority.TheConstants.{LOWEST_PRIORITY};
 ghost use Rattle.iop_ready.specs.declared.slot.TheConstants.{MOST_THREADS};
@@ -109,9 +110,32 @@ impl Ready for QueueReady {
         }
     }
 
+    fn contains(&self, slot: Slot) -> bool {
+        self.queues.list_of(slot.number().into()).is_some()
+    }
+
+    fn at(&self, priority: Priority, place: usize) -> Option<Slot> {
+        let node = node_at(&self.queues, queue_of(priority), place)?;
+        Some(Slot::new(node as u8))
+    }
+
     fn best(&self) -> Option<Slot> {
         self.first_of(self.filled.best()?)
     }
+}
+
+/// Finds the node at a place of a list. None exactly where so many or fewer nodes stand in it.
+fn node_at(queues: &Arena, list: u32, place: usize) -> Option<u32>
+    requires list { list < length queues.now.lists }
+    requires disjoint { AreDisjoint queues.now }
+    ensures node { result ≡ slice_get (list_at list queues.now) place }
+    ensures below { IfSome result (λ node. node < queues.now.nodes) }
+{
+    let mut node = queues.first(list)?;
+    for _ in 0..place {
+        node = queues.next(node)?;
+    }
+    Some(node)
 }
 
 /// Gives the list that is the queue of a priority.

@@ -1,6 +1,6 @@
 ghost use Rattle.std.specs.Prelude.{◌≡◌, ℕ, List, [], ◌∷◌, ◌++◌};
 ghost use Rattle.iop_ready.specs.declared.entry.Entry.{Entry};
-ghost use Rattle.iop_ready.specs.ReadyList.{entry_of, HasNot, IsReadyList, without, rotated, best_slot};
+ghost use Rattle.iop_ready.specs.ReadyList.{entry_of, HasNot, IsReadyList, is_listed, slot_at, without, rotated, best_slot};
 
 use crate::priority::Priority;
 use crate::slot::Slot;
@@ -32,6 +32,15 @@ pub trait Ready {
     /// Moves the first thread of a priority behind all others, if there is one.
     fn rotate(&mut self, priority: Priority)
         ensures { (xs : List Entry) → stands self.old xs → stands self.new (rotated priority xs) };
+
+    /// Says whether a thread is in the list.
+    fn contains(&self, slot: Slot) -> bool
+        ensures { (xs : List Entry) → stands self.now xs → result ≡ is_listed slot xs };
+
+    /// Finds the slot of the thread at a place among those of a priority, in order of arrival. None
+    /// exactly where so many or fewer of the priority are ready.
+    fn at(&self, priority: Priority, place: usize) -> Option<Slot>
+        ensures { (xs : List Entry) → stands self.now xs → result ≡ slot_at priority place xs };
 
     /// Finds the slot of the first thread of the best priority. None exactly where none is ready.
     fn best(&self) -> Option<Slot>

@@ -47,6 +47,39 @@ fn tell_the_best<R: Ready>(rt: &impl Abort, ready: &mut R)
     }
 }
 
+/// Compares who is in a list, in which none is yet, and who stands at each place of a priority.
+fn tell_the_places<R: Ready>(rt: &impl Abort, ready: &mut R)
+    requires { R.stands ready.old [] }
+{
+    add_three(ready);
+    for (slot, listed) in [(3, true), (4, true), (5, true), (6, false)] {
+        assert_eq!(rt; ready.contains(Slot::new(slot)), listed);
+    }
+    let rows = [
+        (Priority::new(20), 0, Some(3)),
+        (Priority::new(20), 1, Some(4)),
+        (Priority::new(20), 2, None),
+        (Priority::new(10), 0, Some(5)),
+        (Priority::new(10), 1, None),
+        (Priority::new(11), 0, None),
+    ];
+    for (priority, place, slot) in rows {
+        assert_eq!(rt; ready.at(priority, place).map(|slot| slot.number()), slot);
+    }
+    ready.rotate(Priority::new(20));
+    assert_eq!(rt;
+        ready.at(Priority::new(20), 1).map(|slot| slot.number()),
+        Some(3)
+    );
+}
+
+#[test]
+fn places(rt: HostRuntime) -> Result<(), Fail> {
+    tell_the_places(&rt, &mut PlainReady::new(rt.alloc())?);
+    tell_the_places(&rt, &mut QueueReady::new(rt.alloc())?);
+    Ok(())
+}
+
 #[test]
 fn best_after_changes(rt: HostRuntime) -> Result<(), Fail> {
     tell_the_best(&rt, &mut PlainReady::new(rt.alloc())?);

@@ -226,7 +226,7 @@ module _ {R : Type 0} (stands_for : R → List Entry → Type 0) (place : ℕ �
 
 -- the loader's thread alone
 module _ {R : Type 0} (stands_for : R → List Entry → Type 0) (t : Threads R)
-    (alone : HasAlone (dormant_thread LOADER loader_param LOADER_STACK 0) t.places)
+    (alone : HasAlone (Some (dormant_thread LOADER loader_param LOADER_STACK 0)) t.places)
     (none : stands_for t.ready []) (idle : t.running ≡ None) (next : t.next ≡ LOADER + 1) where
   -- the table holds it
   pub opens : Holds stands_for (λ id. 0) t opening

@@ -73,7 +73,7 @@ module _ {X : Type 0} (p : X → Bool) (xs : List X) where
   none_by n m is = grind (arith, nat_tests)
 
   -- where no place is found none passes
-  position-None : position p xs ≡ None → (k : ℕ) (d : X) → k < length xs →
+  pub position-None : position p xs ≡ None → (k : ℕ) (d : X) → k < length xs →
       p (get_or xs k d) ≡ false
   position-None none k d below =
       let all = none_by (position_or_len p xs) (length xs) none in
@@ -141,18 +141,33 @@ taken-empty : (n : ℕ) → taken (replicate n None) ≡ 0
 taken-empty zero = refl
 taken-empty (suc n) = taken-empty n
 
--- where one is put into the first of such places
-pub has_alone : (n : ℕ) (t : Thread) (places : List (Option Thread)) →
-    places ≡ set (replicate n None) 0 (Some t) → n ≡ MOST_THREADS → HasAlone t places
-has_alone n t places is most =
+-- where one is put into the first of such places, or none
+pub has_alone : (n : ℕ) (first : Option Thread) (places : List (Option Thread)) →
+    places ≡ set (replicate n None) 0 first → n ≡ MOST_THREADS → HasAlone first places
+has_alone n first places is most =
     let size : length (replicate {A = Option Thread} n None) ≡ n = length-replicate n None in
     let inside : 0 < length (replicate {A = Option Thread} n None) = omega (arith, size, most) in
     record {
       at = λ slot. ap (λ l. thread_at l slot) is
-          ∙ thread_at-set (replicate n None) 0 slot (Some t) inside
-          ∙ ap (λ o. if slot == 0 then Some t else o) (at-empty n slot);
-      count = let more = taken-set (replicate n None) 0 (Some t) inside in
+          ∙ thread_at-set (replicate n None) 0 slot first inside
+          ∙ ap (λ o. if slot == 0 then first else o) (at-empty n slot);
+      count = let more = taken-set (replicate n None) 0 first inside in
           let empty = ap (λ o. one_if (is_some o)) (at-empty n 0) in
           omega (arith, ap taken is, more, empty, taken-empty n);
-      size = ap length is ∙ length-set (replicate n None) 0 (Some t) ∙ size ∙ most;
+      size = ap length is ∙ length-set (replicate n None) 0 first ∙ size ∙ most;
+    }
+
+-- where the one in the first place is gone
+pub has_none : (t : Thread) (places : List (Option Thread)) → HasAlone (Some t) places →
+    HasAlone None (set places 0 None)
+has_none t places h =
+    let inside : 0 < length places = omega (arith, h.size) in
+    record {
+      at = λ slot. let now = thread_at-set places 0 slot None inside in
+          let was = h.at slot in
+          grind (arith, nat_tests, now, was);
+      count = let left = taken-set places 0 None inside in
+          let one = ap (λ o. one_if (is_some o)) (h.at 0) in
+          omega (arith, left, h.count, one);
+      size = length-set places 0 None ∙ h.size;
     }

@@ -72,7 +72,7 @@ module _ {R : Type 0} (stands_for : R → List Entry → Type 0) (place : ℕ �
         same_tests to back = grind (arith, nat_tests, to, back)
 
     -- so the two tests are one
-    same_test : (other : ℕ) → is_some (thread_of s.live other) ≡ true
+    pub same_test : (other : ℕ) → is_some (thread_of s.live other) ≡ true
         → (place other == place id) ≡ (other == id)
     same_test other live = other_place other (thread_of s.live other) refl live
 

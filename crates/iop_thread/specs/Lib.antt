@@ -4,6 +4,9 @@ pub mod Laws
 pub mod Moves
 pub mod Operations
 pub mod Placing
+pub mod Reading
+pub mod Restored
+pub mod Restoring
 pub mod Standing
 pub mod States
 pub mod ThreadPlaces

@@ -6,6 +6,8 @@ ghost use Rattle.iop_thread.specs.Waits.{OperationsMoveWaits};
 ghost use Rattle.iop_thread.specs.Changes.{OperationsChangeOne};
 ghost use Rattle.iop_thread.specs.Waking.{WakingEndsOneWait};
 ghost use Rattle.iop_thread.specs.FirstRegisters.{FirstRegistersAreRead};
+ghost use Rattle.iop_thread.specs.Reading.{ThreadsAreReadInOrder};
+ghost use Rattle.iop_thread.specs.Restoring.{ThreadsAreRestored};
 
 /// Each thread that is ready is once in the ready list, which has no other, the one that runs is in
 /// the state of running, and no two threads have one id: at first, and after each operation.
@@ -63,4 +65,17 @@ pub fn first_registers_are_read()
 /// ran. Where none is dispatched, no ready thread is better than the one that runs.
 pub fn dispatch_is_strict()
     ensures { DispatchIsStrict }
+{}
+
+/// Where ids rise, the thread of the least id above another is the first one above it. So from 0 on
+/// each live thread is found, once, in the order of ids.
+pub fn threads_are_read_in_order()
+    ensures { ThreadsAreReadInOrder }
+{}
+
+/// All that stands in a placed table whose ids rise, from the loader's on, can be put back into one
+/// of no thread: the threads, then the ready list, which of them runs, and the next id. That gives
+/// the table again. Where all that stands in a table can be put back, it is such a table.
+pub fn threads_are_restored()
+    ensures { ThreadsAreRestored }
 {}

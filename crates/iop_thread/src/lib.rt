@@ -7,6 +7,8 @@ pub mod laws;
 mod moves;
 mod param;
 mod places;
+mod reading;
+mod restored_threads;
 mod scheduling;
 mod state;
 mod thread;
@@ -15,6 +17,7 @@ mod wait;
 
 pub use kind::Kind;
 pub use param::Param;
+pub use restored_threads::RestoredThreads;
 pub use state::State;
 pub use thread::{
     LOADER, LOADER_ATTRIBUTE, LOADER_PRIORITY, LOADER_STACK, LOADER_STACK_SIZE, MOST_WAKEUPS,

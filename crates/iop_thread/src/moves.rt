@@ -46,7 +46,7 @@ impl<R: Ready> Threads<R> {
     }
 
     /// Finds the thread in a place.
-    fn found_in(&self, slot: Slot) -> Option<Found>
+    pub(crate) fn found_in(&self, slot: Slot) -> Option<Found>
         ensures { result ≡ option_map (λ t. record { slot = slot; thread = t })
             (thread_at self.now.places slot) }
     {

@@ -1,5 +1,5 @@
 ghost use Rattle.std.specs.Prelude.{◌≡◌};
-ghost use Rattle.iop_thread.specs.States.{state_number, wait_in, is_dormant, sleeps, suspended_state, with_answer};
+ghost use Rattle.iop_thread.specs.States.{state_number, wait_in, is_dormant, is_running, is_ready, sleeps, suspended_state, with_answer};
 ghost use Rattle.iop_thread.specs.Operations.{ready_registers};
 
 use crate::wait::Wait;
@@ -51,6 +51,20 @@ impl State {
         ensures { result ≡ is_dormant self.now }
     {
         matches!(self, State::Dormant)
+    }
+
+    /// Says whether the thread runs.
+    pub(crate) fn is_running(&self) -> bool
+        ensures { result ≡ is_running self.now }
+    {
+        matches!(self, State::Running)
+    }
+
+    /// Says whether the thread is ready.
+    pub(crate) fn is_ready(&self) -> bool
+        ensures { result ≡ is_ready self.now }
+    {
+        matches!(self, State::Ready(_))
     }
 
     /// Says whether the thread sleeps.

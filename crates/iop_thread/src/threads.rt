@@ -1,8 +1,9 @@
 //! The table of the threads: who is made, started, ended, and what is changed of a thread by its id.
 
-ghost use Rattle.std.specs.Prelude.{◌≡◌, [], IfOk, option_map};
+ghost use Rattle.std.specs.Prelude.{◌≡◌, [], IfOk, option_map, None, nat_le, ◌&&◌, if◌then◌else◌};
 ghost use Rattle.iop_thread.specs.ThreadTable.{ThreadTable, thread_of, with_priority, has_room};
 ghost use Rattle.iop_thread.specs.Operations.{opening, creates, deletes, starts, begins, terminates, changes, suspends, resumes, resumes_in};
+ghost use Rattle.iop_thread.specs.Restoring.{may_be_next, with_next};
 ghost use Rattle.iop_thread.specs.Moves.{IsThere};
 ghost use Rattle.iop_thread.specs.Standing.{Stands, IsSound, Leaves, Lends};
 
@@ -36,12 +37,19 @@ impl<R: Ready> Threads<R> {
         ensures { IfOk result (λ threads. Stands R.stands threads opening) }
     {
         let places = Places::new(alloc, Thread::loader())?;
-        Ok(Threads {
+        Ok(Threads::idle(places, ready, LOADER + 1))
+    }
+
+    /// Makes the table of the threads in some places, of which none runs.
+    pub(crate) fn idle(places: Places, ready: R, next: u32) -> Self
+        ensures { result ≡ record { places = places; ready = ready; running = None; next = next } }
+    {
+        Threads {
             places,
             ready,
             running: None,
-            next: LOADER + 1,
-        })
+            next,
+        }
     }
 
     /// Lends the list of the ready threads, each by its slot and with its priority.
@@ -207,6 +215,27 @@ impl<R: Ready> Threads<R> {
             Some(found) => self.resume_found(&found),
             None => Code::UNKNOWN_THREAD,
         }
+    }
+
+    /// Puts the id of the next thread back. False exactly where it is below the one that is next or
+    /// above the one behind `LAST_ID`; nothing changes then.
+    pub fn put_next(&mut self, id: u32) -> bool
+        ensures may { (s : ThreadTable) → Stands R.stands self.old s → result ≡ may_be_next s id }
+        ensures put { (s : ThreadTable) → Stands R.stands self.old s
+            → Stands R.stands self.new (if result then with_next s id else s) }
+    {
+        if !self.is_ahead(id, LAST_ID + 1) {
+            return false;
+        }
+        self.next = id;
+        true
+    }
+
+    /// Says whether an id is still to be given, and at most a last one.
+    pub(crate) fn is_ahead(&self, id: u32, last: u32) -> bool
+        ensures { result ≡ (nat_le self.now.next id && nat_le id last) }
+    {
+        self.next <= id && id <= last
     }
 
     /// Changes the priority of a thread that was found.
