@@ -1,3 +1,4 @@
 pub mod FewerBits
 pub mod Settling
 mod SettingBits
+mod Restored

@@ -1,3 +1,4 @@
 pub mod WakeConditions
 pub mod EventFlags
+pub mod Restoring
 pub mod Laws

@@ -1,6 +1,6 @@
-ghost use Rattle.std.specs.Prelude.{◌≡◌, ◌<◌, ◌≤◌, Bool, [], IfOk, is_some, option_map, true, false, length};
+ghost use Rattle.std.specs.Prelude.{◌≡◌, ◌<◌, ◌≤◌, Bool, [], IfOk, is_some, option_map, true, false, length, slice_get};
 ghost use Rattle.iop_objects.specs.Objects.{AreObjects, no_objects, object_of, state_of, waiters_of, waiting, takes_next, drops, requeues};
-ghost use Rattle.iop_objects.specs.declared.objects.TheConstants.{MOST_WAITERS};
+ghost use Rattle.iop_objects.specs.declared.objects.TheConstants.{MOST_OBJECTS, MOST_WAITERS};
 ghost use Rattle.iop_event.specs.EventFlags.{creates, deletes, sets, meets_next, clears, is_taken, tests, waits};
 
 use crate::event_flag::{EventFlag, MANY_WAITERS, is_attribute};
@@ -8,14 +8,14 @@ use crate::met::Met;
 use crate::wanted::{Wanted, holds, pattern_after};
 use iop_base::Code;
 use iop_objects::{Objects, Waiter};
-use iop_queues::Condition;
+use iop_queues::{Condition, Walk};
 use std::alloc::{AllocError, Global};
 use std::marker::Model;
 
 /// The live event flags, and the threads that wait for each.
 #[derive(Drop)]
 pub struct EventFlags {
-    objects: Objects<EventFlag, Wanted>,
+    pub(crate) objects: Objects<EventFlag, Wanted>,
 }
 
 impl Model for EventFlags {
@@ -66,6 +66,37 @@ impl EventFlags {
         ensures few { result ≤ MOST_WAITERS }
     {
         self.objects.waiters(id)
+    }
+
+    /// Tells how many event flags are live.
+    pub fn len(&self) -> usize
+        ensures count { result ≡ length self.now.live }
+        ensures few { result ≤ MOST_OBJECTS }
+    {
+        self.objects.len()
+    }
+
+    /// Reads the id of the live event flag at a place in the order of ids, and what is known of it.
+    /// None exactly where so many or fewer are live.
+    pub fn nth(&self, place: usize) -> Option<(u32, EventFlag)>
+        ensures { result ≡ option_map (λ o. (o.id, o.state)) (slice_get self.now.live place) }
+    {
+        self.objects.nth(place)
+    }
+
+    /// Walks over the threads that wait for an event flag, in order of their arrival. None exactly
+    /// where none of this id is live.
+    pub fn walk(&self, id: u32) -> Option<Walk<'_, Waiter<Wanted>>>
+        ensures { result ≡ option_map (λ o. o.waiters) (object_of self.now.live id) }
+    {
+        self.objects.walk(id)
+    }
+
+    /// Tells the id of the next event flag. Where none is left it is the one behind `LAST_ID`.
+    pub fn next_id(&self) -> u32
+        ensures { result ≡ self.now.next }
+    {
+        self.objects.next_id()
     }
 
     /// Makes an event flag, and answers its id. `ILLEGAL_ATTRIBUTE` exactly where the attribute is
@@ -214,7 +245,7 @@ impl EventFlags {
     }
 
     /// Says whether no other thread may wait for an event flag.
-    fn is_taken(&self, id: u32, flag: &EventFlag) -> bool
+    pub(crate) fn is_taken(&self, id: u32, flag: &EventFlag) -> bool
         ensures { result ≡ is_taken self.now id flag.now }
     {
         flag.attr != MANY_WAITERS && self.waiters(id) != 0

@@ -2,6 +2,7 @@
 //! nothing.
 
 ghost use Rattle.iop_event.specs.Laws.{FlagsAreMet};
+ghost use Rattle.iop_event.specs.Restoring.{EventFlagsAreRestored};
 
 /// The threads whose conditions hold, taken one after the other, are those that a walk over all of
 /// them in order meets, each with the pattern as it then stands. After it no condition of a thread
@@ -9,4 +10,10 @@ ghost use Rattle.iop_event.specs.Laws.{FlagsAreMet};
 /// cleared, and all others stay; all threads wait on.
 pub fn flags_are_met()
     ensures { FlagsAreMet }
+{}
+
+/// The event flags of a table whose ids rise, with those that wait for them, can all be put back
+/// into a table of none, in their order, and so can its next id. That gives the table again.
+pub fn event_flags_are_restored()
+    ensures { EventFlagsAreRestored }
 {}

@@ -5,6 +5,7 @@ mod event_flag;
 mod event_flags;
 pub mod laws;
 mod met;
+mod restoring;
 mod wanted;
 
 pub use event_flag::{EventFlag, MANY_WAITERS};

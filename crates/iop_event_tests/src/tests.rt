@@ -1,7 +1,7 @@
 ghost use Rattle.std.specs.Prelude.{◌≡◌, ◌⊎◌};
 
-use iop_base::Code;
-use iop_event::{CLEAR, EITHER, EventFlags, MANY_WAITERS, Met, Wanted};
+use iop_base::{Code, LAST_ID};
+use iop_event::{CLEAR, EITHER, EventFlag, EventFlags, MANY_WAITERS, Met, Wanted};
 use std::alloc::{AllocError, Global};
 use std::test::Fail;
 
@@ -134,5 +134,69 @@ fn one_waiter_alone(rt: HostRuntime) -> Result<(), Fail> {
     flags.drop_waiter(1, 12);
     assert_eq!(rt; flags.pop_waiter(1), Some(11));
     assert_eq!(rt; wrong_row(&mut flags, &[(Call::Test(1, 1, 0), 1)]), None);
+    Ok(())
+}
+
+/// Makes what is known of an event flag that was made with one bit, and has another.
+fn with_attribute(attr: u32) -> EventFlag {
+    EventFlag {
+        attr,
+        option: 7,
+        first: 1,
+        pattern: 2,
+    }
+}
+
+#[test]
+fn event_flags_are_put_back(rt: HostRuntime) -> Result<(), Fail> {
+    let mut flags = EventFlags::new(rt.alloc())?;
+    let rows = [
+        (2, 1, false),
+        (2, 0, true),
+        (2, 0, false),
+        (5, MANY_WAITERS, true),
+        (LAST_ID + 1, 0, false),
+    ];
+    for (id, attr, put) in rows {
+        assert_eq!(rt; flags.put_back(id, with_attribute(attr)), put);
+    }
+    let rows = [(0, Some((2, 0))), (1, Some((5, MANY_WAITERS))), (2, None)];
+    for (place, flag) in rows {
+        let known = flag.map(|(id, attr)| (id, with_attribute(attr)));
+        assert_eq!(rt; flags.nth(place), known);
+    }
+    assert_eq!(rt; flags.len(), 2);
+    assert_eq!(rt; flags.next_id(), 6);
+    assert!(rt; !flags.put_next(5));
+    assert!(rt; flags.put_next(9));
+    assert_eq!(rt; flags.next_id(), 9);
+    Ok(())
+}
+
+#[test]
+fn waiters_are_put_back(rt: HostRuntime) -> Result<(), Fail> {
+    let mut flags = EventFlags::new(rt.alloc())?;
+    assert!(rt; flags.put_back(1, with_attribute(0)));
+    assert!(rt; flags.put_back(2, with_attribute(MANY_WAITERS)));
+    let rows = [
+        (1, 11, 0, false),
+        (1, 11, 4, true),
+        (1, 12, 4, false),
+        (2, 14, 4, true),
+        (2, 13, 8, true),
+        (3, 15, 4, false),
+    ];
+    for (id, thread, bits, put) in rows {
+        assert_eq!(rt; flags.put_waiter(id, thread, 20, wanted(bits, CLEAR)), put);
+    }
+    assert_eq!(rt; flags.waiters(1), 1);
+    assert!(rt; flags.walk(3).is_none());
+    if let Some(mut walk) = flags.walk(2) {
+        for waiter in [Some((14, 4)), Some((13, 8)), None] {
+            let next = walk.next();
+            let known = next.map(|queued| (queued.item.thread, queued.item.wants.bits));
+            assert_eq!(rt; known, waiter);
+        }
+    }
     Ok(())
 }

@@ -61,11 +61,13 @@ serves_grow : (s : System) (code : ℕ) → IsCore s.core → HavePlaces s.memor
 serves_grow s code core places history h = record {
   semaphores =
       history_grows history (called s code) s.core.kernel.semaphores
-      (services s code).left.state.core.kernel.semaphores (core.placed.objects Semaphore).sound.given
+      (services s code).left.state.core.kernel.semaphores
+      (core.placed.objects Semaphore).sound.given
       (services_count s code (omega (arith, core.steady.registers))) h.semaphores;
   mailboxes =
       delivery_history_grows history (called s code) s.core.kernel.mailboxes
-      (services s code).left.state.core.kernel.mailboxes (core.placed.objects Mailbox).sound.given
+      (services s code).left.state.core.kernel.mailboxes
+      (core.placed.objects Mailbox).sound.given
       (services_deliver s code (omega (arith, core.steady.registers)) core.overdue places)
       h.mailboxes;
 }

@@ -3,3 +3,4 @@ mod MailboxTables
 mod LiveMailboxes
 mod Creating
 mod Receiving
+mod Restored

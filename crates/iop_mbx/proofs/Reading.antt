@@ -1,10 +1,12 @@
 -- What a table tells of its mailboxes, and what is left of it when its objects change.
-use Rattle.std.proofs.Common.{◌≡◌, ℕ, Bool, not, is_some, option_map, List, [], ◌∷◌, map, filter, if◌then◌else◌, refl, ap, sym, arith}
+use Rattle.std.proofs.Common.{◌≡◌, ℕ, ◌+◌, Bool, true, false, not, is_some, option_map, List, [], ◌∷◌, ◌++◌, length, map, sum, filter, if◌then◌else◌, refl, ap, sym, ◌∙◌, arith}
 use Rattle.std.specs.Prelude.{◌==◌}
 use Rattle.std.proofs.lemmas.Bool.Decides.{nat_tests}
-use Rattle.std.proofs.lemmas.List.{length-map, map_push}
+use Rattle.std.proofs.lemmas.List.{map_push}
+use Rattle.std.proofs.lemmas.Simd.{map-map}
 use Rattle.iop_base.proofs.Searching.{find-map}
-use Rattle.iop_objects.specs.Objects.{Object, Objects, object_of, state_of, waiters_of, creates, deletes, with_state, with_waiters, takes_next}
+use Rattle.iop_objects.specs.Objects.{Object, Objects, object_of, state_of, waiters_of, waiting, deletes, with_state, with_waiters, waits, takes_next}
+use Rattle.iop_objects.specs.Restoring.{may_wait, with_last}
 use Rattle.iop_objects.specs.declared.waiter.Waiter.{Waiter}
 use Rattle.iop_objects.proofs.MappedLists.{filter-map}
 use Rattle.iop_objects.proofs.Tables.{table_of}
@@ -17,6 +19,11 @@ use Rattle.iop_mbx.specs.declared.mailboxes.Numbered.{Numbered}
 module _ (objects : Objects Numbered ℕ) (messages : List (List (Queued ℕ))) where
   abbrev own : Mailboxes
   own = mailboxes_in objects messages
+
+  waiting-in : waiting own ≡ waiting objects
+  waiting-in =
+      ap sum (map-map (λ (o : Object mailboxes.Mailbox ℕ). length o.waiters) (mailbox_in messages)
+      objects.live)
 
   module _ (id : ℕ) where
     found : object_of own.live id ≡ option_map (mailbox_in messages) (object_of objects.live id)
@@ -32,6 +39,10 @@ module _ (objects : Objects Numbered ℕ) (messages : List (List (Queued ℕ))) 
     pub waiters_of-in : waiters_of own id ≡ waiters_of objects id
     waiters_of-in = grind (arith, found)
 
+    pub walk-in : option_map (λ o. o.waiters) (object_of own.live id)
+        ≡ option_map (λ o. o.waiters) (object_of objects.live id)
+    walk-in = grind (arith, found)
+
     pub with_waiters-in : (waiters : List (Queued (Waiter ℕ)))
         → mailboxes_in (with_waiters objects id waiters) messages ≡ with_waiters own id waiters
     with_waiters-in waiters = ap (λ l. table_of l objects.next) (each objects.live)
@@ -45,15 +56,30 @@ module _ (objects : Objects Numbered ℕ) (messages : List (List (Queued ℕ))) 
         each [] = refl
         each (o ∷ live) = grind (arith, each live)
 
+    -- a thread waits, where it may
+    pub waits-in : (may : Bool) (x : Queued (Waiter ℕ))
+        → mailboxes_in (if may then waits objects id x else objects) messages
+        ≡ (if may then waits own id x else own)
+    waits-in true x =
+        with_waiters-in (waiters_of objects id ++ x ∷ [])
+        ∙ ap (λ l. with_waiters own id (l ++ x ∷ [])) (sym waiters_of-in)
+    waits-in false x = refl
+
     pub deletes-in : mailboxes_in (deletes objects id) messages ≡ deletes own id
     deletes-in =
         ap (λ l. table_of l objects.next)
         (sym (filter-map (λ (o : Object mailboxes.Mailbox ℕ). not (o.id == id))
         (mailbox_in messages) objects.live))
 
-  pub creates-in : (x : Numbered)
-      → mailboxes_in (creates objects x).1 messages ≡ (creates own (known messages x)).1
-  creates-in x = grind (arith, length-map, map_push)
+  pub may_wait-in : (id : ℕ) → may_wait own id ≡ may_wait objects id
+  may_wait-in id = rw (is_live-in id, waiting-in) refl
+
+  pub with_last-in : (id : ℕ) (x : Numbered)
+      → mailboxes_in (with_last objects id x) messages ≡ with_last own id (known messages x)
+  with_last-in id x =
+      ap (λ l. table_of l (id + 1))
+      (map_push (mailbox_in messages) objects.live
+      (record { id = id; state = x; waiters = [] }))
 
 -- the queues stay, whoever waits
 pub queues_of-with_waiters : (objects : Objects Numbered ℕ) (id : ℕ)
@@ -94,6 +120,8 @@ pub ruleset readings = (
   state_of-in,
   is_live-in,
   waiters_of-in,
+  walk-in,
+  may_wait-in,
   with_waiters-in,
   queues_of-with_waiters,
   queues_of-takes_next,

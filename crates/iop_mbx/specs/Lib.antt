@@ -1,3 +1,4 @@
 pub mod Mailboxes
+pub mod Restoring
 pub mod Standing
 pub mod Laws

@@ -2,6 +2,7 @@
 //! nothing.
 
 ghost use Rattle.iop_mbx.specs.Laws.{MailboxesKeep};
+ghost use Rattle.iop_mbx.specs.Restoring.{MailboxesAreRestored};
 
 /// A message is sent exactly where there is room, and is queued behind all others with its
 /// priority. One is received exactly where there is one; all others stay. By arrival it is the
@@ -9,4 +10,11 @@ ghost use Rattle.iop_mbx.specs.Laws.{MailboxesKeep};
 /// the next one, and the mailbox stays as it was.
 pub fn mailboxes_keep()
     ensures { MailboxesKeep }
+{}
+
+/// The mailboxes of a table whose ids rise, with those that wait for them and with their messages,
+/// can all be put back into a table of none, in their order, and so can its next id. That gives the
+/// table again.
+pub fn mailboxes_are_restored()
+    ensures { MailboxesAreRestored }
 {}

@@ -1,5 +1,6 @@
 ghost use Rattle.std.specs.Prelude.{◌≡◌};
 ghost use Rattle.iop_mbx.specs.Mailboxes.{waiters_by_priority, messages_by_priority, is_attribute};
+ghost use Rattle.iop_mbx.specs.Restoring.{can_have};
 
 /// The attribute bit of a mailbox whose waiters are chosen by their priority (ps2sdk: thmsgbx.h,
 /// `MBA_THPRI`). Without it they are chosen by arrival.
@@ -31,6 +32,13 @@ impl Mailbox {
         ensures { result ≡ messages_by_priority self.now.attr }
     {
         self.attr & MESSAGES_BY_PRIORITY != 0
+    }
+
+    /// Says whether it can have a message of a priority: 0 where it does not look at it.
+    pub(crate) fn can_have(&self, priority: u8) -> bool
+        ensures { result ≡ can_have self.now.attr priority }
+    {
+        self.messages_by_priority() || priority == 0
     }
 }
 

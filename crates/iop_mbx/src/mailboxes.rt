@@ -1,10 +1,12 @@
 #![tactic(auto, using(crate::proofs::Reading::readings))]
 
-ghost use Rattle.std.specs.Prelude.{◌≡◌, ◌<◌, ◌≤◌, [], IfOk, is_some, option_map, option_and_then, true, length};
+ghost use Rattle.std.specs.Prelude.{◌≡◌, ◌<◌, ◌≤◌, [], IfOk, is_some, if◌then◌else◌, option_map, option_and_then, true, length};
 ghost use Rattle.iop_objects.specs.Objects.{no_objects, object_of, state_of, waiters_of, waiting, drops, requeues};
-ghost use Rattle.iop_objects.specs.declared.objects.TheConstants.{MOST_WAITERS};
+ghost use Rattle.iop_objects.specs.Restoring.{may_follow};
+ghost use Rattle.iop_objects.specs.declared.objects.TheConstants.{MOST_OBJECTS, MOST_WAITERS};
 ghost use Rattle.iop_mbx.specs.declared.mailboxes.TheConstants.{MOST_MESSAGES};
 ghost use Rattle.iop_mbx.specs.Mailboxes.{without_messages, messages_of, next_message, is_by_priority, has_room, creates, deletes, takes_waiter, takes_waiter_of, puts, gets, waits};
+ghost use Rattle.iop_mbx.specs.Restoring.{with_last};
 
 use crate::mailbox::{Mailbox, is_attribute};
 use iop_base::Code;
@@ -18,20 +20,20 @@ pub const MOST_MESSAGES: u32 = 4096;
 
 /// A mailbox, and the queue of its messages.
 #[derive(Clone, Copy, Drop)]
-struct Numbered {
-    mailbox: Mailbox,
+pub(crate) struct Numbered {
+    pub mailbox: Mailbox,
     /// The number of the queue.
-    queue: u32,
+    pub queue: u32,
 }
 
 /// The live mailboxes, the messages of each, and the threads that wait for one. A message is the
 /// address that was sent.
 #[derive(Drop)]
 pub struct Mailboxes {
-    objects: Objects<Numbered, u32>,
+    pub(crate) objects: Objects<Numbered, u32>,
     /// The queues of no live mailbox.
     free: Numbers<MOST_OBJECTS>,
-    messages: Queues<u32, MOST_MESSAGES>,
+    pub(crate) messages: Queues<u32, MOST_MESSAGES>,
 }
 
 impl Model for Mailboxes {
@@ -119,17 +121,29 @@ impl Mailboxes {
         if !is_attribute(attr) {
             return Err(Code::ILLEGAL_ATTRIBUTE);
         }
-        let Some(queue) = self.free.take() else {
-            return Err(Code::NO_MEMORY);
-        };
-        let mailbox = Mailbox { attr, option };
-        match self.objects.create(Numbered { mailbox, queue }) {
-            Ok(id) => Ok(id),
-            Err(code) => {
-                self.free.give_back(queue);
-                Err(code)
-            }
+        let id = self.objects.next_id();
+        if self.add(id, Mailbox { attr, option }) {
+            Ok(id)
+        } else {
+            Err(Code::NO_MEMORY)
         }
+    }
+
+    /// Adds a mailbox behind all others, which has no message, and for which no thread waits. False
+    /// exactly where its id is below the next one or above `LAST_ID`, or `MOST_OBJECTS` are live;
+    /// nothing changes then.
+    pub(crate) fn add(&mut self, id: u32, mailbox: Mailbox) -> bool
+        ensures may { result ≡ may_follow self.old id }
+        ensures put { self.new ≡ if result then with_last self.old id mailbox else self.old }
+    {
+        let Some(queue) = self.free.take() else {
+            return false;
+        };
+        if self.objects.put_back(id, Numbered { mailbox, queue }) {
+            return true;
+        }
+        self.free.give_back(queue);
+        false
     }
 
     /// Deletes a mailbox, for which no thread waits, with its messages. `UNKNOWN_MAILBOX` exactly

@@ -1,4 +1,4 @@
-use iop_base::Code;
+use iop_base::{Code, LAST_ID};
 use iop_mbx::{MESSAGES_BY_PRIORITY, MOST_MESSAGES, Mailbox, Mailboxes, WAITERS_BY_PRIORITY};
 use iop_objects::Waiter;
 use std::alloc::{AllocError, Global};
@@ -130,5 +130,81 @@ fn waiters(rt: HostRuntime) -> Result<(), Fail> {
     mailboxes.drop_waiter(1, 12);
     assert_eq!(rt; mailboxes.pop_waiter(1), Some(11));
     assert_eq!(rt; mailboxes.pop_waiter(1), None);
+    Ok(())
+}
+
+/// Makes what is known of a mailbox.
+fn with_attribute(attr: u32) -> Mailbox {
+    Mailbox { attr, option: 7 }
+}
+
+#[test]
+fn mailboxes_are_put_back(rt: HostRuntime) -> Result<(), Fail> {
+    let mut mailboxes = Mailboxes::new(rt.alloc())?;
+    let rows = [
+        (2, 2, false),
+        (2, 0, true),
+        (2, 0, false),
+        (5, MESSAGES_BY_PRIORITY, true),
+        (LAST_ID + 1, 0, false),
+    ];
+    for (id, attr, put) in rows {
+        assert_eq!(rt; mailboxes.put_back(id, with_attribute(attr)), put);
+    }
+    let rows = [
+        (0, Some((2, with_attribute(0)))),
+        (1, Some((5, with_attribute(MESSAGES_BY_PRIORITY)))),
+        (2, None),
+    ];
+    for (place, mailbox) in rows {
+        assert_eq!(rt; mailboxes.nth(place), mailbox);
+    }
+    assert_eq!(rt; mailboxes.len(), 2);
+    assert_eq!(rt; mailboxes.next_id(), 6);
+    assert!(rt; !mailboxes.put_next(5));
+    assert!(rt; mailboxes.put_next(9));
+    assert_eq!(rt; mailboxes.next_id(), 9);
+    Ok(())
+}
+
+#[test]
+fn waiters_are_put_back(rt: HostRuntime) -> Result<(), Fail> {
+    let mut mailboxes = Mailboxes::new(rt.alloc())?;
+    assert!(rt; mailboxes.put_back(3, with_attribute(0)));
+    for (id, thread, put) in [(3, 12, true), (1, 13, false), (3, 11, true)] {
+        assert_eq!(rt; mailboxes.put_waiter(id, thread, 20, 0x100), put);
+    }
+    assert!(rt; mailboxes.walk(1).is_none());
+    if let Some(mut walk) = mailboxes.walk(3) {
+        for thread in [Some(12), Some(11), None] {
+            let next = walk.next();
+            assert_eq!(rt; next.map(|queued| queued.item.thread), thread);
+        }
+    }
+    Ok(())
+}
+
+#[test]
+fn messages_are_put_back(rt: HostRuntime) -> Result<(), Fail> {
+    let mut mailboxes = Mailboxes::new(rt.alloc())?;
+    assert!(rt; mailboxes.put_back(1, with_attribute(0)));
+    assert!(rt; mailboxes.put_back(2, with_attribute(MESSAGES_BY_PRIORITY)));
+    let rows = [
+        (1, 0x100, 5, false),
+        (1, 0x100, 0, true),
+        (2, 0x200, 5, true),
+        (2, 0x300, 3, true),
+        (3, 0x400, 0, false),
+    ];
+    for (id, message, priority, put) in rows {
+        assert_eq!(rt; mailboxes.put_message(id, message, priority), put);
+    }
+    assert!(rt; mailboxes.walk_messages(3).is_none());
+    if let Some(mut walk) = mailboxes.walk_messages(2) {
+        for message in [Some((0x200, 5)), Some((0x300, 3)), None] {
+            let next = walk.next();
+            assert_eq!(rt; next.map(|queued| (queued.item, queued.priority)), message);
+        }
+    }
     Ok(())
 }

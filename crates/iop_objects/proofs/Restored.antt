@@ -162,16 +162,16 @@ module _ {A W : Type 0} where
       ∙ ap (λ l. Some (table_of l (behind (o.id + 1) os))) (append_assoc done (o ∷ []) os)
 
   pub are_restored : ObjectsAreRestored A W
-  are_restored s h few =
+  are_restored s h =
       let next = behind FIRST_ID s.live in
       let back =
       objects_back [] s.live FIRST_ID (All-nil (λ o. o.id < FIRST_ID))
-      (rises FIRST_ID s.next s.live h.next_last h.first h.given h.ids)
-      (omega (arith, h.few))
-      (omega (arith, few, sum-map (λ o. length o.waiters) s.live)) in
+      (rises FIRST_ID s.next s.live h.sound.next_last h.sound.first h.sound.given h.sound.ids)
+      (omega (arith, h.sound.few))
+      (omega (arith, h.few, sum-map (λ o. length o.waiters) s.live)) in
       let first : next ≤ s.next =
-      behind_below FIRST_ID s.next s.live h.next_first h.given in
-      let last : s.next ≤ LAST_ID + 1 = h.next_last in
+      behind_below FIRST_ID s.next s.live h.sound.next_first h.sound.given in
+      let last : s.next ≤ LAST_ID + 1 = h.sound.next_last in
       let from : nat_le next s.next ≡ true = grind (arith, nat_tests, first) in
       let to : nat_le s.next (LAST_ID + 1) ≡ true = grind (arith, nat_tests, last) in
       let may : may_be_next (table_of s.live next) s.next ≡ true = rw (from, to) refl in

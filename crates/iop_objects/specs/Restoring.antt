@@ -64,8 +64,11 @@ module _ {A W : Type 0} where
   restored s =
       option_and_then (λ t. with_next_back t s.next) (with_objects_back no_objects s.live)
 
--- all that stands in a sound table, in which no more threads wait than can, can be put back, and
--- gives the table again
+  -- a sound table in which no more threads wait than can
+  pub record IsRestorable (s : Objects A W) : Type 0 where
+    pub sound : AreObjects s
+    pub few : waiting s ≤ MOST_WAITERS
+
+-- all that stands in such a table can be put back, and gives the table again
 abbrev pub ObjectsAreRestored : (A W : Type 0) → Type 0
-ObjectsAreRestored A W =
-    (s : Objects A W) → AreObjects s → waiting s ≤ MOST_WAITERS → restored s ≡ Some s
+ObjectsAreRestored A W = (s : Objects A W) → IsRestorable s → restored s ≡ Some s

@@ -1,5 +1,8 @@
 -- What the layout of a pool tells.
-use Rattle.std.proofs.Common.{◌≡◌, ℕ, ◌/◌, ◌<◌, ◌≤◌, ◌∙◌, Option, Some, None, option_map, length, refl, ap, subst, arith, mul-div_cancel}
+use Rattle.std.proofs.Common.{◌≡◌, ℕ, ◌/◌, ◌<◌, ◌≤◌, ◌∙◌, Option, Some, None, option_map, unwrap_or, length, refl, ap, subst, arith, mul-div_cancel}
+use Rattle.iop_objects.specs.Objects.{state_of}
+use Rattle.iop_pools.specs.FixedPools.{FixedPools}
+use Rattle.iop_pools.specs.FixedRestoring.{block_size}
 use Rattle.iop_pools.specs.Pools.{Pool}
 use Rattle.iop_pools.specs.Standing.{layout_of, IsPool}
 use Rattle.iop_pools.specs.declared.layout.Layout.{Layout}
@@ -29,3 +32,13 @@ module _ (most : ℕ) where
       let few = units_count most x pool in
       subst (λ (l : Layout). (n ≤ l.size / l.unit) × (n ≤ most)) same
       (omega (arith, few, units, n_is), omega (arith, few, pool.few, n_is))
+
+-- how many bytes a block has
+pub block_size-is : (s : FixedPools) (id : ℕ) (l : Layout)
+    → Some l ≡ option_map layout_of (state_of s id) → block_size s id ≡ l.unit
+block_size-is s id l known = by (state_of s id) known
+  where
+    by : (o : Option Pool) → Some l ≡ option_map layout_of o
+        → unwrap_or (option_map (λ x. x.unit) o) 0 ≡ l.unit
+    by None e = cc
+    by (Some x) e = let same : layout_of x ≡ l = cc in ap (λ (m : Layout). m.unit) same

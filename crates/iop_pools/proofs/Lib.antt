@@ -17,6 +17,12 @@ pub mod KeptPools
 pub mod Layouts
 pub mod GreatestFree
 pub mod LeastPlaces
+pub mod LastRanges
+pub mod PuttingOut
+mod RangesBack
+mod PoolsBack
+mod RegularPools
+mod UnitBlocks
 mod ChangesOne
 mod NextMet
 mod MemoryOut

@@ -1,13 +1,14 @@
 -- A pool that is made, or deleted.
-use Rattle.std.proofs.Common.{◌≡◌, ◌≢◌, ℕ, ◌+◌, ◌<◌, Bool, true, false, cond, not, is_some, Some, Result, Ok, Err, List, [], ◌∷◌, ◌++◌, map, filter, if◌then◌else◌, refl, ap, sym, ◌∙◌, subst, arith, All, nat_lt, nat_le}
+use Rattle.std.proofs.Common.{◌≡◌, ◌≢◌, ℕ, ◌+◌, ◌<◌, ◌≤◌, Bool, true, false, cond, not, is_some, Some, Result, Ok, Err, List, [], ◌∷◌, ◌++◌, map, filter, if◌then◌else◌, refl, ap, sym, ◌∙◌, subst, arith, All, nat_lt, nat_le}
 use Rattle.std.specs.Prelude.{◌==◌, ◌&&◌}
-use Rattle.std.proofs.lemmas.Bool.{eqb-true, eqb-false, ne_eqb}
+use Rattle.std.proofs.lemmas.Bool.{and_parts, leb-true, eqb-true, eqb-false, ne_eqb}
 use Rattle.std.proofs.lemmas.List.{length-map, map_push}
 use Rattle.std.proofs.lemmas.List.Elements.{All-nil, All-cons, All-head, All-tail, All-push, All-weaker, All-filter}
 use Rattle.iop_base.specs.declared.code.Code.{Code}
 use Rattle.iop_base.specs.declared.code.TheConstants.Code.{NO_MEMORY}
 use Rattle.iop_base.specs.declared.limits.TheConstants.{LAST_ID}
 use Rattle.iop_objects.specs.Objects.{Object, Objects, object_of, no_objects, has_room, creates, deletes}
+use Rattle.iop_objects.specs.Restoring.{has_place, is_ahead, may_follow, with_last}
 use Rattle.iop_objects.specs.declared.objects.TheConstants.{FIRST_ID, MOST_OBJECTS}
 use Rattle.iop_objects.proofs.Tables.{table_of}
 use Rattle.iop_pools.specs.Pools.{Pool, Pools}
@@ -46,75 +47,99 @@ module _ {W : Type 0} (objects : Objects Layout W) (outs : List Out) (most : ℕ
   own = pools_in objects outs
 
   module _ (x : Layout) (sound : IsPool most (pool_with x [])) where
-    -- nothing is out of it
-    fresh : ranges_of objects.next outs ≡ []
-    fresh =
-        ranges_of-none objects.next outs
-        (All-weaker (λ o. o.pool < objects.next) (λ o. o.pool ≢ objects.next)
-        (λ o less same. omega (arith, less, same)) outs table.given)
+    -- it stands behind all others, with an id that was not given
+    module _ (id : ℕ) (ahead : objects.next ≤ id) where
+      -- nothing is out of it
+      fresh : ranges_of id outs ≡ []
+      fresh =
+          ranges_of-none id outs
+          (All-weaker (λ o. o.pool < objects.next) (λ o. o.pool ≢ id)
+          (λ o less same. omega (arith, less, same, ahead)) outs table.given)
 
-    abbrev made : Object Layout W
-    made = record { id = objects.next; state = x; waiters = [] }
+      abbrev made : Object Layout W
+      made = record { id = id; state = x; waiters = [] }
 
-    abbrev more : Objects Layout W
-    more = record { live = objects.live ++ made ∷ []; next = objects.next + 1 }
+      abbrev new : Object Pool W
+      new = record { id = id; state = pool_with x []; waiters = [] }
 
-    abbrev new : Object Pool W
-    new = record { id = objects.next; state = pool_with x []; waiters = [] }
+      made_in : pool_in outs made ≡ new
+      made_in =
+          ap (λ (rs : List Range). record { id = id; state = pool_with x rs; waiters = [] }) fresh
 
-    made_in : pool_in outs made ≡ new
-    made_in =
-        ap (λ (rs : List Range).
-        record { id = objects.next; state = pool_with x rs; waiters = [] }) fresh
+      live_in : map (pool_in outs) (objects.live ++ made ∷ []) ≡ own.live ++ new ∷ []
+      live_in =
+          map_push (pool_in outs) objects.live made ∙ ap (λ o. own.live ++ o ∷ []) made_in
 
-    live_in : map (pool_in outs) more.live ≡ own.live ++ new ∷ []
-    live_in =
-        map_push (pool_in outs) objects.live made ∙ ap (λ o. own.live ++ o ∷ []) made_in
+      pub with_last-in : pools_in (with_last objects id x) outs ≡ with_last own id (pool_with x [])
+      with_last-in = ap (λ l. table_of l (id + 1)) live_in
+
+      pub IsTable-last : IsTable (with_last objects id x) outs most
+      IsTable-last = record {
+        pools =
+            subst (λ l. All (λ o. IsPool most o.state) l) (sym live_in)
+            (All-push (λ o. IsPool most o.state) own.live new table.pools sound);
+        owned =
+            All-weaker (λ o. is_some (object_of objects.live o.pool) ≡ true)
+            (λ o. is_some (object_of (objects.live ++ made ∷ []) o.pool) ≡ true)
+            (λ o is. live_push o.pool objects.live made is) outs table.owned;
+        given =
+            All-weaker (λ o. o.pool < objects.next) (λ o. o.pool < id + 1)
+            (λ o less. omega (arith, less, ahead)) outs table.given;
+      }
+
+    first : objects.next ≤ objects.next
+    first = omega arith
 
     room_in : has_room own ≡ has_room objects
     room_in =
         ap (λ n. nat_lt n MOST_OBJECTS && nat_le objects.next LAST_ID)
         (length-map objects.live (pool_in outs))
 
-    abbrev outcome : {A : Type 0} → Bool → Objects A W → Object A W → Result ℕ Code × Objects A W
-    outcome b s o =
-        if b then (Ok s.next, record { live = s.live ++ o ∷ []; next = s.next + 1 })
-        else (Err NO_MEMORY, s)
+    abbrev outcome : {A : Type 0} → Bool → Objects A W → A → Result ℕ Code × Objects A W
+    outcome b s state = if b then (Ok s.next, with_last s s.next state) else (Err NO_MEMORY, s)
 
     both : (b : Bool)
-        → ((outcome b objects made).0 ≡ (outcome b own new).0)
-        × (pools_in (outcome b objects made).1 outs ≡ (outcome b own new).1)
-    both true = (refl, ap (λ l. table_of l (objects.next + 1)) live_in)
+        → ((outcome b objects x).0 ≡ (outcome b own (pool_with x [])).0)
+        × (pools_in (outcome b objects x).1 outs ≡ (outcome b own (pool_with x [])).1)
+    both true = (refl, with_last-in objects.next first)
     both false = (refl, refl)
 
     pub creates_answer : (creates objects x).0 ≡ (creates own (pool_with x [])).0
     creates_answer =
-        (both (has_room objects)).0 ∙ ap (λ b. (outcome b own new).0) (sym room_in)
+        (both (has_room objects)).0
+        ∙ ap (λ b. (outcome b own (pool_with x [])).0) (sym room_in)
 
     pub creates_left : pools_in (creates objects x).1 outs ≡ (creates own (pool_with x [])).1
     creates_left =
-        (both (has_room objects)).1 ∙ ap (λ b. (outcome b own new).1) (sym room_in)
-
-    IsTable-more : IsTable more outs most
-    IsTable-more = record {
-      pools =
-          subst (λ l. All (λ o. IsPool most o.state) l) (sym live_in)
-          (All-push (λ o. IsPool most o.state) own.live new table.pools sound);
-      owned =
-          All-weaker (λ o. is_some (object_of objects.live o.pool) ≡ true)
-          (λ o. is_some (object_of more.live o.pool) ≡ true)
-          (λ o is. live_push o.pool objects.live made is) outs table.owned;
-      given =
-          All-weaker (λ o. o.pool < objects.next) (λ o. o.pool < objects.next + 1)
-          (λ o less. omega (arith, less)) outs table.given;
-    }
+        (both (has_room objects)).1
+        ∙ ap (λ b. (outcome b own (pool_with x [])).1) (sym room_in)
 
     pub IsTable-created : IsTable (creates objects x).1 outs most
     IsTable-created = by (has_room objects)
       where
-        by : (b : Bool) → IsTable (outcome b objects made).1 outs most
-        by true = IsTable-more
+        by : (b : Bool) → IsTable (outcome b objects x).1 outs most
+        by true = IsTable-last objects.next first
         by false = table
+
+    -- it is put back
+    module _ (id : ℕ) where
+      abbrev after : {A : Type 0} → Bool → Objects A W → A → Objects A W
+      after b s state = if b then with_last s id state else s
+
+      ahead : may_follow objects id ≡ true → objects.next ≤ id
+      ahead may =
+          let ahead = and_parts (is_ahead objects id LAST_ID) (has_place objects) may in
+          leb-true _ _ (and_parts (nat_le objects.next id) (nat_le id LAST_ID) ahead.0).0
+
+      pub put_back-left : (b : Bool) → b ≡ may_follow objects id
+          → pools_in (after b objects x) outs ≡ after b own (pool_with x [])
+      put_back-left true may = with_last-in id (ahead (sym may))
+      put_back-left false may = refl
+
+      pub IsTable-put_back : (b : Bool) → b ≡ may_follow objects id
+          → IsTable (after b objects x) outs most
+      IsTable-put_back true may = IsTable-last id (ahead (sym may))
+      IsTable-put_back false may = table
 
   -- a pool is deleted, with its ranges
   module _ (id : ℕ) where

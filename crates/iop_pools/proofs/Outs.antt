@@ -1,9 +1,10 @@
 -- What one range more or less among those of all pools is to the ranges of each.
-use Rattle.std.proofs.Common.{◌≡◌, ◌≢◌, ℕ, suc, ◌+◌, Bool, true, false, cond, not, Option, Some, None, is_some, option_map, unwrap_or, List, [], ◌∷◌, length, map, filter, refl, sym, ap, ◌∙◌, arith, nat_lt, nat_le}
+use Rattle.std.proofs.Common.{◌≡◌, ◌≢◌, ℕ, suc, ◌+◌, ◌-◌, Bool, true, false, cond, not, Option, Some, None, is_some, option_map, unwrap_or, List, [], ◌∷◌, length, map, filter, take, drop, get_or, add-one, refl, sym, ap, ◌∙◌, arith, nat_lt, nat_le}
 use Rattle.std.specs.Prelude.{◌==◌, ◌&&◌, if◌then◌else◌}
 use Rattle.std.specs.List.{insert, remove, position, position_or_len}
 use Rattle.std.proofs.lemmas.Bool.{eqb-true, eq-eqb, ne_eqb}
 use Rattle.std.proofs.lemmas.Bool.Decides.{nat_tests}
+use Rattle.std.proofs.lemmas.List.{length-drop, take_all}
 use Rattle.iop_pools.specs.Ranges.{is_out, with_range, without}
 use Rattle.iop_pools.specs.Standing.{ranges_of}
 use Rattle.iop_pools.specs.Walks.{is_this, is_behind, with_out, without_out}
@@ -188,3 +189,47 @@ ranges_of-without_other id block other apart (x ∷ xs) =
         sym (ranges_of-other other x xs (ne_eqb x.pool other (λ e. apart (sym same ∙ e))))
     by true false is later = own (x.pool == other) (without_out id block xs) xs later
     by false here is later = own (x.pool == other) (without_out id block xs) xs later
+
+-- the first range of the pool, and those behind it
+pub none_own : (id : ℕ) (outs : List Out) → None ≡ position (λ o. o.pool == id) outs
+    → ranges_of id outs ≡ []
+none_own id [] none = refl
+none_own id (o ∷ outs) none =
+    by (o.pool == id) (position (λ o. o.pool == id) outs) (none_own id outs)
+    (none ∙ position-cons (λ o. o.pool == id) o outs)
+  where
+    by : (b : Bool) (place : Option ℕ) → (None ≡ place → ranges_of id outs ≡ [])
+        → None ≡ cond b (Some 0) (option_map suc place)
+        → map (λ o. o.range) (cond b (o ∷ filter (λ o. o.pool == id) outs)
+        (filter (λ o. o.pool == id) outs)) ≡ []
+    by true place later is = cc
+    by false None later is = later refl
+    by false (Some k) later is = cc
+
+pub first_own : (id : ℕ) (outs : List Out) (place : ℕ)
+    → Some place ≡ position (λ o. o.pool == id) outs → (d : Out)
+    → ranges_of id outs ≡ (get_or outs place d).range ∷ ranges_of id (drop (suc place) outs)
+first_own id [] place is d = cc
+first_own id (o ∷ outs) place is d =
+    by (o.pool == id) (position (λ o. o.pool == id) outs)
+    (λ k at. first_own id outs k at d)
+    (is ∙ position-cons (λ o. o.pool == id) o outs)
+  where
+    by : (b : Bool) (later : Option ℕ)
+        → ((k : ℕ) → Some k ≡ later
+        → ranges_of id outs ≡ (get_or outs k d).range ∷ ranges_of id (drop (suc k) outs))
+        → Some place ≡ cond b (Some 0) (option_map suc later)
+        → map (λ o. o.range) (cond b (o ∷ filter (λ o. o.pool == id) outs)
+        (filter (λ o. o.pool == id) outs))
+        ≡ (get_or (o ∷ outs) place d).range ∷ ranges_of id (drop (suc place) (o ∷ outs))
+    by true later rest e = let zero_is : 0 ≡ place = cc in rw (sym zero_is) refl
+    by false None rest e = cc
+    by false (Some k) rest e = let next : suc k ≡ place = cc in rw (sym next) (rest k refl)
+
+-- what a walk has left that came to a place
+pub left-is : (outs : List Out) (place : ℕ)
+    → take (length outs - (place + 1)) (drop (place + 1) outs) ≡ drop (suc place) outs
+left-is outs place =
+    take_all (length outs - (place + 1)) (drop (place + 1) outs)
+    (omega (arith, length-drop (place + 1) outs))
+    ∙ ap (λ k. drop k outs) (add-one place)

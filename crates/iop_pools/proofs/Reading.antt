@@ -1,11 +1,13 @@
 -- What a table tells of its pools, and what is left of it when its objects change.
 use Rattle.std.proofs.Common.{◌≡◌, ℕ, Bool, true, false, cond, is_some, Option, Some, None, option_map, List, [], ◌∷◌, ◌++◌, length, map, sum, if◌then◌else◌, refl, ap, sym, ◌∙◌, subst, All}
-use Rattle.std.specs.Prelude.{◌==◌}
+use Rattle.std.specs.Prelude.{◌==◌, ◌&&◌, nat_lt}
 use Rattle.std.proofs.lemmas.Bool.{eqb-true}
 use Rattle.std.proofs.lemmas.List.Elements.{All-nil, All-cons, All-head, All-tail}
 use Rattle.std.proofs.lemmas.Simd.{map-map}
 use Rattle.iop_base.proofs.Searching.{find-map}
 use Rattle.iop_objects.specs.Objects.{Object, Objects, object_of, state_of, waiters_in, waiters_of, waiting, with_waiters, waits, takes}
+use Rattle.iop_objects.specs.Restoring.{may_wait}
+use Rattle.iop_objects.specs.declared.objects.TheConstants.{MOST_WAITERS}
 use Rattle.iop_objects.specs.declared.waiter.Waiter.{Waiter}
 use Rattle.iop_objects.proofs.Tables.{table_of}
 use Rattle.iop_queues.specs.Queue.{Choice}
@@ -60,6 +62,18 @@ module _ {W : Type 0} (objects : Objects Layout W) (outs : List Out) where
     is_live-in = ap is_some found ∙ by (object_of objects.live id)
       where
         by : (o : Option (Object Layout W)) → is_some (option_map (pool_in outs) o) ≡ is_some o
+        by None = refl
+        by (Some o) = refl
+
+    -- those that wait for it, if it is live
+    pub awaited-in : option_map (λ o. o.waiters) (object_of own.live id)
+        ≡ option_map (λ o. o.waiters) (object_of objects.live id)
+    awaited-in =
+        ap (option_map (λ (o : Object Pool W). o.waiters)) found ∙ by (object_of objects.live id)
+      where
+        by : (o : Option (Object Layout W))
+            → option_map (λ (p : Object Pool W). p.waiters) (option_map (pool_in outs) o)
+            ≡ option_map (λ (p : Object Layout W). p.waiters) o
         by None = refl
         by (Some o) = refl
 
@@ -126,6 +140,18 @@ module _ {W : Type 0} (objects : Objects Layout W) (outs : List Out) where
   waiting-in = ap sum (map-map (λ (o : Object Pool W). length o.waiters) (pool_in outs)
       objects.live)
 
+  pub may_wait-in : (id : ℕ) → may_wait own id ≡ may_wait objects id
+  may_wait-in id =
+      ap (λ b. b && nat_lt (waiting own) MOST_WAITERS) (is_live-in id)
+      ∙ ap (λ n. is_some (object_of objects.live id) && nat_lt n MOST_WAITERS) waiting-in
+
+  -- where one more thread may wait
+  pub waits_if-in : (id : ℕ) (one : Queued (Waiter W)) (may : Bool)
+      → pools_in (if may then waits objects id one else objects) outs
+      ≡ (if may then waits own id one else own)
+  waits_if-in id one true = waits-in id one
+  waits_if-in id one false = refl
+
   -- the table is sound, whoever waits
   module _ (most : ℕ) (table : IsTable objects outs most) (id : ℕ)
       (waiters : List (Queued (Waiter W))) where
@@ -178,3 +204,9 @@ module _ {W : Type 0} (objects : Objects Layout W) (outs : List Out) where
       → (c : Option (Choice (Waiter W))) → IsTable (takes objects id c).1 outs most
   IsTable-taken most table id None = table
   IsTable-taken most table id (Some c) = IsTable-with_waiters most table id c.others
+
+  pub IsTable-waits_if : (most : ℕ) → IsTable objects outs most → (id : ℕ)
+      (one : Queued (Waiter W)) (may : Bool)
+      → IsTable (if may then waits objects id one else objects) outs most
+  IsTable-waits_if most table id one true = IsTable-with_waiters most table id _
+  IsTable-waits_if most table id one false = table

@@ -1,10 +1,11 @@
 -- What a table tells of one pool.
-use Rattle.std.proofs.Common.{◌≡◌, ◌≢◌, ℕ, true, false, is_some, Option, Some, None, option_map, unwrap_or, List, [], ◌∷◌, refl, ap, sym, ◌∙◌, All}
+use Rattle.std.proofs.Common.{◌≡◌, ◌≢◌, ℕ, ◌<◌, IfSome, slice_get, subst, true, false, is_some, Option, Some, None, option_map, unwrap_or, List, [], ◌∷◌, refl, ap, sym, ◌∙◌, All}
 use Rattle.std.proofs.lemmas.Bool.{ne_eqb}
 use Rattle.std.proofs.lemmas.List.Elements.{All-head, All-tail, All-weaker}
+use Rattle.std.proofs.lemmas.Option.{slice_get-map, slice_get_within, get_or_from_slice_get}
 use Rattle.iop_objects.specs.Objects.{Object, Objects, object_of, state_of}
 use Rattle.iop_pools.specs.Pools.{Pool, Pools, ranges_in}
-use Rattle.iop_pools.specs.Standing.{ranges_of, pool_with, pools_in, IsPool, IsTable}
+use Rattle.iop_pools.specs.Standing.{ranges_of, pool_with, pool_in, pools_in, IsPool, IsTable}
 use Rattle.iop_pools.specs.declared.layout.Layout.{Layout}
 use Rattle.iop_pools.specs.declared.out.Out.{Out}
 use Rattle.iop_pools.proofs.RangesOf.{ranges_of-other}
@@ -18,6 +19,29 @@ ranges_of-none id [] none = refl
 ranges_of-none id (o ∷ outs) none =
     ranges_of-other id o outs (ne_eqb o.pool id (All-head (λ o. o.pool ≢ id) o outs none))
     ∙ ranges_of-none id outs (All-tail (λ o. o.pool ≢ id) o outs none)
+
+module _ {W : Type 0} (objects : Objects Layout W) (outs : List Out) (most : ℕ)
+    (table : IsTable objects outs most) where
+  -- the pool at a place has units
+  pub nth_unit : (place : ℕ) (found : Option (ℕ × Layout))
+      → found ≡ option_map (λ o. (o.id, o.state)) (slice_get objects.live place)
+      → IfSome {T = ℕ × Layout} found (λ pool. 0 < pool.1.unit)
+  nth_unit place found is =
+      subst (λ f. IfSome {T = ℕ × Layout} f (λ pool. 0 < pool.1.unit)) (sym is)
+      (by (slice_get objects.live place) refl)
+    where
+      by : (o : Option (Object Layout W)) → slice_get objects.live place ≡ o
+          → IfSome {T = ℕ × Layout} (option_map (λ o. (o.id, o.state)) o) (λ pool. 0 < pool.1.unit)
+      by None at = tt
+      by (Some o) at =
+          let p = pool_in outs o in
+          let pools = (pools_in objects outs).live in
+          let pool_at : slice_get pools place ≡ Some p =
+          slice_get-map (pool_in outs) objects.live place ∙ ap (option_map (pool_in outs)) at in
+          let sound = subst (λ (q : Object Pool W). IsPool most q.state)
+          (get_or_from_slice_get pools place p p pool_at)
+          (table.pools place p (slice_get_within pools place p pool_at)) in
+          sound.unit
 
 module _ {W : Type 0} (objects : Objects Layout W) (outs : List Out) (most : ℕ)
     (table : IsTable objects outs most) (id : ℕ) where

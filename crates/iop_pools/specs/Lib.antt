@@ -8,3 +8,8 @@ pub mod Laws
 pub mod MeetingLaws
 pub mod GivingLaws
 pub mod TakingLaws
+pub mod Restoring
+pub mod VariableRestoring
+pub mod FixedRestoring
+pub mod RestoringLaws
+pub mod BlockLaws

@@ -42,6 +42,10 @@ AreInOrder from end [] = from ≤ end
 AreInOrder from end (r ∷ rs) =
     (from ≤ r.start) × (0 < r.size) × AreInOrder (end_of r) end rs
 
+-- a range that ends inside of a pool
+abbrev pub EndsInside : Layout → Range → Type 0
+EndsInside x r = (x.base ≤ end_of r) × (end_of r ≤ x.base + x.size)
+
 -- so many units behind the base
 abbrev pub IsPlace : (base unit place : ℕ) → Type 0
 IsPlace base unit place = (k : ℕ) × (place ≡ base + k * unit)

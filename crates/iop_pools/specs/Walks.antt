@@ -10,6 +10,11 @@ first_gap from end len [] = if nat_le len (end - from) then Some from else None
 first_gap from end len (r ∷ rs) =
     if nat_le len (r.start - from) then Some from else first_gap (end_of r) end len rs
 
+-- where the last range ends, or the place where all begin
+abbrev pub end_behind : (from : ℕ) → Option Range → ℕ
+end_behind from None = from
+end_behind from (Some r) = end_of r
+
 -- whether it is the range of a pool that starts at an address
 abbrev pub is_this : (id block : ℕ) → Out → Bool
 is_this id block o = (o.pool == id) && (o.range.start == block)

@@ -1,16 +1,23 @@
-ghost use Rattle.std.specs.Prelude.{◌≡◌, ◌+◌, ◌*◌, ◌^◌, ◌<◌, ◌≤◌, [], Some, None, IfOk, All, is_some, length, option_map, true};
+ghost use Rattle.std.specs.Prelude.{◌≡◌, ◌+◌, ◌*◌, ◌^◌, ◌<◌, ◌≤◌, [], Some, None, IfOk, All, is_some, length, option_map, slice_get, true};
 ghost use Rattle.iop_objects.specs.Objects.{no_objects, object_of, state_of, waiters_of, waiting, has_room, takes_next, drops, requeues};
-ghost use Rattle.iop_objects.specs.declared.objects.TheConstants.{MOST_WAITERS};
+ghost use Rattle.iop_objects.specs.declared.objects.TheConstants.{MOST_OBJECTS, MOST_WAITERS};
 ghost use Rattle.iop_pools.specs.Laws.{Apart};
 ghost use Rattle.iop_pools.specs.Pools.{Pool, is_by_priority, place_for};
-ghost use Rattle.iop_pools.specs.declared.fixed_pool.TheConstants.{MOST_BLOCK_BYTES};
+ghost use Rattle.iop_pools.specs.FixedRestoring.{blocks_in, layout_of};
+ghost use Rattle.iop_pools.specs.Standing.{ArePools};
+ghost use Rattle.iop_pools.specs.declared.fixed_pool.TheConstants.{MOST_BLOCK_BYTES, MOST_BLOCKS};
 ghost use Rattle.iop_pools.specs.FixedPools.{bytes, block_for, status_of, creates, deletes, takes, gives, waits};
 
+mod restoring;
+
+use crate::block_walk::BlockWalk;
+use crate::fixed_layout::FixedLayout;
 use crate::fixed_pool::{FixedPool, MOST_BLOCKS, block_for, bytes};
 use crate::layout::Layout;
 use crate::pools::Pools;
 use iop_base::Code;
 use iop_objects::Waiter;
+use iop_queues::Walk;
 use std::alloc::{AllocError, Global};
 use std::marker::Model;
 
@@ -38,6 +45,49 @@ impl FixedPools {
     {
         let pools = Pools::new(alloc)?;
         Ok(FixedPools { pools })
+    }
+
+    /// Tells how many pools are live.
+    pub fn len(&self) -> usize
+        ensures count { result ≡ length self.now.live }
+        ensures few { result ≤ MOST_OBJECTS }
+        ensures sound { ArePools MOST_BLOCKS self.now }
+    {
+        self.pools.len()
+    }
+
+    /// Reads the id of the live pool at a place in the order of ids, and how it is laid out. None
+    /// exactly where so many or fewer are live.
+    pub fn nth(&self, place: usize) -> Option<(u32, FixedLayout)>
+        ensures { result
+            ≡ option_map (λ o. (o.id, layout_of o.state)) (slice_get self.now.live place) }
+    {
+        let (id, layout) = self.pools.nth(place)?;
+        Some((id, FixedLayout::of(layout)))
+    }
+
+    /// Walks over the addresses of the blocks that are out of a pool, in rising order. None exactly
+    /// where none of this id is live.
+    pub fn blocks(&self, id: u32) -> Option<BlockWalk<'_>>
+        ensures { result ≡ option_map (λ x. blocks_in x.ranges) (state_of self.now id) }
+    {
+        let ranges = self.pools.ranges(id)?;
+        Some(BlockWalk::new(ranges))
+    }
+
+    /// Walks over the threads that wait for a pool, in order of their arrival. None exactly where
+    /// none of this id is live.
+    pub fn walk(&self, id: u32) -> Option<Walk<'_, Waiter<()>>>
+        ensures { result ≡ option_map (λ o. o.waiters) (object_of self.now.live id) }
+    {
+        self.pools.walk(id)
+    }
+
+    /// Tells the id of the next pool. Where none is left it is the one behind `LAST_ID`.
+    pub fn next_id(&self) -> u32
+        ensures { result ≡ self.now.next }
+    {
+        self.pools.next_id()
     }
 
     /// Reads what is known of a pool. None exactly where none of this id is live.

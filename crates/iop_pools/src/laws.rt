@@ -1,9 +1,11 @@
 //! Facts about the definitions that no call computes. Each is the contract of a function that does
 //! nothing.
 
+ghost use Rattle.iop_pools.specs.BlockLaws.{BlocksAreUnits};
 ghost use Rattle.iop_pools.specs.GivingLaws.{MemoryIsGiven};
 ghost use Rattle.iop_pools.specs.Laws.{MemoryIsOut, PoolsAreApart, PoolsChangeOne};
 ghost use Rattle.iop_pools.specs.MeetingLaws.{NextIsMet};
+ghost use Rattle.iop_pools.specs.RestoringLaws.{PoolsAreRestored};
 ghost use Rattle.iop_pools.specs.TakingLaws.{MemoryIsTaken};
 
 /// The ranges that are out of a pool are pairwise disjoint and inside of it. Memory that is taken
@@ -49,4 +51,17 @@ pub fn pools_change_one()
 /// is met exactly where the size of none fits, or no pool of the id is live; nothing changes then.
 pub fn next_is_met()
     ensures { NextIsMet }
+{}
+
+/// The pools of a table whose ids rise, each as one can stand, can all be put back into a table of
+/// none: in their order, each with what was out of it, in the order of the places, and those that
+/// waited for it, in the order of their arrival. So can its next id. That gives the table again.
+pub fn pools_are_restored()
+    ensures { PoolsAreRestored }
+{}
+
+/// Each range that is out of a fixed pool is one block: of a table of none it is so, and each call
+/// keeps it.
+pub fn blocks_are_units()
+    ensures { BlocksAreUnits }
 {}

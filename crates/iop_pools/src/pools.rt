@@ -1,16 +1,19 @@
-ghost use Rattle.std.specs.Prelude.{◌≡◌, ◌*◌, ◌^◌, ◌<◌, ◌≤◌, [], IfOk, IfSome, Some, is_some, option_map, option_and_then, true, length};
+ghost use Rattle.std.specs.Prelude.{◌≡◌, ◌*◌, ◌^◌, ◌<◌, ◌≤◌, [], IfOk, IfSome, Some, is_some, option_map, option_and_then, slice_get, true, length};
 ghost use Rattle.iop_objects.specs.Objects.{no_objects, object_of, state_of, waiters_of, waiting, has_room, creates, deletes, waits, takes_next, takes_next_where, drops, requeues};
 ghost use Rattle.iop_objects.specs.declared.objects.TheConstants.{MOST_OBJECTS, MOST_WAITERS};
 ghost use Rattle.iop_pools.specs.Pools.{Pool, is_by_priority, free_of, greatest_free, room_of, takes_place, frees, has_out};
 ghost use Rattle.iop_pools.specs.Standing.{layout_of, pool_with, IsPool, ArePools};
 
+mod restoring;
+
 use crate::layout::Layout;
 use crate::out::Out;
 use crate::range::Range;
+use crate::range_walk::RangeWalk;
 use crate::walks;
 use iop_base::Code;
 use iop_objects::{MOST_OBJECTS, Objects, Waiter};
-use iop_queues::Condition;
+use iop_queues::{Condition, Walk};
 use std::alloc::{AllocError, Global};
 use std::marker::Model;
 
@@ -49,6 +52,47 @@ impl<W: Copy, const MOST: usize> Pools<W, MOST> {
         let objects = Objects::new(alloc)?;
         let outs = Vec::with_capacity(alloc, MOST_OBJECTS * MOST)?;
         Ok(Pools { objects, outs })
+    }
+
+    /// Tells how many pools are live.
+    pub(crate) fn len(&self) -> usize
+        ensures count { result ≡ length self.now.live }
+        ensures few { result ≤ MOST_OBJECTS }
+        ensures pools { ArePools MOST self.now }
+    {
+        self.objects.len()
+    }
+
+    /// Reads the id of the live pool at a place in the order of ids, and what is known of it but
+    /// for its ranges. None exactly where so many or fewer are live.
+    pub(crate) fn nth(&self, place: usize) -> Option<(u32, Layout)>
+        ensures known { result
+            ≡ option_map (λ o. (o.id, layout_of o.state)) (slice_get self.now.live place) }
+        ensures unit { IfSome result (λ found. 0 < found.1.unit) }
+    {
+        self.objects.nth(place)
+    }
+
+    /// Walks over the ranges that are out of a pool. None exactly where none of this id is live.
+    pub(crate) fn ranges(&self, id: u32) -> Option<RangeWalk<'_>>
+        ensures { result ≡ option_map (λ x. x.ranges) (state_of self.now id) }
+    {
+        let _ = self.objects.state(id)?;
+        Some(RangeWalk::new(&self.outs, id))
+    }
+
+    /// Walks over the threads that wait for a pool. None exactly where none of this id is live.
+    pub(crate) fn walk(&self, id: u32) -> Option<Walk<'_, Waiter<W>>>
+        ensures { result ≡ option_map (λ o. o.waiters) (object_of self.now.live id) }
+    {
+        self.objects.walk(id)
+    }
+
+    /// Tells the id of the next pool.
+    pub(crate) fn next_id(&self) -> u32
+        ensures { result ≡ self.now.next }
+    {
+        self.objects.next_id()
     }
 
     /// Reads what is known of a pool but for its ranges. None exactly where none of this id is

@@ -1,18 +1,24 @@
-ghost use Rattle.std.specs.Prelude.{◌≡◌, ◌+◌, ◌^◌, ◌<◌, ◌≤◌, [], Some, None, IfOk, All, is_some, length, option_map, true};
+ghost use Rattle.std.specs.Prelude.{◌≡◌, ◌+◌, ◌^◌, ◌<◌, ◌≤◌, [], Some, None, IfOk, All, is_some, length, option_map, slice_get, true};
 ghost use Rattle.iop_objects.specs.Objects.{no_objects, object_of, state_of, waiters_of, waiting, has_room, takes_next, drops, requeues};
-ghost use Rattle.iop_objects.specs.declared.objects.TheConstants.{MOST_WAITERS};
+ghost use Rattle.iop_objects.specs.declared.objects.TheConstants.{MOST_OBJECTS, MOST_WAITERS};
 ghost use Rattle.iop_pools.specs.Laws.{Apart};
 ghost use Rattle.iop_pools.specs.Pools.{Pool, is_by_priority};
-ghost use Rattle.iop_pools.specs.declared.variable_pool.TheConstants.{MOST_BYTES};
+ghost use Rattle.iop_pools.specs.Standing.{ArePools};
+ghost use Rattle.iop_pools.specs.VariableRestoring.{layout_of};
+ghost use Rattle.iop_pools.specs.declared.variable_pool.TheConstants.{MOST_BYTES, MOST_RANGES};
 ghost use Rattle.iop_pools.specs.VariablePools.{bytes, pool_length, place_of, status_of, creates, deletes, takes, gives, waits, meets_next};
+
+mod restoring;
 
 use crate::layout::Layout;
 use crate::met::Met;
 use crate::pools::Pools;
+use crate::range_walk::RangeWalk;
+use crate::variable_layout::VariableLayout;
 use crate::variable_pool::{MOST_RANGES, VARIABLE_UNIT, VariablePool, bytes, pool_length};
 use iop_base::Code;
 use iop_objects::Waiter;
-use iop_queues::Condition;
+use iop_queues::{Condition, Walk};
 use std::alloc::{AllocError, Global};
 use std::marker::Model;
 
@@ -54,6 +60,48 @@ impl VariablePools {
     {
         let pools = Pools::new(alloc)?;
         Ok(VariablePools { pools })
+    }
+
+    /// Tells how many pools are live.
+    pub fn len(&self) -> usize
+        ensures count { result ≡ length self.now.live }
+        ensures few { result ≤ MOST_OBJECTS }
+        ensures sound { ArePools MOST_RANGES self.now }
+    {
+        self.pools.len()
+    }
+
+    /// Reads the id of the live pool at a place in the order of ids, and how it is laid out. None
+    /// exactly where so many or fewer are live.
+    pub fn nth(&self, place: usize) -> Option<(u32, VariableLayout)>
+        ensures { result
+            ≡ option_map (λ o. (o.id, layout_of o.state)) (slice_get self.now.live place) }
+    {
+        let (id, layout) = self.pools.nth(place)?;
+        Some((id, VariableLayout::of(layout)))
+    }
+
+    /// Walks over the ranges that are out of a pool, in order of their starts. None exactly where
+    /// none of this id is live.
+    pub fn ranges(&self, id: u32) -> Option<RangeWalk<'_>>
+        ensures { result ≡ option_map (λ x. x.ranges) (state_of self.now id) }
+    {
+        self.pools.ranges(id)
+    }
+
+    /// Walks over the threads that wait for a pool, in order of their arrival. None exactly where
+    /// none of this id is live.
+    pub fn walk(&self, id: u32) -> Option<Walk<'_, Waiter<u32>>>
+        ensures { result ≡ option_map (λ o. o.waiters) (object_of self.now.live id) }
+    {
+        self.pools.walk(id)
+    }
+
+    /// Tells the id of the next pool. Where none is left it is the one behind `LAST_ID`.
+    pub fn next_id(&self) -> u32
+        ensures { result ≡ self.now.next }
+    {
+        self.pools.next_id()
     }
 
     /// Reads what is known of a pool. None exactly where none of this id is live.

@@ -1,6 +1,7 @@
 //! Walks over the ranges that are out of one pool. They stand in order among those of the others.
 
-ghost use Rattle.std.specs.Prelude.{◌≡◌, ◌+◌, ◌<◌, ◌==◌, ◌≤◌, IfSome, position, count_by, length, vec_capacity, vec_len};
+ghost use Rattle.std.specs.Prelude.{◌≡◌, ◌+◌, ◌<◌, ◌==◌, ◌≤◌, IfSome, None, find, position, count_by, length, option_copied, reverse, vec_capacity, vec_len};
+ghost use Rattle.std.specs.List.{last_or};
 ghost use Rattle.iop_pools.specs.Ranges.{gaps, greatest, total};
 ghost use Rattle.iop_pools.specs.Standing.{ranges_of, AreInOrder};
 ghost use Rattle.iop_pools.specs.Walks.{first_gap, is_behind, is_this, with_out};
@@ -62,6 +63,30 @@ pub(crate) fn count(outs: &[Out], id: u32) -> usize
     ensures { result ≡ count_by (λ out. out.pool == id) outs.now }
 {
     outs.iter().filter(|out| out.pool == id).count()
+}
+
+/// Finds where the first range stands.
+pub(crate) fn first(outs: &[Out], id: u32) -> Option<usize>
+    ensures place { result ≡ position (λ out. out.pool == id) outs.now }
+    ensures below { IfSome result (λ place. place < length outs.now) }
+{
+    outs.iter().position(|out| out.pool == id)
+}
+
+/// Finds the last range. It is looked for from the end on: there stand those of the pool that is
+/// put back.
+fn find_last(outs: &[Out], id: u32) -> Option<&Out>
+    ensures { option_copied result ≡ find (λ out. out.pool == id) (reverse outs.now) }
+{
+    outs.iter().rev().find(|out| out.pool == id)
+}
+
+/// Reads the last range.
+pub(crate) fn last(outs: &[Out], id: u32) -> Option<Range>
+    ensures { result ≡ last_or None (ranges_of id outs.now) }
+{
+    let last = find_last(outs, id)?;
+    Some(last.range)
 }
 
 /// Finds where the range stands that starts at an address.

@@ -1,5 +1,8 @@
-//! Tests of iop_pools: where memory is taken, which threads are answered, and what is refused.
+//! Tests of iop_pools: where memory is taken, which threads are answered, what is put back, and
+//! what is refused.
 #![tactic(auto)]
 
+#[cfg(test)]
+mod restoring;
 #[cfg(test)]
 mod tests;

@@ -1,2 +1,3 @@
 pub mod Semaphores
+pub mod Restoring
 pub mod Laws

@@ -2,6 +2,7 @@
 //! nothing.
 
 ghost use Rattle.iop_sema.specs.Laws.{SemaphoresCount};
+ghost use Rattle.iop_sema.specs.Restoring.{SemaphoresAreRestored};
 
 /// A signal wakes one thread where one waits, or raises the count by one where none waits and it
 /// is below its most, and never both; it is refused exactly where none waits and the count is at
@@ -10,4 +11,10 @@ ghost use Rattle.iop_sema.specs.Laws.{SemaphoresCount};
 /// for it.
 pub fn semaphores_count()
     ensures { SemaphoresCount }
+{}
+
+/// The semaphores of a table whose ids rise, with those that wait for them, can all be put back
+/// into a table of none, in their order, and so can its next id. That gives the table again.
+pub fn semaphores_are_restored()
+    ensures { SemaphoresAreRestored }
 {}

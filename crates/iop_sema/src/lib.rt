@@ -2,6 +2,7 @@
 #![tactic(auto)]
 
 pub mod laws;
+mod restoring;
 mod semaphore;
 mod semaphores;
 

@@ -1,4 +1,5 @@
 ghost use Rattle.std.specs.Prelude.{◌≡◌};
+ghost use Rattle.iop_sema.specs.Restoring.{is_sound};
 ghost use Rattle.iop_sema.specs.Semaphores.{by_priority, is_attribute};
 
 /// The attribute of a semaphore whose waiters are chosen by their priority (ps2sdk: thsemap.h,
@@ -26,6 +27,14 @@ impl Semaphore {
         ensures { result ≡ by_priority self.now }
     {
         self.attr == BY_PRIORITY
+    }
+
+    /// Says whether a semaphore can have its attribute and its counts: neither the first count nor
+    /// the count is over the most.
+    pub(crate) fn is_sound(&self) -> bool
+        ensures { result ≡ is_sound self.now }
+    {
+        is_attribute(self.attr) && self.initial <= self.max && self.count <= self.max
     }
 }
 

@@ -1,18 +1,19 @@
-ghost use Rattle.std.specs.Prelude.{◌≡◌, ◌<◌, ◌≤◌, [], IfOk, is_some, option_map, true, length};
+ghost use Rattle.std.specs.Prelude.{◌≡◌, ◌<◌, ◌≤◌, [], IfOk, is_some, option_map, true, length, slice_get};
 ghost use Rattle.iop_objects.specs.Objects.{no_objects, object_of, state_of, waiters_of, waiting, takes_next, drops, requeues};
-ghost use Rattle.iop_objects.specs.declared.objects.TheConstants.{MOST_WAITERS};
+ghost use Rattle.iop_objects.specs.declared.objects.TheConstants.{MOST_OBJECTS, MOST_WAITERS};
 ghost use Rattle.iop_sema.specs.Semaphores.{creates, deletes, signals, takes, waits, is_by_priority};
 
 use crate::semaphore::{Semaphore, is_attribute};
 use iop_base::Code;
 use iop_objects::{Objects, Waiter};
+use iop_queues::Walk;
 use std::alloc::{AllocError, Global};
 use std::marker::Model;
 
 /// The live semaphores, and the threads that wait for each.
 #[derive(Drop)]
 pub struct Semaphores {
-    objects: Objects<Semaphore, ()>,
+    pub(crate) objects: Objects<Semaphore, ()>,
 }
 
 impl Model for Semaphores {
@@ -48,6 +49,37 @@ impl Semaphores {
         ensures few { result ≤ MOST_WAITERS }
     {
         self.objects.waiters(id)
+    }
+
+    /// Tells how many semaphores are live.
+    pub fn len(&self) -> usize
+        ensures count { result ≡ length self.now.live }
+        ensures few { result ≤ MOST_OBJECTS }
+    {
+        self.objects.len()
+    }
+
+    /// Reads the id of the live semaphore at a place in the order of ids, and what is known of it.
+    /// None exactly where so many or fewer are live.
+    pub fn nth(&self, place: usize) -> Option<(u32, Semaphore)>
+        ensures { result ≡ option_map (λ o. (o.id, o.state)) (slice_get self.now.live place) }
+    {
+        self.objects.nth(place)
+    }
+
+    /// Walks over the threads that wait for a semaphore, in order of their arrival. None exactly
+    /// where none of this id is live.
+    pub fn walk(&self, id: u32) -> Option<Walk<'_, Waiter<()>>>
+        ensures { result ≡ option_map (λ o. o.waiters) (object_of self.now.live id) }
+    {
+        self.objects.walk(id)
+    }
+
+    /// Tells the id of the next semaphore. Where none is left it is the one behind `LAST_ID`.
+    pub fn next_id(&self) -> u32
+        ensures { result ≡ self.now.next }
+    {
+        self.objects.next_id()
     }
 
     /// Makes a semaphore, and answers its id. `ILLEGAL_ATTRIBUTE` exactly where the attribute is

@@ -1,7 +1,7 @@
 ghost use Rattle.std.specs.Prelude.{◌≤◌};
 
-use iop_base::Code;
-use iop_sema::{BY_PRIORITY, Semaphores};
+use iop_base::{Code, LAST_ID};
+use iop_sema::{BY_PRIORITY, Semaphore, Semaphores};
 use std::alloc::{AllocError, Global};
 use std::test::Fail;
 
@@ -139,5 +139,64 @@ fn waiters_by_arrival(rt: HostRuntime) -> Result<(), Fail> {
         (Call::Pop(1), 0),
     ];
     assert_eq!(rt; wrong_row(&mut semaphores, &rows), None);
+    Ok(())
+}
+
+/// Makes what is known of a semaphore whose most is 2.
+fn of_most_2(attr: u32, initial: u32, count: u32) -> Semaphore {
+    Semaphore {
+        attr,
+        option: 7,
+        initial,
+        max: 2,
+        count,
+    }
+}
+
+#[test]
+fn semaphores_are_put_back(rt: HostRuntime) -> Result<(), Fail> {
+    let mut semaphores = Semaphores::new(rt.alloc())?;
+    let rows = [
+        (2, of_most_2(2, 1, 1), false),
+        (2, of_most_2(0, 3, 1), false),
+        (2, of_most_2(0, 1, 3), false),
+        (2, of_most_2(0, 2, 2), true),
+        (2, of_most_2(0, 0, 0), false),
+        (5, of_most_2(BY_PRIORITY, 0, 1), true),
+        (LAST_ID + 1, of_most_2(0, 0, 0), false),
+    ];
+    for (id, semaphore, put) in rows {
+        assert_eq!(rt; semaphores.put_back(id, semaphore), put);
+    }
+    let rows = [
+        (0, Some((2, of_most_2(0, 2, 2)))),
+        (1, Some((5, of_most_2(BY_PRIORITY, 0, 1)))),
+        (2, None),
+    ];
+    for (place, semaphore) in rows {
+        assert_eq!(rt; semaphores.nth(place), semaphore);
+    }
+    assert_eq!(rt; semaphores.len(), 2);
+    assert_eq!(rt; semaphores.next_id(), 6);
+    assert!(rt; !semaphores.put_next(5));
+    assert!(rt; semaphores.put_next(9));
+    assert_eq!(rt; semaphores.next_id(), 9);
+    Ok(())
+}
+
+#[test]
+fn waiters_are_put_back(rt: HostRuntime) -> Result<(), Fail> {
+    let mut semaphores = Semaphores::new(rt.alloc())?;
+    assert!(rt; semaphores.put_back(3, of_most_2(0, 0, 0)));
+    for (id, thread, put) in [(3, 12, true), (1, 13, false), (3, 11, true)] {
+        assert_eq!(rt; semaphores.put_waiter(id, thread, 20), put);
+    }
+    assert!(rt; semaphores.walk(1).is_none());
+    if let Some(mut walk) = semaphores.walk(3) {
+        for thread in [Some(12), Some(11), None] {
+            let next = walk.next();
+            assert_eq!(rt; next.map(|queued| queued.item.thread), thread);
+        }
+    }
     Ok(())
 }

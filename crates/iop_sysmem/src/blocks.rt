@@ -1,9 +1,8 @@
-ghost use Rattle.std.specs.Prelude.{◌≡◌, ◌<◌, ◌%◌, ◌==◌, if◌then◌else◌, ℕ, IfOk, MatchOption, option_map, unwrap_or, [], ◌∷◌};
+ghost use Rattle.std.specs.Prelude.{◌≡◌, ◌<◌, ◌%◌, ◌==◌, ℕ, IfOk, MatchOption, option_map, unwrap_or, [], ◌∷◌};
 ghost use Rattle.iop_base.specs.Places.{phys};
 ghost use Rattle.iop_base.specs.declared.blocks.TheConstants.{BLOCK_UNIT};
 ghost use Rattle.iop_sysmem.specs.BlockMap.{AreBlocks, IsBlockSize, with_block, freeing, index_at, index_holding, holder};
 ghost use Rattle.iop_sysmem.specs.Placing.{IsFree, HasNoFree, IsLeastFree, IsGreatestFree, IsNamedFree, ModeTakes, ModeTakesNone};
-ghost use Rattle.iop_sysmem.specs.Restoring.{may_follow, with_last};
 ghost use Rattle.iop_sysmem.specs.Allocating.{allocating, most_free, free_bytes};
 ghost use Rattle.iop_sysmem.specs.declared.blocks.TheConstants.{KERNEL, NOWHERE};
 
@@ -30,9 +29,9 @@ pub const NO_BLOCK: Code = Code(-1);
 /// Addresses name the same places through KUSEG, KSEG0 and KSEG1; one outside RAM is in no block.
 #[derive(Drop)]
 pub struct Blocks {
-    size: u32,
+    pub(crate) size: u32,
     /// The blocks in the order of their starts. There is room for all that can stand.
-    used: Vec<Block>,
+    pub(crate) used: Vec<Block>,
 }
 
 impl Model for Blocks {
@@ -209,42 +208,6 @@ impl Blocks {
                 Code::OK
             }
         }
-    }
-
-    /// Lends the blocks in the order of their starts, of which the kernel's is the first.
-    pub fn used(&self) -> &[Block]
-        ensures used { result.now ≡ self.now.used }
-        ensures blocks { AreBlocks self.now }
-    {
-        &self.used
-    }
-
-    /// Tells whether a block may stand behind all others.
-    fn may_follow(&self, block: Block) -> bool
-        ensures { result ≡ may_follow self.now block }
-    {
-        let Block { start, size } = block;
-        let last = self.used[self.used.len() - 1];
-        last.start + last.size <= start
-            && start % BLOCK_UNIT == 0
-            && 0 < size
-            && size % BLOCK_UNIT == 0
-            && start <= self.size
-            && size <= self.size - start
-    }
-
-    /// Puts a block behind all others. False, and no change, exactly where its start or its size is
-    /// no multiple of `BLOCK_UNIT`, its size is 0, it is not behind the last one or not all in RAM.
-    pub fn put_back(&mut self, block: Block) -> bool
-        ensures may { result ≡ may_follow self.old block }
-        ensures map { self.new ≡ if result then with_last self.old block else self.old }
-        ensures blocks { AreBlocks self.new }
-    {
-        let may = self.may_follow(block);
-        if may {
-            self.used.push_reserved(block);
-        }
-        may
     }
 
     /// Tells how many bytes RAM has.

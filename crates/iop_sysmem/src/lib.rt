@@ -5,6 +5,7 @@
 mod block;
 mod blocks;
 pub mod laws;
+mod restoring;
 
 pub use block::Block;
 pub use blocks::{Blocks, KERNEL, NO_BLOCK, NOWHERE};

@@ -1,0 +1,44 @@
+-- How semaphores are put back, one behind the other, into a table of none: those that were live, in
+-- the order of their ids, each with its count and with the threads that waited for it, in the order
+-- of their arrival. It is this project's own profile.
+use Rattle.std.specs.Prelude.{◌≡◌, ℕ, nat_le, Bool, true, ◌&&◌, ⊤, if◌then◌else◌, Option, Some, None, option_and_then, List, [], ◌∷◌, All}
+use Rattle.iop_objects.specs.Objects.{Object, no_objects}
+use Rattle.iop_objects.specs.Restoring as objects
+use Rattle.iop_objects.specs.Restoring.{IsRestorable, with_last, with_waiters_back, with_next_back}
+use Rattle.iop_sema.specs.Semaphores.{Semaphores, is_attribute}
+use Rattle.iop_sema.specs.declared.semaphore.Semaphore.{Semaphore}
+
+-- whether a semaphore can have this attribute and these counts
+abbrev pub is_sound : Semaphore → Bool
+is_sound x = is_attribute x.attr && nat_le x.initial x.max && nat_le x.count x.max
+
+module _ (s : Semaphores) where
+  -- whether a semaphore may stand behind all others, with this id
+  abbrev pub may_follow : ℕ → Semaphore → Bool
+  may_follow id x = is_sound x && objects.may_follow s id
+
+  -- a semaphore is live again, with those that waited for it
+  abbrev pub with_semaphore_back : Object Semaphore ⊤ → Option Semaphores
+  with_semaphore_back o =
+      if may_follow o.id o.state
+      then with_waiters_back (with_last s o.id o.state) o.id o.waiters
+      else None
+
+-- semaphores are live again, in this order
+abbrev pub with_semaphores_back : Semaphores → List (Object Semaphore ⊤) → Option Semaphores
+with_semaphores_back s [] = Some s
+with_semaphores_back s (o ∷ os) =
+    option_and_then (λ t. with_semaphores_back t os) (with_semaphore_back s o)
+
+-- all that stands in a table is put back into one of no semaphore
+abbrev pub restored : Semaphores → Option Semaphores
+restored s = option_and_then (λ t. with_next_back t s.next) (with_semaphores_back no_objects s.live)
+
+-- a table of sound semaphores, in which ids rise
+pub record CanBeRestored (s : Semaphores) : Type 0 where
+  pub objects : IsRestorable s
+  pub semaphores : All (λ o. is_sound o.state ≡ true) s.live
+
+-- all that stands in such a table can be put back, and gives the table again
+abbrev pub SemaphoresAreRestored : Type 0
+SemaphoresAreRestored = (s : Semaphores) → CanBeRestored s → restored s ≡ Some s
