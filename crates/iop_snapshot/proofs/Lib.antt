@@ -8,3 +8,4 @@ pub mod Saving
 pub mod Restoring
 pub mod Laying
 pub mod Numbers
+pub mod Putting

@@ -1,6 +1,6 @@
 -- Lists that are read one item after the other.
-use Rattle.std.proofs.Common.{◌≡◌, ℕ, suc, ◌+◌, ◌-◌, ◌<◌, ◌≤◌, Option, Some, None, List, [], ◌∷◌, ◌++◌, get_or, refl, sym, ap, ◌∙◌, append_assoc, append-nil, arith}
-use Rattle.std.specs.Prelude.{option_map}
+use Rattle.std.proofs.Common.{◌≡◌, ℕ, suc, ◌+◌, ◌-◌, ◌<◌, ◌≤◌, Option, Some, None, Result, List, [], ◌∷◌, ◌++◌, get_or, refl, sym, ap, ◌∙◌, append_assoc, append-nil, arith}
+use Rattle.std.specs.Prelude.{MatchResult, option_map}
 use Rattle.iop_snapshot.specs.declared.fault.SnapFault.{SnapFault}
 use Rattle.iop_snapshot.specs.declared.fault.SnapFault.TheVariants.{Bad, Memory}
 use Rattle.iop_snapshot.specs.declared.widths.TheConstants.{COUNT}
@@ -29,16 +29,13 @@ module _ {X : Type 0} where
   behind-in_front front x (Some r) =
       ap (λ (ys : List X). Some (ys, r.1)) (append_assoc front (x ∷ []) r.0)
 
-  pub restored_none : (next : List X → Form X) (holds : List X → Type 0) (bytes ns rest : List ℕ)
-      → holds [] → read_item COUNT bytes ≡ Some (ns, rest)
-      → Restored next holds (get_or ns 0 0 - 0) rest (read_list next bytes)
-  unfolding read_list
-  restored_none next holds bytes ns rest h e =
-      let n = get_or ns 0 0 in
+  pub restored_none : (next : List X → Form X) (holds : List X → Type 0) (n : ℕ) (bytes : List ℕ)
+      → holds [] → Restored next holds (n - 0) bytes (read_items next [] n bytes)
+  restored_none next holds n bytes h =
       let all : n - 0 ≡ n = omega arith in record {
         front = [];
         there = h;
-        goes_on = rw (e, all) (behind-nil (read_items next [] n rest));
+        goes_on = rw all (behind-nil (read_items next [] n bytes));
       }
 
   pub restored_more : (next : List X → Form X) (old new : List X → Type 0) (n i : ℕ)
@@ -85,3 +82,13 @@ module _ {X : Type 0} where
       → read_list next bytes ≡ None
   unfolding read_list
   count_missing next bytes e = rw e refl
+
+  -- a list: its count, and so many items behind it
+  pub list_restored : (next : List X → Form X) (holds : List X → Type 0) (bytes ns middle rest : List ℕ)
+      (r : Result Unit SnapFault) → read_item COUNT bytes ≡ Some (ns, middle)
+      → (let read = read_items next [] (get_or ns 0 0) middle in
+      MatchResult r (λ _. (xs : List X) × holds xs × (read ≡ Some (xs, rest))) (GivesNone read))
+      → MatchResult r (λ _. (xs : List X) × holds xs × (read_list next bytes ≡ Some (xs, rest)))
+      (GivesNone (read_list next bytes))
+  unfolding read_list
+  list_restored next holds bytes ns middle rest r count items = rw count items

@@ -4,3 +4,4 @@ pub mod Forms
 pub mod Laws
 pub mod Layout
 pub mod Reading
+pub mod Putting

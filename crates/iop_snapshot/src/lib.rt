@@ -12,5 +12,5 @@ pub mod widths;
 pub use decoder::Decoder;
 pub use encoder::Encoder;
 pub use fault::SnapFault;
-pub use restore::{RestoreItems, restore_list};
-pub use save::{SaveItems, save_list};
+pub use restore::{RestoreItems, restore_items, restore_list};
+pub use save::{SaveItems, save_items, save_list};

@@ -1,7 +1,7 @@
 //! Lists, read one item after the other.
 
 ghost use Rattle.std.specs.Prelude.{◌≡◌, List, [], ◌∷◌, ◌++◌, Some, MatchResult};
-ghost use Rattle.iop_snapshot.specs.Forms.{Form, read_list};
+ghost use Rattle.iop_snapshot.specs.Forms.{Form, read_items, read_list};
 ghost use Rattle.iop_snapshot.specs.Reading.{GivesNone};
 
 use crate::decoder::Decoder;
@@ -32,6 +32,25 @@ pub trait RestoreItems<X> {
     ghost begins: { (base : Self) → starts base → grows base base [] };
 }
 
+/// Reads so many items into a table. `Bad` exactly where they cannot be read, unless memory runs
+/// out.
+pub fn restore_items<X, T: RestoreItems<X>>(
+    count: u64,
+    table: &mut T,
+    decoder: &mut Decoder<'_>,
+) -> Result<(), SnapFault>
+    requires { T.starts table.old }
+    ensures { let read = read_items (T.next_form table.old) [] count decoder.old in
+        MatchResult result
+        (λ _. (xs : List X) × T.grows table.old table.new xs × (read ≡ Some (xs, decoder.new)))
+        (GivesNone read) }
+{
+    for _ in 0..count {
+        table.restore_next(decoder)?;
+    }
+    Ok(())
+}
+
 /// Reads a list into a table. `Bad` exactly where none can be read, unless memory runs out.
 pub fn restore_list<X, T: RestoreItems<X>>(
     table: &mut T,
@@ -47,8 +66,5 @@ pub fn restore_list<X, T: RestoreItems<X>>(
     let Some(()) = decoder.item(&COUNT, &mut count) else {
         return Err(SnapFault::Bad);
     };
-    for _ in 0..count[0] {
-        table.restore_next(decoder)?;
-    }
-    Ok(())
+    restore_items(count[0], table, decoder)
 }

@@ -1,6 +1,7 @@
 //! Lists, written one item after the other.
 
-ghost use Rattle.std.specs.Prelude.{◌≡◌, ◌<◌, List, ◌∷◌, true, length, OnOk};
+ghost use Rattle.std.specs.Prelude.{◌≡◌, List, ◌∷◌, true, length, OnOk};
+ghost use Rattle.std.specs.List.{list_all, flat_map};
 ghost use Rattle.iop_snapshot.specs.Forms.{Form, spell_list, fits_list};
 ghost use Rattle.iop_snapshot.specs.Writing.{place_of, Writes};
 
@@ -28,6 +29,25 @@ pub trait SaveItems<X> {
             → ahead self.new xs × (form.fits x ≡ true)) };
 }
 
+/// Writes so many items, which are all that are still to be written. Each of them has a spelling.
+pub fn save_items<X, I: SaveItems<X>, S: Sink>(
+    count: u32,
+    items: &mut I,
+    encoder: &mut Encoder<'_, S>,
+) -> Result<(), WriteFault>
+    requires counted { (xs : List X) → I.ahead items.old xs → length xs ≡ count }
+    ensures written { (xs : List X) → I.ahead items.old xs
+        → Writes result (flat_map I.form.spell xs) (place_of S.told encoder.old)
+        (place_of S.told encoder.new) }
+    ensures fits { OnOk result ((xs : List X) → I.ahead items.old xs
+        → list_all I.form.fits xs ≡ true) }
+{
+    for _ in 0..count {
+        items.save_next(encoder)?;
+    }
+    Ok(())
+}
+
 /// Writes a list: how many items it has, and the items. Each of them has a spelling.
 pub fn save_list<X, I: SaveItems<X>, S: Sink>(
     count: u32,
@@ -42,8 +62,5 @@ pub fn save_list<X, I: SaveItems<X>, S: Sink>(
         → fits_list (λ _. I.form) xs ≡ true) }
 {
     encoder.item(&COUNT, &[u64::from(count)])?;
-    for _ in 0..count {
-        items.save_next(encoder)?;
-    }
-    Ok(())
+    save_items(count, items, encoder)
 }

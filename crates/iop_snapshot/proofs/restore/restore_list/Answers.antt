@@ -1,8 +1,4 @@
-use Rattle.std.proofs.Common.{◌≡◌, get_or, sym, subst}
-use Rattle.std.proofs.lemmas.Result.{err_from_is_err_and}
-use Rattle.iop_snapshot.specs.Forms.{read_list}
-use Rattle.iop_snapshot.specs.Reading.{GivesNone}
-use Rattle.iop_snapshot.proofs.Restoring.{count_missing, restored_none, restored_more, restored_short, restored_all}
+use Rattle.iop_snapshot.proofs.Restoring.{count_missing, list_restored}
 use Rattle.iop_snapshot.proofs.restore.restore_list.Goals as goal
 
 pub returns-in_default : goal.returns-in_default
@@ -10,37 +6,9 @@ returns-in_default g c =
     count_missing (g.T.RestoreItems.next_form c.args.table.now) c.args.decoder.now
     c.in_default.ensures.read
 
-pub loop-init : goal.loop-init
-loop-init g c =
-    restored_none (g.T.RestoreItems.next_form c.args.table.now)
-    (g.T.RestoreItems.grows c.args.table.now c.args.table.now) c.args.decoder.now c.item.new.values
-    c.item.new.self (g.met.T.RestoreItems.begins c.args.table.now c.requires) c.in-Some.ensures.read
-
-pub returns-in_err-restore_next : goal.returns-in_err-restore_next
-returns-in_err-restore_next g c =
-    let base = c.args.table.now in
-    let next = g.T.RestoreItems.next_form base in
-    let kept = c.loop.invariant in
-    let fault = c.in_err-restore_next.field-0.0 in
-    let given = err_from_is_err_and c.from_residual.result c.from_residual.ensures.1 in
-    let same : given.0 ≡ fault = cc in
-    let none = restored_short next (g.T.RestoreItems.grows base c.loop.table)
-    (get_or c.item.new.values 0 0) c.loop.counter c.loop.decoder
-    (read_list next c.args.decoder.now) c.loop-test.true kept fault
-    (c.in_err-restore_next.ensures base kept.front c.requires kept.there) in
-    rw given.1 (subst (GivesNone (read_list next c.args.decoder.now)) (sym same) none)
-
-pub loop-preserved : goal.loop-preserved
-loop-preserved g c =
-    let kept = c.loop.invariant in
-    restored_more (g.T.RestoreItems.next_form c.args.table.now)
-    (g.T.RestoreItems.grows c.args.table.now c.loop.table)
-    (g.T.RestoreItems.grows c.args.table.now c.restore_next.new.self) (get_or c.item.new.values 0 0)
-    c.loop.counter c.loop.decoder c.restore_next.new.decoder _ c.loop-test.true kept
-    (c.in_ok-restore_next.ensures c.args.table.now kept.front c.requires kept.there)
-
 pub returns : goal.returns
 returns g c =
-    restored_all (g.T.RestoreItems.next_form c.args.table.now)
-    (g.T.RestoreItems.grows c.args.table.now c.loop.table) (get_or c.item.new.values 0 0) c.loop.counter
-    c.loop.decoder _ c.loop-test.false c.loop.invariant
+    list_restored (g.T.RestoreItems.next_form c.args.table.now)
+    (g.T.RestoreItems.grows c.args.table.now c.restore_items.new.table) c.args.decoder.now
+    c.item.new.values c.item.new.self c.restore_items.new.decoder c.restore_items.result
+    c.in-Some.ensures.read c.restore_items.ensures

@@ -1,7 +1,7 @@
 use Rattle.std.proofs.Common.{◌-◌, List}
 use Rattle.iop_snapshot.specs.Writing.{place_of}
 use Rattle.iop_snapshot.proofs.Saving.{Saved}
-use Rattle.iop_snapshot.proofs.save.save_list.Given as goal
+use Rattle.iop_snapshot.proofs.save.save_items.Given as goal
 
 abbrev pub invariant-loop : goal.invariant-loop
 invariant-loop g l =

@@ -1,0 +1,3 @@
+pub mod Processors
+pub mod Threads
+pub mod Laws
