@@ -1,0 +1,15 @@
+//! How alarms and delays, interrupt lines, blocks, libraries and stubs stand in a snapshot.
+#![tactic(auto)]
+
+mod blocks;
+mod flags;
+pub mod laws;
+mod libraries;
+mod record;
+mod stubs;
+mod timers;
+
+pub use blocks::{restore_blocks, save_blocks};
+pub use libraries::{restore_libraries, save_libraries};
+pub use stubs::{restore_stubs, save_stubs};
+pub use timers::{restore_alarms, restore_delays, save_alarms, save_delays};

@@ -1,0 +1,177 @@
+use iop_ports::MemSink;
+use iop_registry::Registry;
+use iop_saved_tables::{
+    restore_alarms, restore_blocks, restore_delays, restore_libraries, restore_stubs, save_alarms,
+    save_delays, save_libraries,
+};
+use iop_snapshot::{Decoder, Encoder, SnapFault};
+use iop_sysmem::Blocks;
+use iop_time::Clock;
+use std::alloc::{AllocError, Global};
+use std::process::Abort;
+use std::test::Fail;
+
+/// How many bytes of RAM there are.
+const RAM: u32 = 0x20_0000;
+
+/// Two alarms: their numbers, moments, handlers, arguments and gp.
+const ALARMS: [u8; 60] = [
+    2, 0, 0, 0, // how many
+    3, 0, 0, 0, 0, 0, 0, 0, 0, 1, 0, 0, 0, 0, 0, 0, 4, 0, 1, 0, 5, 0, 0, 0, 6, 0, 0, 0, //
+    7, 0, 0, 0, 0, 0, 0, 0, 0, 0, 0, 0, 0, 0, 0, 0x80, 4, 0, 1, 0, 8, 0, 0, 0, 9, 0, 0, 0,
+];
+
+/// Two delays: their numbers, moments and threads.
+const DELAYS: [u8; 44] = [
+    2, 0, 0, 0, // how many
+    3, 0, 0, 0, 0, 0, 0, 0, 0, 1, 0, 0, 0, 0, 0, 0, 5, 0, 0, 0, //
+    7, 0, 0, 0, 0, 0, 0, 0, 0, 0, 0, 0, 0, 0, 0, 0x80, 6, 0, 0, 0,
+];
+
+/// The kernel's block and another one: their starts and sizes.
+const BLOCKS: [u8; 20] = [
+    2, 0, 0, 0, // how many
+    0, 0, 0, 0, 0, 0, 1, 0, //
+    0, 1, 1, 0, 0, 3, 0, 0,
+];
+
+/// Two libraries: their names, major versions and tables.
+const LIBRARIES: [u8; 30] = [
+    2, 0, 0, 0, // how many
+    b'a', b'b', 0, 0, 0, 0, 0, 0, 1, 0, 2, 1, 0, //
+    b'a', b'b', 0, 0, 0, 0, 0, 0, 2, 0, 2, 1, 0,
+];
+
+/// A stub: its place, the name and major version of its library, its index and its target.
+const STUBS: [u8; 23] = [
+    1, 0, 0, 0, // how many
+    8, 0, 1, 0, b'a', b'b', 0, 0, 0, 0, 0, 0, 1, 4, 0, 0, 0, 2, 0,
+];
+
+/// Makes a copy of bytes with another one at a place, if there is one.
+fn with_byte(alloc: Global, bytes: &[u8], place: usize, byte: u8) -> Result<Vec<u8>, AllocError> {
+    let mut changed = Vec::from_slice(alloc, bytes)?;
+    if let Some(old) = changed.get_mut(place) {
+        *old = byte;
+    }
+    Ok(changed)
+}
+
+/// A sink with room for the bytes of a test.
+fn sink(alloc: Global) -> Result<MemSink, AllocError> {
+    MemSink::new(alloc, 100, Vec::new(alloc))
+}
+
+/// Restores alarms into an empty clock.
+fn alarms_of(alloc: Global, bytes: &[u8]) -> Result<Clock, SnapFault> {
+    restore_alarms(Clock::new(alloc)?, &mut Decoder::new(bytes))
+}
+
+/// Restores delays into an empty clock.
+fn delays_of(alloc: Global, bytes: &[u8]) -> Result<Clock, SnapFault> {
+    restore_delays(Clock::new(alloc)?, &mut Decoder::new(bytes))
+}
+
+/// Restores blocks.
+fn blocks_of(alloc: Global, bytes: &[u8]) -> Result<Blocks, SnapFault> {
+    restore_blocks(Blocks::new(alloc, RAM)?, &mut Decoder::new(bytes))
+}
+
+/// Restores libraries into an empty registry.
+fn libraries_of(alloc: Global, bytes: &[u8]) -> Result<Registry, SnapFault> {
+    restore_libraries(Registry::empty(alloc)?, &mut Decoder::new(bytes))
+}
+
+/// Restores alarms and writes them again.
+fn alarms_again(alloc: Global, bytes: &[u8]) -> Result<MemSink, SnapFault> {
+    let mut sink = sink(alloc)?;
+    let _ = save_alarms(&alarms_of(alloc, bytes)?, &mut Encoder::new(&mut sink));
+    Ok(sink)
+}
+
+/// Restores delays and writes them again.
+fn delays_again(alloc: Global, bytes: &[u8]) -> Result<MemSink, SnapFault> {
+    let mut sink = sink(alloc)?;
+    let _ = save_delays(&delays_of(alloc, bytes)?, &mut Encoder::new(&mut sink));
+    Ok(sink)
+}
+
+/// Restores libraries and writes them again.
+fn libraries_again(alloc: Global, bytes: &[u8]) -> Result<MemSink, SnapFault> {
+    let mut sink = sink(alloc)?;
+    let _ = save_libraries(&libraries_of(alloc, bytes)?, &mut Encoder::new(&mut sink));
+    Ok(sink)
+}
+
+/// Whether a sink was written these bytes.
+fn is_written(sink: Result<MemSink, SnapFault>, wanted: &[u8]) -> bool {
+    match sink {
+        Ok(sink) => sink.bytes() == wanted,
+        Err(_) => false,
+    }
+}
+
+#[test]
+fn lists_come_back(rt: HostRuntime) {
+    let alloc = rt.alloc();
+    assert_eq!(rt; is_written(alarms_again(alloc, &ALARMS), &ALARMS), true);
+    assert_eq!(rt; is_written(delays_again(alloc, &DELAYS), &DELAYS), true);
+    assert_eq!(rt;
+        is_written(libraries_again(alloc, &LIBRARIES), &LIBRARIES),
+        true
+    );
+}
+
+/// The place, major version, index and target of the first stub.
+fn first_stub(alloc: Global, bytes: &[u8]) -> Result<Option<(u32, u8, u16, u32)>, AllocError> {
+    let Ok(stubs) = restore_stubs(alloc, &mut Decoder::new(bytes)) else {
+        return Ok(None);
+    };
+    let Some(stub) = stubs.first() else {
+        return Ok(None);
+    };
+    Ok(Some((stub.at, stub.major, stub.index, stub.target)))
+}
+
+/// How many bytes are free beside the blocks, if they are some.
+fn free_beside(alloc: Global, bytes: &[u8]) -> Option<u32> {
+    match blocks_of(alloc, bytes) {
+        Ok(blocks) => Some(blocks.total_free()),
+        Err(_) => None,
+    }
+}
+
+#[test]
+fn blocks_and_stubs_come_back(rt: HostRuntime) -> Result<(), Fail> {
+    let alloc = rt.alloc();
+    assert_eq!(rt; free_beside(alloc, &BLOCKS), Some(RAM - 0x1_0300));
+    let stub = first_stub(alloc, &STUBS)?;
+    assert_eq!(rt; stub, Some((0x1_0008, 1, 4, 0x2_0000)));
+    Ok(())
+}
+
+#[test]
+fn what_a_table_does_not_take_is_bad(rt: HostRuntime) -> Result<(), Fail> {
+    let alloc = rt.alloc();
+    // An alarm's number that does not rise, and the argument of the other alarm with its handler.
+    for (place, byte) in [(32, 3), (52, 5), (0, 3)] {
+        let bytes = with_byte(alloc, &ALARMS, place, byte)?;
+        assert_eq!(rt; alarms_of(alloc, &bytes).is_ok(), false);
+    }
+    // A delay's number that does not rise, and a thread that waits already.
+    for (place, byte) in [(24, 3), (40, 5), (0, 3)] {
+        let bytes = with_byte(alloc, &DELAYS, place, byte)?;
+        assert_eq!(rt; delays_of(alloc, &bytes).is_ok(), false);
+    }
+    // Another first block, one inside of the kernel's, one of no whole unit, and none at all.
+    for (place, byte) in [(5, 1), (14, 0), (12, 1), (0, 0), (0, 3)] {
+        let bytes = with_byte(alloc, &BLOCKS, place, byte)?;
+        assert_eq!(rt; blocks_of(alloc, &bytes).is_ok(), false);
+    }
+    // The same library twice, and a table at no multiple of 4.
+    for (place, byte) in [(25, 1), (26, 1), (0, 3)] {
+        let bytes = with_byte(alloc, &LIBRARIES, place, byte)?;
+        assert_eq!(rt; libraries_of(alloc, &bytes).is_ok(), false);
+    }
+    Ok(())
+}
