@@ -27,51 +27,96 @@ The machine is one class, whose parts stand each in a file of its own:
     sysclib.py       memory, strings and numbers; sysclib
     processor.py     registers and instructions
     memory.py        RAM with its live stubs, and the blocks
+
+A machine that stopped by its budget is saved, and another one goes on from there:
+
+    snapshot.py      the way from a machine to the bytes of a file, and back
+    parts.py         the parts of a snapshot, and how they are spelled
+    held.py          the tests that they must pass
 """
 
 import os
 import struct
 import sys
+from typing import NamedTuple
 
 from generated import generated
-from inputs import Refused, read_file
-from machine import Machine
+from held import MOST_CLOCK
+from inputs import MOST_SNAPSHOT, Refused, read_file
+from machine import BUDGET, Machine
 from script import Script, read_script
+from snapshot import BadSnapshot, restore, save
 from words import read_words
 
 UNKNOWN = 70
+NOT_WRITTEN = 24
+
+
+class Outcome(NamedTuple):
+    """The console's bytes, the lines of the trace, the status, and the name and the bytes of the file that is kept."""
+    console: bytes
+    trace: list[str]
+    status: int
+    kept: tuple[str, bytes] | None = None
 
 
 def module_files(options):
-    """The number, the word and the bytes of each module."""
+    """The word and the bytes of each module."""
     if options.generate:
-        return [(1, "generated", generated(options.generate))]
-    return [(number, name, read_file(name)) for number, name in enumerate(options.modules, 1)]
+        return [("generated", generated(options.generate))]
+    return [(name, read_file(name)) for name in options.modules]
+
+
+def restored(name):
+    """The machine of a snapshot's file."""
+    file = read_file(name, MOST_SNAPSHOT)
+    try:
+        return restore(file)
+    except BadSnapshot as bad:
+        raise Refused(25, f"bad snapshot {name}") from bad
+
+
+def machine_for(options):
+    """The machine that is to run."""
+    if options.restore:
+        return restored(options.restore)
+    script = Script() if options.script is None else read_script(read_file(options.script))
+    return Machine(module_files(options), script, options.size)
 
 
 def outcome(words):
-    """The console's bytes, the lines of the trace and the status."""
+    """What comes of the words of a command."""
     try:
         options = read_words(words)
-        script = Script() if options.script is None else read_script(read_file(options.script))
-        files = module_files(options)
+        machine = machine_for(options)
     except Refused as refused:
-        return b"", [f"iop: {refused.text}"], refused.status
-    machine = Machine(files, script, options.size)
+        return Outcome(b"", [f"iop: {refused.text}"], refused.status)
     status = machine.run(options.budget)
     dump = machine.dump(*options.dump) if options.dump else []
-    return machine.console, machine.lines + dump, status
+    is_kept = options.save and status == BUDGET and machine.clock < MOST_CLOCK
+    kept = (options.save, save(machine)) if is_kept else None
+    return Outcome(machine.console, machine.lines + dump, status, kept)
+
+
+def keep(name, content):
+    """Writes the file that is kept, and tells whether it could."""
+    try:
+        with open(name, "wb") as file:
+            file.write(content)
+    except OSError:
+        return False
+    return True
 
 
 def main():
     try:
-        console, trace, status = outcome([os.fsencode(word) for word in sys.argv[1:]])
+        console, trace, status, kept = outcome([os.fsencode(word) for word in sys.argv[1:]])
     except (IndexError, StopIteration, struct.error) as unknown:
         print(f"model: {type(unknown).__name__} {unknown}", file=sys.stderr)
         return UNKNOWN
     sys.stdout.buffer.write(console)
     sys.stderr.buffer.write("".join(line + "\n" for line in trace).encode())
-    return status
+    return NOT_WRITTEN if kept and not keep(*kept) else status
 
 
 if __name__ == "__main__":

@@ -1,6 +1,8 @@
 """What comes at a moment or is raised: alarms, delays and interrupt lines, their handlers and their services."""
 
 import struct
+from itertools import takewhile
+from typing import NamedTuple
 
 from processor import Registers
 
@@ -19,6 +21,14 @@ class Alarm:
         self.number, self.moment, self.handler, self.arg, self.gp = number, moment, handler, arg, gp
 
 
+class Handler(NamedTuple):
+    """A handler that is active: whether it is a line's, else an alarm's; the number of that; and the registers that are
+    kept of what it interrupted."""
+    of_line: bool
+    number: int
+    kept: Registers
+
+
 class Deliveries:
     """Of the machine: its alarms and lines, what is delivered next, and the services on them."""
 
@@ -28,19 +38,30 @@ class Deliveries:
 
     def take_events(self):
         """Takes the events that are due, one after the other: each raises its line or lowers it."""
-        while self.events and self.events[0].tick <= self.clock:
-            event = self.events.pop(0)
+        due = list(takewhile(lambda event: event.tick <= self.clock, self.events))
+        for event in due:
             self.irqs[event.line].raised = event.raises
+        self.events = self.events[len(due):] if due else self.events
+
+    def untaken(self):
+        """The events that are to come, and which lines are raised."""
+        return self.events, [line.raised for line in self.irqs]
+
+    def put_back(self, events, raised):
+        """What was untaken is so again."""
+        self.events = events
+        for line, was in zip(self.irqs, raised):
+            line.raised = was
 
     def deliver(self):
         """Delivers what comes first, and tells whether something did."""
         if not self.interrupts or self.handler or self.running is not None and self.cpu.slot:
             return False
-        for line in [line for line in self.irqs if line.raised]:
-            if line.enabled and line.handler:
+        for number, line in enumerate(self.irqs):
+            if line.raised and line.enabled and line.handler:
                 line.raised = line.enabled = False
-                self.trace(f"line {self.irqs.index(line)}")
-                self.begin_handler(lambda value: self.line_handled(line, value), *line.handler)
+                self.trace(f"line {number}")
+                self.begin_handler(True, number, *line.handler)
                 return True
         delays = [(*thread.delay, thread) for thread in self.threads.values() if thread.delay]
         due = [it for it in delays + [(alarm.moment, alarm.number, alarm) for alarm in self.alarms]
@@ -50,31 +71,34 @@ class Deliveries:
         _, number, first = min(due, key=lambda it: it[:2])
         if isinstance(first, Alarm):
             self.trace(f"alarm {number}")
-            self.begin_handler(lambda value: self.alarm_handled(first, value), first.handler, first.arg, first.gp)
+            self.begin_handler(False, number, first.handler, first.arg, first.gp)
         else:
             self.trace(f"due {first.id}")
             self.wake_waiter(first, 0)
         return True
 
-    def begin_handler(self, end, address, arg, gp):
-        self.handler = end, self.cpu
+    def begin_handler(self, of_line, number, address, arg, gp):
+        self.handler = Handler(of_line, number, self.cpu)
         self.cpu = Registers(address, a0=arg, gp=gp, sp=0xBFF0, ra=0x3010)
 
     def return_handler(self):
-        end, kept = self.handler
-        end(self.cpu.r[2])
+        of_line, number, kept = self.handler
+        (self.line_handled if of_line else self.alarm_handled)(number, self.cpu.r[2])
         self.handler, self.interrupts, self.cpu = None, True, kept
 
-    def line_handled(self, line, value):
+    def line_handled(self, number, value):
+        line = self.irqs[number]
         if value == 0:
             line.enabled = False
         elif line.handler:
             line.enabled = True
 
-    def alarm_handled(self, alarm, value):
-        if value == 0 and alarm in self.alarms:
-            self.alarms.remove(alarm)
-        alarm.moment = min(alarm.moment + value, NEVER)
+    def alarm_handled(self, number, value):
+        if value == 0:
+            self.alarms = [alarm for alarm in self.alarms if alarm.number != number]
+        for alarm in self.alarms:
+            if alarm.number == number:
+                alarm.moment = min(alarm.moment + value, NEVER)
 
     def next_moment(self):
         """The least tick or moment that comes."""

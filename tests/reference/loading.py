@@ -4,6 +4,7 @@ import struct
 from itertools import takewhile
 
 from irx import HI16, LO16, read_module
+from memory import Stub
 from processor import Registers
 
 MOST_STUBS = 65536
@@ -89,18 +90,20 @@ class Loading:
             if table is None:
                 return -200
             functions = self.functions(table)
-            bound += [(at, functions[index], (name, version)) for at, index in stubs if index < len(functions)]
+            bound += [(at, Stub((name, version), index, functions[index] & 0x0FFFFFFC))
+                      for at, index in stubs if index < len(functions)]
         if len(self.memory.live) + len(bound) > MOST_STUBS:
             return -400
-        for at, function, library in bound:
-            struct.pack_into("<I", self.memory.ram, at, 0x08000000 | function >> 2 & 0x03FFFFFF)
-            self.memory.live[at] = library
+        for at, stub in bound:
+            struct.pack_into("<I", self.memory.ram, at, 0x08000000 | stub.target >> 2)
+            self.memory.live[at] = stub
         return 0
 
     def load_next(self):
         """Loads the first module that loads, and answers the registers with which it begins."""
         while self.files:
-            number, name, file = self.files.pop(0)
+            name, file = self.files.pop(0)
+            number, self.next_module = self.next_module, self.next_module + 1
             result = self.load(file)
             if isinstance(result, int):
                 self.trace(f"load {number} {result}")

@@ -14,6 +14,9 @@ from sysclib import Sysclib
 from threads import Thread, Threads
 
 
+QUIET, BUDGET, FAULT = 0, 10, 11  # what a run answers
+
+
 class Machine(Loading, Threads, Objects, Pools, Deliveries, Services, Formatting, Sysclib, Processor):
     """What the parts share, and the order in which they have their turn."""
 
@@ -23,7 +26,7 @@ class Machine(Loading, Threads, Objects, Pools, Deliveries, Services, Formatting
         self.lines, self.console = [], b""
         self.memory, self.blocks = Memory(self, size), Blocks(size)
         self.registry = []
-        self.files = files
+        self.files, self.next_module = files, 1  # the modules that are not yet loaded, and the number of the first
         self.module = None
         self.cpu = Registers(0)
         self.threads = {1: Thread(1, 0x02000000, 0, 0, 0x4000, 8, 0xC000, 0)}
@@ -34,7 +37,8 @@ class Machine(Loading, Threads, Objects, Pools, Deliveries, Services, Formatting
         self.dispatching, self.interrupts = True, True
         self.irqs = [Line() for _ in range(64)]
         self.alarms, self.next_number = [], 1
-        self.handler = None  # what ends it, and the registers that are kept
+        self.handler = None
+        self.booted = False
         self.kernel_area()
 
     def trace(self, text):
@@ -58,30 +62,36 @@ class Machine(Loading, Threads, Objects, Pools, Deliveries, Services, Formatting
 
     def run(self, budget):
         """Runs for so many instructions at most, and answers the status."""
-        begins = self.load_next()
-        if begins:
-            self.threads[1].cpu = begins
-            self.make_ready(self.threads[1])
+        if not self.booted:
+            self.boot()
         executed = 0
         while True:
-            # Of a step that the budget keeps from beginning they would not be taken, but nothing shows it.
+            untaken = self.untaken() if executed == budget else None
             self.take_events()
             if self.deliver() or self.dispatch():
                 continue
             if self.handler or self.running is not None:
                 if executed == budget:
-                    return self.end("budget", 10)
+                    self.put_back(*untaken)  # the step is not begun
+                    return self.end("budget", BUDGET)
                 try:
                     self.step()
                 except Fault as fault:
-                    return self.end(f"fault {fault} {self.cpu.pc:08x}", 11)
+                    return self.end(f"fault {fault} {self.cpu.pc:08x}", FAULT)
                 self.clock += 1
                 executed += 1
             else:
                 moment = self.next_moment()
                 if moment is None:
-                    return self.end("quiet", 0)
+                    return self.end("quiet", QUIET)
                 self.clock = moment
+
+    def boot(self):
+        self.booted = True
+        begins = self.load_next()
+        if begins:
+            self.threads[1].cpu = begins
+            self.make_ready(self.threads[1])
 
     def end(self, text, status):
         self.trace(f"end {text}")

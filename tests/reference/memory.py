@@ -1,6 +1,7 @@
 """Memory: RAM with its live stubs, and the blocks that are taken from it."""
 
 from functools import partial
+from typing import NamedTuple
 
 MIB = 0x100000
 
@@ -18,6 +19,13 @@ def place_of(size, at, length, width=1):
     return place if place + length <= size else None
 
 
+class Stub(NamedTuple):
+    """A live stub: the name and the major version of its library, its index, and where it goes."""
+    library: tuple[bytes, int]
+    index: int
+    target: int
+
+
 class Memory:
     """RAM, with the live stubs."""
 
@@ -25,7 +33,7 @@ class Memory:
         self.machine, self.size = machine, size
         self.place = partial(place_of, size)
         self.ram = bytearray(size)
-        self.live = {}  # place -> (name, major)
+        self.live = {}  # of stubs, by their places
 
     def load(self, at, width):
         place = self.place(at, width, width)

@@ -2,6 +2,8 @@
 
 import struct
 
+MOST_ID = 2**31 - 1
+
 
 class Object:
     """A semaphore, an event flag, a mailbox or a pool of memory."""
@@ -49,8 +51,12 @@ class Mailbox(Object):
 class Objects:
     """Of the machine: its semaphores, event flags and mailboxes, and what the services do to them."""
 
+    def has_room(self, kind):
+        """Whether one more object of the kind may be made."""
+        return len(self.objects[kind]) < 255 and self.next_object[kind] <= MOST_ID
+
     def make_object(self, kind, *words):
-        if len(self.objects[kind]) >= 255:
+        if not self.has_room(kind):
             return -400
         ident = self.next_object[kind]
         self.next_object[kind] += 1

@@ -60,7 +60,7 @@ class Pools:
 
     def make_pool(self, kind, length, *words):
         """Makes a pool of so many bytes, which are a block; what make_object answers."""
-        base = self.blocks.alloc(0, length, 0) if len(self.objects[kind]) < 255 else 0
+        base = self.blocks.alloc(0, length, 0) if self.has_room(kind) else 0
         return self.make_object(kind, *words, base) if base else -400
 
     def delete_pool(self, pool):

@@ -106,7 +106,7 @@ class Services:
         entry = next((entry for entry in self.registry if entry[2] == place), None)
         if entry is None:
             return -213
-        if entry[:2] in self.memory.live.values():
+        if entry[:2] in [stub.library for stub in self.memory.live.values()]:
             return -215
         self.registry.remove(entry)
         return 0

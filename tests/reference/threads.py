@@ -3,6 +3,7 @@
 import struct
 
 from memory import Fault
+from objects import MOST_ID
 from processor import Registers
 
 # What a state of a thread is for ReferThreadStatus.
@@ -71,7 +72,7 @@ class Threads:
 
     def running_registers(self):
         """The registers of the thread that runs: those that are kept while a handler runs."""
-        return self.handler[1] if self.handler else self.cpu
+        return self.handler.kept if self.handler else self.cpu
 
     def block(self):
         thread = self.threads[self.running]
@@ -132,7 +133,7 @@ class Threads:
             return -403
         if size < 256:
             return -404
-        if len(self.threads) >= 255:
+        if len(self.threads) >= 255 or self.next_id > MOST_ID:
             return -400
         stack = self.blocks.alloc(1, size, 0)
         if not stack:

@@ -6,7 +6,7 @@ from typing import NamedTuple
 from inputs import Refused
 from memory import MIB, place_of
 
-OPTIONS = ("--budget", "--script", "--dump", "--ram", "--generate")
+OPTIONS = ("--budget", "--script", "--dump", "--ram", "--generate", "--save", "--restore")
 MOST_MODULES = 64
 MOST_NAME = 255
 MOST_DUMP = 0x10000
@@ -16,13 +16,15 @@ SIZES = {"2": 2 * MIB, "8": 8 * MIB}
 
 
 class Options(NamedTuple):
-    """What good words ask for: instructions, bytes of RAM, a script's name, a place and its length, threads, names of
-    modules."""
+    """What good words ask for: instructions, bytes of RAM, a script's name, a place and its length, threads, the names of
+    snapshots, names of modules."""
     budget: int
     size: int
     script: str | None
     dump: tuple[int, int] | None
     generate: int | None
+    save: str | None
+    restore: str | None
     modules: list[str]
 
 
@@ -46,9 +48,14 @@ def read_words(words):
             values.get("--script"),
             dump_range(values["--dump"], size) if "--dump" in values else None,
             number(values["--generate"], 1, MOST_THREADS) if "--generate" in values else None,
+            values.get("--save"),
+            values.get("--restore"),
             modules)
-        need(all(1 <= len(name.encode()) <= MOST_NAME for name in modules))
-        need(not modules if options.generate else 1 <= len(modules) <= MOST_MODULES)
+        names = modules + [values[option] for option in ("--save", "--restore") if option in values]
+        need(all(1 <= len(name.encode()) <= MOST_NAME for name in names))
+        need(len(modules) <= MOST_MODULES)
+        need([options.generate is not None, options.restore is not None, modules != []].count(True) == 1)
+        need(not options.restore or "--script" not in values and "--ram" not in values)
     except (Bad, UnicodeDecodeError) as bad:
         raise Refused(20, "bad words") from bad
     return options
