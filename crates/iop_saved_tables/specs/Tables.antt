@@ -2,6 +2,9 @@
 use Rattle.std.specs.Prelude.{nat_lt, Bool, true, false, ◌==◌, ◌&&◌, if◌then◌else◌, Option, Some, None, option_map, List, length}
 use Rattle.iop_registry.specs.Restoring as registry
 use Rattle.iop_registry.specs.declared.registry.Entry.{Entry}
+use Rattle.iop_stubs.specs.Restoring.{stub_may_follow, with_last_stub}
+use Rattle.iop_stubs.specs.Stubs.{Memory}
+use Rattle.iop_stubs.specs.declared.live_stub.Stub.{Stub}
 use Rattle.iop_sysmem.specs.BlockMap.{BlockMap}
 use Rattle.iop_sysmem.specs.Restoring as blocks
 use Rattle.iop_sysmem.specs.declared.block.Block.{Block}
@@ -29,6 +32,11 @@ put_delay timers delay =
 abbrev pub put_block : BlockMap → Block → Option BlockMap
 put_block map block =
     if blocks.may_follow map block then Some (blocks.with_last map block) else None
+
+-- a stub is live in memory whose RAM has its words
+abbrev pub put_stub : Memory → Stub → Option Memory
+put_stub memory stub =
+    if stub_may_follow memory stub then Some (with_last_stub memory stub) else None
 
 abbrev pub put_library : List Entry → Entry → Option (List Entry)
 put_library entries entry =

@@ -11,5 +11,5 @@ mod timers;
 
 pub use blocks::{restore_blocks, save_blocks};
 pub use libraries::{restore_libraries, save_libraries};
-pub use stubs::{restore_stubs, save_stubs};
+pub use stubs::{put_stubs, restore_stubs, save_stubs};
 pub use timers::{restore_alarms, restore_delays, save_alarms, save_delays};

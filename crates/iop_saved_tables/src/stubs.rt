@@ -1,8 +1,9 @@
 //! Live stubs.
 
-ghost use Rattle.std.specs.Prelude.{◌≡◌, ◌<◌, ◌≤◌, [], ◌∷◌, ◌++◌, Some, true, MatchResult, MatchBool, OnOk, length};
+ghost use Rattle.std.specs.Prelude.{◌≡◌, ◌<◌, ◌≤◌, [], ◌∷◌, ◌++◌, None, Some, true, MatchOption, MatchResult, MatchBool, OnOk, length};
 ghost use Rattle.iop_snapshot.specs.Forms.{spell_list, fits_list, read_list};
 ghost use Rattle.iop_snapshot.specs.Items.{fits_item};
+ghost use Rattle.iop_snapshot.specs.Putting.{put_all};
 ghost use Rattle.iop_snapshot.specs.Reading.{GivesNone};
 ghost use Rattle.iop_snapshot.specs.Writing.{place_of, Writes};
 ghost use Rattle.iop_snapshot.specs.declared.widths.TheConstants.{STUB as WIDTHS};
@@ -10,6 +11,7 @@ ghost use Rattle.iop_stubs.specs.declared.live_stub.Stub.{Stub as LiveStub};
 ghost use Rattle.iop_stubs.specs.declared.live_stub.TheConstants.Stub.{MOST_LIVE};
 ghost use Rattle.iop_saved_tables.specs.Begins.{none_behind};
 ghost use Rattle.iop_saved_tables.specs.Records.{stub_numbers, stub_form, next_stub};
+ghost use Rattle.iop_saved_tables.specs.Tables.{put_stub};
 
 use crate::record::{Record, save_records};
 use iop_base::WriteFault;
@@ -141,4 +143,19 @@ pub fn restore_stubs(alloc: Global, decoder: &mut Decoder<'_>) -> Result<Vec<Stu
     };
     restore_list::<Stub, Stubs>(&mut stubs, decoder)?;
     Ok(stubs.stubs)
+}
+
+/// Puts stubs back into memory, one behind the other. None exactly where one of them is refused: it
+/// is not behind the others, or RAM does not have its words.
+pub fn put_stubs(guest: Guest, stubs: &[Stub]) -> Option<Guest>
+    ensures { MatchOption result (put_all put_stub guest stubs.now ≡ None)
+        (λ now. put_all put_stub guest stubs.now ≡ Some now) }
+{
+    let mut guest = guest;
+    for stub in stubs {
+        if !guest.put_back(*stub) {
+            return None;
+        }
+    }
+    Some(guest)
 }

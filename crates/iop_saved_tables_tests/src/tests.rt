@@ -1,10 +1,11 @@
 use iop_ports::MemSink;
 use iop_registry::Registry;
 use iop_saved_tables::{
-    restore_alarms, restore_blocks, restore_delays, restore_libraries, restore_stubs, save_alarms,
-    save_delays, save_libraries,
+    put_stubs, restore_alarms, restore_blocks, restore_delays, restore_libraries, restore_stubs,
+    save_alarms, save_delays, save_libraries,
 };
 use iop_snapshot::{Decoder, Encoder, SnapFault};
+use iop_stubs::Guest;
 use iop_sysmem::Blocks;
 use iop_time::Clock;
 use std::alloc::{AllocError, Global};
@@ -174,4 +175,17 @@ fn what_a_table_does_not_take_is_bad(rt: HostRuntime) -> Result<(), Fail> {
         assert_eq!(rt; libraries_of(alloc, &bytes).is_ok(), false);
     }
     Ok(())
+}
+
+/// Whether stubs are put back into memory that is all zero.
+fn are_put_back(alloc: Global, bytes: &[u8]) -> Result<bool, SnapFault> {
+    let stubs = restore_stubs(alloc, &mut Decoder::new(bytes))?;
+    Ok(put_stubs(Guest::new(alloc, RAM)?, &stubs).is_some())
+}
+
+#[test]
+fn stubs_want_their_words(rt: HostRuntime) {
+    let alloc = rt.alloc();
+    assert_eq!(rt; are_put_back(alloc, &STUBS), Ok(false));
+    assert_eq!(rt; are_put_back(alloc, &[0; 4]), Ok(true));
 }

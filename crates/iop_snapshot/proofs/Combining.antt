@@ -240,3 +240,28 @@ module _ {X : Type 0} where
   pub whole_exact : (form : Form X) → IsLawful form → (all : List ℕ) (x : X) → All IsByte all
       → (read_whole form all ≡ Some x) ↔ ((all ≡ form.spell x) × (form.fits x ≡ true))
   whole_exact form law all x h = (whole_spells form law all x h, whole_reads form law all x)
+
+  -- what one form reads another reads, where both are spelled alike and the same values fit
+  reads_alike : (form other : Form X) → IsLawful form → IsLawful other
+      → ((x : X) → form.spell x ≡ other.spell x) → ((x : X) → form.fits x ≡ other.fits x)
+      → (all : List ℕ) (x : X) (rest : List ℕ) → All IsByte all → form.read all ≡ Some (x, rest)
+      → other.read all ≡ Some (x, rest)
+  reads_alike form other law others spelled fits all x rest h e =
+      let read = law.spells_read all x rest h e in
+      ap other.read (read.parts ∙ ap (λ (l : List ℕ). l ++ rest) (spelled x))
+      ∙ others.reads_spelled x rest (sym (fits x) ∙ read.fits)
+
+  pub forms_agree : (form other : Form X) → IsLawful form → IsLawful other
+      → ((x : X) → form.spell x ≡ other.spell x) → ((x : X) → form.fits x ≡ other.fits x)
+      → (all : List ℕ) → All IsByte all → form.read all ≡ other.read all
+  forms_agree form other law others spelled fits all h =
+      by (form.read all) (other.read all)
+      (λ x e. reads_alike form other law others spelled fits all x.0 x.1 h e)
+      (λ x e. reads_alike other form others law (λ y. sym (spelled y)) (λ y. sym (fits y)) all x.0
+      x.1 h e)
+    where
+      by : (a b : Option (X × List ℕ)) → ((x : X × List ℕ) → a ≡ Some x → b ≡ Some x)
+          → ((x : X × List ℕ) → b ≡ Some x → a ≡ Some x) → a ≡ b
+      by (Some x) b to from = sym (to x refl)
+      by None None to from = refl
+      by None (Some x) to from = from x refl

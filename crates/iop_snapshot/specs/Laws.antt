@@ -62,3 +62,10 @@ abbrev pub WholeIsExact : (X : Type 0) → Type 0
 WholeIsExact X =
     (form : Form X) → IsLawful form → (all : List ℕ) (x : X) → All IsByte all
     → (read_whole form all ≡ Some x) ↔ ((all ≡ form.spell x) × (form.fits x ≡ true))
+
+-- lawful forms of one spelling, by which the same values fit, read the same
+abbrev pub LawfulFormsAgree : (X : Type 0) → Type 0
+LawfulFormsAgree X =
+    (form other : Form X) → IsLawful form → IsLawful other
+    → ((x : X) → form.spell x ≡ other.spell x) → ((x : X) → form.fits x ≡ other.fits x)
+    → (all : List ℕ) → All IsByte all → form.read all ≡ other.read all

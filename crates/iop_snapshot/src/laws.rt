@@ -1,7 +1,7 @@
 //! Laws of forms: to spell and to read are inverse, and each way of making a form of others keeps
 //! this; and which bytes stand where. Each is the contract of a function that does nothing.
 
-ghost use Rattle.iop_snapshot.specs.Laws.{ItemsAreLawful, BothIsLawful, SeenIsLawful, SeenTestedIsLawful, TestedIsLawful, PresentIsLawful, SeriesIsLawful, FollowingIsSeries, NoneBeginsAnother, WholeIsExact};
+ghost use Rattle.iop_snapshot.specs.Laws.{ItemsAreLawful, BothIsLawful, SeenIsLawful, SeenTestedIsLawful, TestedIsLawful, PresentIsLawful, SeriesIsLawful, FollowingIsSeries, NoneBeginsAnother, WholeIsExact, LawfulFormsAgree};
 ghost use Rattle.iop_snapshot.specs.Layout.{ItemsAreLaid, ListsBeginWithCount, RepeatedIsLawful};
 
 /// Items, and so many bytes, are read as they were spelled.
@@ -52,6 +52,11 @@ pub fn none_begins_another<X>()
 /// Bytes are read as a whole exactly where they are the spelling of a value that fits.
 pub fn whole_is_exact<X>()
     ensures { WholeIsExact X }
+{}
+
+/// Lawful forms of one spelling, by which the same values fit, read the same.
+pub fn lawful_forms_agree<X>()
+    ensures { LawfulFormsAgree X }
 {}
 
 /// So many items of one form, without a count.
