@@ -1,9 +1,5 @@
--- How alarms, delays, interrupt lines, blocks, libraries and stubs are spelled: this project's own
--- profile.
-use Rattle.std.specs.Prelude.{ℕ, ◌==◌, Bool, true, false, if◌then◌else◌, Option, Some, None, option_map, option_and_then, List, [], ◌∷◌, ◌++◌, take, drop, length, nat_lt, slice_index}
-use Rattle.iop_base.specs.Numbers.{one_if}
-use Rattle.iop_intr.specs.InterruptLines.{IrqLine}
-use Rattle.iop_intr.specs.declared.handler.Handler.{Handler}
+-- How alarms, delays, blocks, libraries and stubs are spelled: this project's own profile.
+use Rattle.std.specs.Prelude.{ℕ, nat_lt, Option, Some, List, [], ◌∷◌, ◌++◌, length, take, drop, slice_index}
 use Rattle.iop_registry.specs.declared.registry.Entry.{Entry}
 use Rattle.iop_stubs.specs.declared.live_stub.Stub.{Stub}
 use Rattle.iop_stubs.specs.declared.live_stub.TheConstants.Stub.{MOST_LIVE}
@@ -11,11 +7,7 @@ use Rattle.iop_sysmem.specs.declared.block.Block.{Block}
 use Rattle.iop_time.specs.declared.alarm.Alarm.{Alarm}
 use Rattle.iop_time.specs.declared.delay.Delay.{Delay}
 use Rattle.iop_snapshot.specs.Forms.{Form, item, seen_as, tested}
-use Rattle.iop_snapshot.specs.declared.widths.TheConstants.{ALARM, DELAY, LINE, USED_RANGE, LIBRARY, STUB}
-
--- a truth value is 0 or 1
-abbrev pub flag_of : ℕ → Option Bool
-flag_of n = if n == 0 then Some false else if n == 1 then Some true else None
+use Rattle.iop_snapshot.specs.declared.widths.TheConstants.{ALARM, DELAY, USED_RANGE, LIBRARY, STUB}
 
 abbrev pub alarm_numbers : Alarm → List ℕ
 alarm_numbers a = a.number ∷ a.moment ∷ a.handler ∷ a.arg ∷ a.gp ∷ []
@@ -44,37 +36,6 @@ delay_of ns = Some (record {
 
 unfoldable pub delay_form : Form Delay
 delay_form = seen_as (item DELAY) delay_of delay_numbers
-
--- whether a line has a handler, and the handler's numbers, which are 0 where it has none
-abbrev pub handler_numbers : Option Handler → List ℕ
-handler_numbers None = 0 ∷ 0 ∷ 0 ∷ 0 ∷ []
-handler_numbers (Some h) = 1 ∷ h.address ∷ h.arg ∷ h.gp ∷ []
-
-abbrev pub line_numbers : IrqLine → List ℕ
-line_numbers l = one_if l.raised ∷ one_if l.enabled ∷ handler_numbers l.handler
-
-abbrev pub handler_by : Bool → (address arg gp : ℕ) → Option (Option Handler)
-handler_by true address arg gp = Some (Some (record { address = address; arg = arg; gp = gp }))
-handler_by false address arg gp =
-    if address == 0 then if arg == 0 then if gp == 0 then Some None else None else None else None
-
-abbrev pub line_with : (raised enabled : Bool) → Option Handler → IrqLine
-line_with raised enabled handler =
-    record { raised = raised; enabled = enabled; handler = handler }
-
-abbrev pub line_of : List ℕ → Option IrqLine
-line_of ns =
-    option_and_then
-    (λ raised. option_and_then
-    (λ enabled. option_map (line_with raised enabled)
-    (option_and_then
-    (λ has. handler_by has (slice_index ns 3) (slice_index ns 4) (slice_index ns 5))
-    (flag_of (slice_index ns 2))))
-    (flag_of (slice_index ns 1)))
-    (flag_of (slice_index ns 0))
-
-unfoldable pub line_form : Form IrqLine
-line_form = seen_as (item LINE) line_of line_numbers
 
 abbrev pub block_numbers : Block → List ℕ
 block_numbers b = b.start ∷ b.size ∷ []

@@ -1,8 +1,7 @@
-//! How alarms and delays, interrupt lines, blocks, libraries and stubs stand in a snapshot.
+//! How alarms and delays, blocks, libraries and stubs stand in a snapshot.
 #![tactic(auto)]
 
 mod blocks;
-mod flags;
 pub mod laws;
 mod libraries;
 mod record;

@@ -2,7 +2,7 @@ use iop_ports::MemSink;
 use iop_registry::Registry;
 use iop_saved_tables::{
     put_stubs, restore_alarms, restore_blocks, restore_delays, restore_libraries, restore_stubs,
-    save_alarms, save_delays, save_libraries,
+    save_alarms, save_blocks, save_delays, save_libraries,
 };
 use iop_snapshot::{Decoder, Encoder, SnapFault};
 use iop_stubs::Guest;
@@ -134,6 +134,16 @@ fn first_stub(alloc: Global, bytes: &[u8]) -> Result<Option<(u32, u8, u16, u32)>
     Ok(Some((stub.at, stub.major, stub.index, stub.target)))
 }
 
+/// Restores blocks and writes them again.
+fn blocks_again(alloc: Global, bytes: &[u8]) -> Result<MemSink, SnapFault> {
+    let mut sink = sink(alloc)?;
+    let blocks = blocks_of(alloc, bytes)?;
+    if blocks.used().len() < 100 {
+        let _ = save_blocks(&blocks, &mut Encoder::new(&mut sink));
+    }
+    Ok(sink)
+}
+
 /// How many bytes are free beside the blocks, if they are some.
 fn free_beside(alloc: Global, bytes: &[u8]) -> Option<u32> {
     match blocks_of(alloc, bytes) {
@@ -146,9 +156,18 @@ fn free_beside(alloc: Global, bytes: &[u8]) -> Option<u32> {
 fn blocks_and_stubs_come_back(rt: HostRuntime) -> Result<(), Fail> {
     let alloc = rt.alloc();
     assert_eq!(rt; free_beside(alloc, &BLOCKS), Some(RAM - 0x1_0300));
+    assert_eq!(rt; is_written(blocks_again(alloc, &BLOCKS), &BLOCKS), true);
     let stub = first_stub(alloc, &STUBS)?;
     assert_eq!(rt; stub, Some((0x1_0008, 1, 4, 0x2_0000)));
     Ok(())
+}
+
+/// The fault of what was refused; none where it was taken.
+fn fault_of<T: Drop>(restored: Result<T, SnapFault>) -> Option<SnapFault> {
+    match restored {
+        Ok(_) => None,
+        Err(fault) => Some(fault),
+    }
 }
 
 #[test]
@@ -157,22 +176,22 @@ fn what_a_table_does_not_take_is_bad(rt: HostRuntime) -> Result<(), Fail> {
     // An alarm's number that does not rise, and the argument of the other alarm with its handler.
     for (place, byte) in [(32, 3), (52, 5), (0, 3)] {
         let bytes = with_byte(alloc, &ALARMS, place, byte)?;
-        assert_eq!(rt; alarms_of(alloc, &bytes).is_ok(), false);
+        assert_eq!(rt; fault_of(alarms_of(alloc, &bytes)), Some(SnapFault::Bad));
     }
     // A delay's number that does not rise, and a thread that waits already.
     for (place, byte) in [(24, 3), (40, 5), (0, 3)] {
         let bytes = with_byte(alloc, &DELAYS, place, byte)?;
-        assert_eq!(rt; delays_of(alloc, &bytes).is_ok(), false);
+        assert_eq!(rt; fault_of(delays_of(alloc, &bytes)), Some(SnapFault::Bad));
     }
     // Another first block, one inside of the kernel's, one of no whole unit, and none at all.
     for (place, byte) in [(5, 1), (14, 0), (12, 1), (0, 0), (0, 3)] {
         let bytes = with_byte(alloc, &BLOCKS, place, byte)?;
-        assert_eq!(rt; blocks_of(alloc, &bytes).is_ok(), false);
+        assert_eq!(rt; fault_of(blocks_of(alloc, &bytes)), Some(SnapFault::Bad));
     }
     // The same library twice, and a table at no multiple of 4.
     for (place, byte) in [(25, 1), (26, 1), (0, 3)] {
         let bytes = with_byte(alloc, &LIBRARIES, place, byte)?;
-        assert_eq!(rt; libraries_of(alloc, &bytes).is_ok(), false);
+        assert_eq!(rt; fault_of(libraries_of(alloc, &bytes)), Some(SnapFault::Bad));
     }
     Ok(())
 }
