@@ -104,7 +104,7 @@ class Pools:
         taken = pool.take(b)
         if taken is not None:
             return taken
-        return -400 if number == 7 else self.wait_for(pool, b)
+        return -400 if number == 7 else self.wait_for(pool, (b + 15) // 16 * 16)
 
     def fixed_pool_service(self, number):
         """A service of thfpool."""

@@ -68,7 +68,7 @@ def snapshot_of(machine):
             for it in by_id(Mailbox)],
         variable_pools=[parts.VariablePool(*head_of(it), it.base, it.size,
                                            [parts.Range(start, 16 * it.out[start]) for start in sorted(it.out)], [
-            parts.PoolWaiter(waiter, (machine.threads[waiter].wants + 15) // 16 * 16) for waiter in it.waiters])
+            parts.PoolWaiter(waiter, machine.threads[waiter].wants) for waiter in it.waiters])
             for it in by_id(VariablePool)],
         fixed_pools=[parts.FixedPool(*head_of(it), it.base, it.size, len(it.places), sorted(it.out), it.waiters)
                      for it in by_id(FixedPool)],

@@ -1,4 +1,5 @@
 pub mod FewerBits
 pub mod Settling
 mod SettingBits
-mod Restored
+pub mod Restored
+mod StayRestorable

@@ -1,14 +1,16 @@
 -- How event flags are put back, one behind the other, into a table of none: those that were live,
 -- in the order of their ids, each with its pattern and with the threads that waited for it, in the
 -- order of their arrival. It is this project's own profile.
-use Rattle.std.specs.Prelude.{◌≡◌, ◌≢◌, ℕ, ◌≤◌, ◌==◌, Bool, true, false, ◌&&◌, not, if◌then◌else◌, Option, Some, None, option_map, option_and_then, unwrap_or, List, [], ◌∷◌, length, All}
-use Rattle.iop_event.specs.EventFlags.{EventFlags, is_attribute, is_taken}
+use Rattle.std.specs.Prelude.{◌≡◌, ◌≢◌, ℕ, ◌<◌, ◌≤◌, ◌==◌, Bool, true, false, ◌&&◌, not, if◌then◌else◌, Option, Some, None, option_map, option_and_then, unwrap_or, List, [], ◌∷◌, length, All}
+use Rattle.iop_event.specs.EventFlags.{EventFlags, is_attribute, is_taken, creates, deletes, sets, clears, tests, meets_next}
+use Rattle.iop_event.specs.EventFlags as flags
 use Rattle.iop_event.specs.declared.event_flag.EventFlag.{EventFlag}
 use Rattle.iop_event.specs.declared.event_flag.TheConstants.{MANY_WAITERS}
 use Rattle.iop_event.specs.declared.wanted.Wanted.{Wanted}
-use Rattle.iop_objects.specs.Objects.{Object, no_objects, state_of, waits}
+use Rattle.iop_objects.specs.Objects.{Object, no_objects, state_of, waiting, waits, takes_next, drops, requeues}
 use Rattle.iop_objects.specs.Restoring as objects
-use Rattle.iop_objects.specs.Restoring.{IsRestorable, with_last, with_next_back}
+use Rattle.iop_objects.specs.Restoring.{IsRestorable, with_last, may_be_next, with_next, with_next_back}
+use Rattle.iop_objects.specs.declared.objects.TheConstants.{MOST_WAITERS}
 use Rattle.iop_objects.specs.declared.waiter.Waiter.{Waiter}
 use Rattle.iop_queues.specs.declared.queued.Queued.{Queued}
 
@@ -66,3 +68,29 @@ pub record CanBeRestored (s : EventFlags) : Type 0 where
 -- all that stands in such a table can be put back, and gives the table again
 abbrev pub EventFlagsAreRestored : Type 0
 EventFlagsAreRestored = (s : EventFlags) → CanBeRestored s → restored s ≡ Some s
+
+-- each call keeps a table so, where it lets no more threads wait than can
+pub record StayRestorable (s : EventFlags) : Type 0 where
+  pub creates : (attr option bits : ℕ) → CanBeRestored (creates s attr option bits).1
+  pub deletes : (id : ℕ) → CanBeRestored (deletes s id).1
+  pub sets : (id bits : ℕ) → CanBeRestored (sets s id bits).1
+  pub clears : (id mask : ℕ) → CanBeRestored (clears s id mask).1
+  pub tests : (id bits mode : ℕ) → CanBeRestored (tests s id bits mode).1
+  pub meets_next : (id : ℕ) → CanBeRestored (meets_next s id).1
+  -- a thread waits that asks for a bit, where no other waits that may not
+  pub waits : (id thread priority : ℕ) (wanted : Wanted) → waiting s < MOST_WAITERS
+      → asks_for_bits wanted ≡ true
+      → ((x : EventFlag) → state_of s id ≡ Some x → is_taken s id x ≡ false)
+      → CanBeRestored (flags.waits s id thread priority wanted)
+  pub takes_next : (id : ℕ) → CanBeRestored (takes_next s id false).1
+  pub drops : (id thread : ℕ) → CanBeRestored (drops s id thread)
+  pub requeues : (id thread priority : ℕ) → CanBeRestored (requeues s id false thread priority)
+  -- and so does what is put back
+  pub puts : (id : ℕ) (x : EventFlag) → may_follow s id x ≡ true
+      → CanBeRestored (with_last s id x)
+  pub with_next : (id : ℕ) → may_be_next s id ≡ true → CanBeRestored (with_next s id)
+
+-- the first table is so
+pub record EventFlagsStayRestorable : Type 0 where
+  pub opening : CanBeRestored no_objects
+  pub calls : (s : EventFlags) → CanBeRestored s → StayRestorable s

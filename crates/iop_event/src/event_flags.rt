@@ -64,6 +64,7 @@ impl EventFlags {
     pub fn waiters(&self, id: u32) -> usize
         ensures count { result ≡ length (waiters_of self.now id) }
         ensures few { result ≤ MOST_WAITERS }
+        ensures sound { AreObjects self.now }
     {
         self.objects.waiters(id)
     }

@@ -2,7 +2,7 @@
 //! nothing.
 
 ghost use Rattle.iop_event.specs.Laws.{FlagsAreMet};
-ghost use Rattle.iop_event.specs.Restoring.{EventFlagsAreRestored};
+ghost use Rattle.iop_event.specs.Restoring.{EventFlagsAreRestored, EventFlagsStayRestorable};
 
 /// The threads whose conditions hold, taken one after the other, are those that a walk over all of
 /// them in order meets, each with the pattern as it then stands. After it no condition of a thread
@@ -16,4 +16,10 @@ pub fn flags_are_met()
 /// into a table of none, in their order, and so can its next id. That gives the table again.
 pub fn event_flags_are_restored()
     ensures { EventFlagsAreRestored }
+{}
+
+/// A table of none can be put back, and each call leaves one that can, of one that can, where there
+/// is room for each thread that begins to wait, it asks for a bit, and none waits that is alone.
+pub fn event_flags_stay_restorable()
+    ensures { EventFlagsStayRestorable }
 {}

@@ -9,10 +9,11 @@ use Rattle.std.proofs.lemmas.Bool.{lt-ltb, le-ltb, eq-eqb, ne_eqb, and_parts}
 use Rattle.iop_base.specs.Bits.{has, ChangesOnly}
 use Rattle.iop_base.specs.declared.code.Code.{Code}
 use Rattle.iop_base.specs.declared.code.TheConstants.Code.{OK, ILLEGAL_INTERRUPT, LINE_DISABLED, HANDLER_FOUND, HANDLER_NOT_FOUND}
-use Rattle.iop_intr.specs.InterruptLines.{IrqLine, line_of, on_line, is_deliverable, register_line, release_line, enable_line, disable_line, registering, releasing, enabling, disabling, raising, lowering, delivering, finished, finishing}
+use Rattle.iop_intr.specs.InterruptLines.{line_of, on_line, is_deliverable, register_line, release_line, enable_line, disable_line, registering, releasing, enabling, disabling, raising, lowering, delivering, finished, finishing}
 use Rattle.iop_intr.specs.Laws.{line_with}
 use Rattle.iop_intr.specs.LineViews.{line_in, lines_in}
 use Rattle.iop_intr.specs.declared.handler.Handler.{Handler}
+use Rattle.iop_intr.specs.declared.irq_line.IrqLine.{IrqLine}
 use Rattle.iop_intr.specs.declared.irqs.TheConstants.{IRQ_LINES}
 use Rattle.iop_intr.specs.declared.irqs.Irqs.TheInside.{Inside}
 use Rattle.iop_intr.proofs.Views.{same_line, line_is, set_is, unchanged}

@@ -5,9 +5,10 @@ use Rattle.std.proofs.lemmas.Bool.{cases_lt, lt-ltb, ne_eqb}
 use mathlib.Core.Logic.{◌⊎◌, inl, inr}
 use Rattle.iop_base.specs.declared.code.Code.{Code}
 use Rattle.iop_base.specs.declared.code.TheConstants.Code.{OK, ILLEGAL_INTERRUPT, HANDLER_FOUND, HANDLER_NOT_FOUND}
-use Rattle.iop_intr.specs.InterruptLines.{IrqLine, idle, line_of, on_line, changed, lowered, register_line, release_line, enable_line, disable_line, finished}
+use Rattle.iop_intr.specs.InterruptLines.{idle, line_of, on_line, changed, lowered, register_line, release_line, enable_line, disable_line, finished}
 use Rattle.iop_intr.specs.Laws.{ChangesOneLine, line_with, ResultsEnableOrDisable, LeavesOneLine, EachCallChangesOneLine}
 use Rattle.iop_intr.specs.declared.handler.Handler.{Handler}
+use Rattle.iop_intr.specs.declared.irq_line.IrqLine.{IrqLine}
 use Rattle.iop_intr.specs.declared.irqs.TheConstants.{IRQ_LINES}
 use Rattle.iop_intr.proofs.Calls.{past}
 

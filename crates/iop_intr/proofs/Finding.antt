@@ -3,8 +3,9 @@ use Rattle.std.proofs.Common.{◌≡◌, ℕ, ◌<◌, false, ◌&&◌, Option, 
 use Rattle.std.proofs.lemmas.List.{same_lists, get_or-replicate, length-replicate}
 use Rattle.iop_base.specs.Bits.{has, IsLeast}
 use Rattle.iop_base.proofs.Searching.{position-at, position-none}
-use Rattle.iop_intr.specs.InterruptLines.{IrqLine, idle, line_of, is_deliverable, deliverable, IsDeliverable}
+use Rattle.iop_intr.specs.InterruptLines.{idle, line_of, is_deliverable, deliverable, IsDeliverable}
 use Rattle.iop_intr.specs.LineViews.{lines_in}
+use Rattle.iop_intr.specs.declared.irq_line.IrqLine.{IrqLine}
 use Rattle.iop_intr.specs.declared.irqs.TheConstants.{IRQ_LINES}
 use Rattle.iop_intr.specs.declared.irqs.Irqs.TheInside.{Inside}
 use Rattle.iop_intr.proofs.Views.{same_line, length-lines_in, get_or-lines_in}

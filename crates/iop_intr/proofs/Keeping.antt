@@ -7,8 +7,9 @@ use Rattle.std.proofs.lemmas.List.Quantifiers.{position-Some}
 use Rattle.std.proofs.lemmas.Bool.{true≢false, and_parts, and_from, cases_Bool, cases_lt, ltb-false}
 use Rattle.std.proofs.lemmas.List.Sums.{fails_before_first}
 use mathlib.Core.Logic.{◌⊎◌, inl, inr}
-use Rattle.iop_intr.specs.InterruptLines.{IrqLine, idle, line_of, is_deliverable, deliverable, delivering, finishing}
+use Rattle.iop_intr.specs.InterruptLines.{idle, line_of, is_deliverable, deliverable, delivering, finishing}
 use Rattle.iop_intr.specs.Laws.{CanBeDelivered, IsLowest, DeliverableIsLowest, RaisedStaysRaised, LoweredStaysLowered, DeliveryChangesOneLine, ZeroDisables}
+use Rattle.iop_intr.specs.declared.irq_line.IrqLine.{IrqLine}
 
 can_be : (l : IrqLine) → is_deliverable l ≡ true → CanBeDelivered l
 can_be l is =

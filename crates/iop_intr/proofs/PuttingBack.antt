@@ -2,9 +2,9 @@
 use Rattle.std.proofs.Common.{◌≡◌, ◌+◌, ℕ, List, [], ◌∷◌, ◌++◌, length, refl, ap, sym, ◌∙◌, arith}
 use Rattle.std.proofs.Math.Seq.{set-append_seam, append_snoc}
 use Rattle.std.proofs.lemmas.Grind.{length_at_push}
-use Rattle.iop_intr.specs.InterruptLines.{IrqLine}
 use Rattle.iop_intr.specs.Laws.{LinesArePutBack}
 use Rattle.iop_intr.specs.Restoring.{with_lines}
+use Rattle.iop_intr.specs.declared.irq_line.IrqLine.{IrqLine}
 
 -- as many as stand behind those before them
 put_behind : (before old new : List IrqLine) → length old ≡ length new

@@ -5,10 +5,11 @@ use Rattle.std.proofs.lemmas.List.{same_lists, get_or-set_same, get_or-set_other
 use Rattle.std.proofs.lemmas.List.FromFn.{get_or-map-range_with_len, length-map-range_with_len}
 use Rattle.std.proofs.lemmas.Bool.{cases_eq}
 use mathlib.Core.Logic.{◌⊎◌, inl, inr}
-use Rattle.iop_intr.specs.InterruptLines.{IrqLine, idle, line_of}
+use Rattle.iop_intr.specs.InterruptLines.{idle, line_of}
 use Rattle.iop_intr.specs.Laws.{line_with}
 use Rattle.iop_intr.specs.LineViews.{line_in, lines_in}
 use Rattle.iop_intr.specs.declared.handler.Handler.{Handler}
+use Rattle.iop_intr.specs.declared.irq_line.IrqLine.{IrqLine}
 use Rattle.iop_intr.specs.declared.irqs.TheConstants.{IRQ_LINES}
 use Rattle.iop_intr.specs.declared.irqs.Irqs.TheInside.{Inside}
 

@@ -5,15 +5,11 @@ use Rattle.std.specs.Prelude.{◌≡◌, ℕ, ◌<◌, ◌==◌, nat_lt, Bool, t
 use Rattle.iop_base.specs.declared.code.Code.{Code}
 use Rattle.iop_base.specs.declared.code.TheConstants.Code.{OK, ILLEGAL_INTERRUPT, LINE_DISABLED, HANDLER_FOUND, HANDLER_NOT_FOUND}
 use Rattle.iop_intr.specs.declared.handler.Handler.{Handler}
+use Rattle.iop_intr.specs.declared.irq_line.IrqLine.{IrqLine}
 use Rattle.iop_intr.specs.declared.irqs.TheConstants.{IRQ_LINES}
 
 abbrev pub handler_of : (address arg gp : ℕ) → Handler
 handler_of address arg gp = record { address = address; arg = arg; gp = gp }
-
-pub record IrqLine : Type 0 where
-  pub raised : Bool
-  pub enabled : Bool
-  pub handler : Option Handler
 
 -- lowered, disabled and without a handler, as each line is at first
 abbrev pub idle : IrqLine

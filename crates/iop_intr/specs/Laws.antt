@@ -2,9 +2,10 @@
 use Rattle.std.specs.Prelude.{◌≡◌, ◌≢◌, ℕ, ◌<◌, Bool, true, false, Option, Some, None, IsSome, MatchOption, List, length}
 use Rattle.iop_base.specs.declared.code.Code.{Code}
 use Rattle.iop_base.specs.declared.code.TheConstants.Code.{OK}
-use Rattle.iop_intr.specs.InterruptLines.{IrqLine, line_of, registering, releasing, enabling, disabling, raising, lowering, deliverable, delivering, finishing}
+use Rattle.iop_intr.specs.InterruptLines.{line_of, registering, releasing, enabling, disabling, raising, lowering, deliverable, delivering, finishing}
 use Rattle.iop_intr.specs.Restoring.{with_lines}
 use Rattle.iop_intr.specs.declared.handler.Handler.{Handler}
+use Rattle.iop_intr.specs.declared.irq_line.IrqLine.{IrqLine}
 use Rattle.iop_intr.specs.declared.irqs.TheConstants.{IRQ_LINES}
 
 pub record CanBeDelivered (l : IrqLine) : Type 0 where

@@ -2,7 +2,7 @@
 use Rattle.std.specs.Prelude.{ℕ, if◌then◌else◌, None, List, map}
 use Rattle.std.specs.List.{slice_get, range_with_len}
 use Rattle.iop_base.specs.Bits.{has}
-use Rattle.iop_intr.specs.InterruptLines.{IrqLine}
+use Rattle.iop_intr.specs.declared.irq_line.IrqLine.{IrqLine}
 use Rattle.iop_intr.specs.declared.irqs.TheConstants.{IRQ_LINES}
 use Rattle.iop_intr.specs.declared.irqs.Irqs.TheInside.{Inside}
 

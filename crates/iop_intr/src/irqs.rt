@@ -1,10 +1,9 @@
 ghost use Rattle.std.specs.Prelude.{◌≡◌, ◌<◌, IfSome, Some, length, replicate, set};
 ghost use Rattle.iop_intr.specs.InterruptLines.{idle, line_of, IsDeliverable, handler_of, registering, releasing, enabling, disabling, raising, lowering, deliverable, delivering, finishing};
-ghost use Rattle.iop_intr.specs.Restoring.{irq_line};
 ghost use Rattle.iop_intr.specs.declared.irqs.TheConstants.{IRQ_LINES};
 
 use crate::handler::Handler;
-use crate::line::Line;
+use crate::irq_line::IrqLine;
 use crate::line_set::LineSet;
 use iop_base::Code;
 use std::marker::Model;
@@ -25,7 +24,7 @@ pub struct Irqs {
 
 impl Model for Irqs {
     ghost use Rattle.std.specs.Prelude.{List};
-    ghost use Rattle.iop_intr.specs.InterruptLines.{IrqLine};
+    ghost use Rattle.iop_intr.specs.declared.irq_line.IrqLine.{IrqLine};
 
     ghost Value = { List IrqLine };
 
@@ -192,14 +191,23 @@ impl Irqs {
         }
     }
 
+    /// Tells how many lines there are: `IRQ_LINES`.
+    pub fn len(&self) -> usize
+        ensures len { result ≡ length self.now }
+        ensures all { result ≡ IRQ_LINES }
+    {
+        let handlers = &self.handlers;
+        handlers.len()
+    }
+
     /// Tells how a line below `IRQ_LINES` stands.
-    pub fn line(&self, number: u8) -> Line
+    pub fn line(&self, number: u8) -> IrqLine
         requires { number < IRQ_LINES }
-        ensures line { irq_line result ≡ line_of self.now number }
+        ensures line { result ≡ line_of self.now number }
         ensures all { length self.now ≡ IRQ_LINES }
     {
         let number = number as u32;
-        Line {
+        IrqLine {
             raised: self.raised.has(number),
             enabled: self.enabled.has(number),
             handler: self
@@ -210,9 +218,9 @@ impl Irqs {
     }
 
     /// Makes a line below `IRQ_LINES` stand so, whatever it was.
-    pub fn put_line(&mut self, number: u8, line: Line)
+    pub fn put_line(&mut self, number: u8, line: IrqLine)
         requires { number < IRQ_LINES }
-        ensures { self.new ≡ set self.old number (irq_line line) }
+        ensures { self.new ≡ set self.old number line }
     {
         let number = number as u32;
         self.raised.put(number, line.raised);

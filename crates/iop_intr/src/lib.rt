@@ -2,11 +2,11 @@
 #![tactic(auto)]
 
 mod handler;
+mod irq_line;
 mod irqs;
 pub mod laws;
-mod line;
 mod line_set;
 
 pub use handler::Handler;
+pub use irq_line::IrqLine;
 pub use irqs::{IRQ_LINES, Irqs};
-pub use line::Line;

@@ -1,5 +1,5 @@
 use iop_base::Code;
-use iop_intr::{Handler, Irqs, Line};
+use iop_intr::{Handler, IrqLine, Irqs};
 use std::test::Fail;
 
 /// A call of the table.
@@ -92,6 +92,7 @@ fn lines_are_put_back(rt: HostRuntime) -> Result<(), Fail> {
     others.raise(5);
     assert_eq!(rt; others.register(5, 0x2000, 8, 0x9000), Code::OK);
     assert_eq!(rt; others.enable(63), Code::OK);
+    assert_eq!(rt; irqs.len(), 64);
     for number in 0..64 {
         others.put_line(number, irqs.line(number));
     }
@@ -106,7 +107,7 @@ fn lines_are_put_back(rt: HostRuntime) -> Result<(), Fail> {
         (63, true, false, Some(handler)),
     ];
     for (number, raised, enabled, handler) in rows {
-        let line = Line {
+        let line = IrqLine {
             raised,
             enabled,
             handler,

@@ -15,6 +15,8 @@ use Rattle.iop_pools.specs.declared.met.Met.{Met}
 use Rattle.iop_pools.proofs.MetNext.{met_next}
 use Rattle.iop_queues.specs.declared.queued.Queued.{Queued}
 use Rattle.iop_objects.specs.declared.waiter.Waiter.{Waiter}
+use Rattle.iop_objects.proofs.EachObject.{HoldsOfEach, found_holds, each_changes, each_with_waiters, each_with_state, each_creates, each_deletes}
+use Rattle.iop_objects.proofs.OtherWaiters.{NoOthers, all_others, none_without, none_requeued, none_chosen_new, none_taken_new}
 use Rattle.iop_stubs.specs.Stubs.{Memory}
 use Rattle.iop_thread.specs.declared.kind.Kind.{Kind}
 use Rattle.iop_thread.specs.declared.kind.Kind.TheVariants.{Semaphore, EventFlag, Mailbox, VariablePool, FixedPool}
@@ -28,9 +30,7 @@ use Rattle.iop_kernel.specs.Waits.{leaves_object, requeues_at, wakes_with}
 use Rattle.iop_kernel.specs.declared.after.After.{After}
 use Rattle.iop_kernel.proofs.Bodies.KindTables.{each_table}
 use Rattle.iop_kernel.proofs.Keeping.Handlers.{gives_to}
-use Rattle.iop_kernel.proofs.Overdue.Objects.{HoldsOfEach, found_holds, each_changes, each_with_waiters, each_with_state, each_creates, each_deletes}
 use Rattle.iop_kernel.proofs.Placing.Moves.{settled_flag, settled_rest}
-use Rattle.iop_kernel.proofs.Placing.ObjectsKept.{NoOthers, all_others, none_without, none_requeued, none_chosen_new, none_taken_new}
 use Rattle.iop_kernel.proofs.Walk.Meeting.{meets_last}
 use Rattle.iop_kernel.proofs.Walk.Moves.{Moves, CallMoves}
 use Rattle.iop_kernel.proofs.Walk.Services.{services_go, asked_not}

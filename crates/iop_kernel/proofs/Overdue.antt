@@ -1,5 +1,4 @@
 pub mod Kernels
 pub mod Kinds
 pub mod Meeting
-pub mod Objects
 pub mod Services

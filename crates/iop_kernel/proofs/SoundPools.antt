@@ -6,6 +6,7 @@ use Rattle.iop_base.specs.Piece.{Piece}
 use Rattle.iop_exec.specs.Row.{reg}
 use Rattle.iop_objects.specs.Objects.{with_waiters}
 use Rattle.iop_objects.specs.declared.waiter.Waiter.{Waiter}
+use Rattle.iop_objects.proofs.EachObject.{each_with_waiters, each_with_state, each_creates, each_deletes}
 use Rattle.iop_pools.specs.Pools.{Pool, with_ranges}
 use Rattle.iop_pools.specs.Ranges.{without}
 use Rattle.iop_pools.specs.Standing.{AreInOrder, ArePlaced, IsPool}
@@ -30,7 +31,6 @@ use Rattle.iop_kernel.specs.declared.pool_services.TheConstants.{FROM_BELOW}
 use Rattle.iop_kernel.proofs.Bodies.KindTables.{each_table}
 use Rattle.iop_kernel.proofs.Bodies.StackBlocks.{taken_ends}
 use Rattle.iop_kernel.proofs.Keeping.Handlers.{gives_to}
-use Rattle.iop_kernel.proofs.Overdue.Objects.{each_with_waiters, each_with_state, each_creates, each_deletes}
 use Rattle.iop_kernel.proofs.Walk.Changes.{IsNew, TakesBlock, IsFirst, IsMadeOn, Changes}
 use Rattle.iop_kernel.proofs.Walk.Changes.FixedChanges.{takes as takes_block, gives}
 use Rattle.iop_kernel.proofs.Walk.Changes.VariableChanges.{takes}

@@ -2,8 +2,9 @@
 -- line or the alarm that it is for.
 use Rattle.std.specs.Prelude.{◌≡◌, ◌≢◌, ℕ, true, false, Some, None, IsSome, List, All}
 use Rattle.iop_exec.specs.Row.{reg}
-use Rattle.iop_intr.specs.InterruptLines.{IrqLine, line_of}
+use Rattle.iop_intr.specs.InterruptLines.{line_of}
 use Rattle.iop_intr.specs.declared.handler.Handler.{Handler}
+use Rattle.iop_intr.specs.declared.irq_line.IrqLine.{IrqLine}
 use Rattle.iop_thread.specs.FirstRegisters.{BeginsWith}
 use Rattle.iop_time.specs.Laws.{AlarmsAreGone, IsSetAgain}
 use Rattle.iop_time.specs.Timers.{Timers}

@@ -4,7 +4,8 @@ use Rattle.std.specs.Prelude.{◌≡◌, ◌==◌, ◌<◌, ℕ, Bool, true, fal
 use Rattle.iop_base.specs.Numbers.{one_if}
 use Rattle.iop_base.specs.declared.code.Code.{Code}
 use Rattle.iop_base.specs.declared.code.TheConstants.Code.{OK, INTERRUPTS_DISABLED}
-use Rattle.iop_intr.specs.InterruptLines.{IrqLine, enabling, disabling, releasing}
+use Rattle.iop_intr.specs.InterruptLines.{enabling, disabling, releasing}
+use Rattle.iop_intr.specs.declared.irq_line.IrqLine.{IrqLine}
 use Rattle.iop_intr.specs.declared.irqs.TheConstants.{IRQ_LINES}
 use Rattle.iop_services.specs.declared.intrman_service.IntrmanService.{IntrmanService}
 use Rattle.iop_services.specs.declared.intrman_service.IntrmanService.TheVariants.{ReleaseIntrHandler, EnableIntr, DisableIntr, CpuDisableIntr, CpuEnableIntr, CpuSuspendIntr, CpuResumeIntr, QueryIntrContext}

@@ -7,7 +7,8 @@ use Rattle.iop_base.specs.declared.code.Code.{Code}
 use Rattle.iop_base.specs.declared.code.TheConstants.Code.{OK, ILLEGAL_INTERRUPT, INTERRUPTS_DISABLED}
 use Rattle.iop_base.specs.declared.guest_fault.GuestFault.TheVariants.{Address}
 use Rattle.iop_exec.specs.Row.{reg}
-use Rattle.iop_intr.specs.InterruptLines.{IrqLine, handler_of, registering, releasing, enabling, disabling}
+use Rattle.iop_intr.specs.InterruptLines.{handler_of, registering, releasing, enabling, disabling}
+use Rattle.iop_intr.specs.declared.irq_line.IrqLine.{IrqLine}
 use Rattle.iop_services.specs.declared.intrman_service.IntrmanService.{IntrmanService}
 use Rattle.iop_services.specs.declared.intrman_service.IntrmanService.TheVariants as service
 use Rattle.iop_kernel.specs.Boards.{Board, quiet, writes_with, optional_place}

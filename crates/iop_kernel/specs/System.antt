@@ -7,7 +7,8 @@ use Rattle.iop_base.specs.declared.guest_fault.GuestFault.{GuestFault}
 use Rattle.iop_event.specs.EventFlags.{EventFlags}
 use Rattle.iop_exec.specs.declared.cpu.Cpu.{Cpu}
 use Rattle.iop_exec.specs.Row.{reg, with_reg}
-use Rattle.iop_intr.specs.InterruptLines.{IrqLine, idle}
+use Rattle.iop_intr.specs.InterruptLines.{idle}
+use Rattle.iop_intr.specs.declared.irq_line.IrqLine.{IrqLine}
 use Rattle.iop_intr.specs.declared.irqs.TheConstants.{IRQ_LINES}
 pub use Rattle.iop_libs.specs.Calls.{code_word}
 use Rattle.iop_mbx.specs.Mailboxes.{Mailboxes}

@@ -57,11 +57,12 @@ module _ (c : Core) where
   abbrev pub takes_vpl : Result ℕ Code × VariablePools → Left Core
   takes_vpl (result, left) = answers_result (with_variable_pools c left) result
 
-  -- the thread that calls waits where it does not fit
+  -- the thread that calls waits where it does not fit: for the size, rounded up
   abbrev pub takes_or_waits : (id size : ℕ) → Result ℕ Code × VariablePools → Left Core
   takes_or_waits id size (Ok place, left) = takes_vpl (Ok place, left)
   takes_or_waits id size (Err code, left) =
-      if is_code code NO_MEMORY then waits_for VariablePool c id size (caller c)
+      if is_code code NO_MEMORY
+      then waits_for VariablePool c id (pools.pool_length size) (caller c)
       else answers c code
 
   -- AllocateVpl

@@ -6,7 +6,7 @@ use Rattle.iop_event.specs.WakeConditions.{holds}
 use Rattle.iop_exec.specs.Row.{with_reg}
 use Rattle.iop_objects.specs.Objects.{state_of, waiters_of, with_waiters}
 use Rattle.iop_pools.specs.Pools.{place_for}
-use Rattle.iop_pools.specs.VariablePools.{place_of}
+use Rattle.iop_pools.specs.VariablePools.{place_of, pool_length}
 use Rattle.iop_ready.specs.Priorities.{priority_of as priority_of_word}
 use Rattle.iop_services.specs.declared.service.Service.{Service}
 use Rattle.iop_services.specs.declared.service.Service.TheVariants.{Thbase, Thsemap, Thevent, Thmsgbx, Thvpool, Thfpool}
@@ -104,11 +104,10 @@ pub record WaitsBeginSo : Type 0 where
       (λ s left thread.
       WaitsFor Mailbox s.core left (argument s.core 1) (argument s.core 0) thread
       × ((place : ℕ) × (words_place s.memory (argument s.core 0) 1 ≡ Some place)))
-  -- for so many bytes as the second argument says, where they fit nowhere
+  -- for so many bytes as the second argument says, rounded up, where they fit nowhere
   pub variable_pool : LeavesSo (Thvpool AllocateVpl)
-      (λ s left thread.
-      WaitsFor VariablePool s.core left (argument s.core 0) (argument s.core 1) thread
-      × VariablePoolIsFull s)
+      (λ s left thread. let size = pool_length (argument s.core 1) in
+      WaitsFor VariablePool s.core left (argument s.core 0) size thread × VariablePoolIsFull s)
   pub fixed_pool : LeavesSo (Thfpool AllocateFpl)
       (λ s left thread. WaitsFor FixedPool s.core left (argument s.core 0) tt thread
       × FixedPoolIsFull s)

@@ -6,7 +6,7 @@ ghost use Rattle.iop_base.specs.declared.code.TheConstants.Code.{OK};
 ghost use Rattle.iop_objects.specs.Objects.{object_of, state_of, waiting};
 ghost use Rattle.iop_objects.specs.declared.objects.TheConstants.{MOST_WAITERS};
 ghost use Rattle.iop_pools.specs.Pools.{Pool};
-ghost use Rattle.iop_pools.specs.VariablePools.{bytes, place_of};
+ghost use Rattle.iop_pools.specs.VariablePools.{bytes, place_of, pool_length};
 ghost use Rattle.iop_registry.specs.declared.registry.Entry.{Entry};
 ghost use Rattle.iop_kernel.specs.PoolServices.{makes_pool};
 ghost use Rattle.iop_kernel.specs.Standing.{HasSizeOf, Holds, IsHeld, Serves, TakesBoard, TakesCore, TakesOwner, board, core, owner, system};
@@ -107,8 +107,8 @@ impl<R: Ready> Kernel<R> {
         self.delete_object(Kind::VariablePool, id, cpu)
     }
 
-    /// Lets the thread that calls wait for so many bytes of a live variable pool, which do not fit
-    /// now.
+    /// Lets the thread that calls wait for so many bytes of a live variable pool, rounded up, which
+    /// do not fit now.
     fn wait_for_memory(&mut self, id: u32, size: u32, cpu: &Cpu) -> After
         requires sound { IsHeld R.stands self.old }
         requires live { is_some (object_of self.old.variable_pools.live id) ≡ true }
@@ -119,7 +119,8 @@ impl<R: Ready> Kernel<R> {
         requires full { (x : Pool) → state_of self.old.variable_pools id ≡ Some x
             → place_of x size ≡ None }
         ensures { (k : State) → Holds R.stands self.old k
-            → TakesCore R.stands (waits_for VariablePool (core k cpu.now) id size (caller_in k))
+            → let wants = pool_length size in
+            TakesCore R.stands (waits_for VariablePool (core k cpu.now) id wants (caller_in k))
             result self.new cpu.now }
     {
         let Some(thread) = self.caller() else {

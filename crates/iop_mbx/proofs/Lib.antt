@@ -3,4 +3,4 @@ mod MailboxTables
 mod LiveMailboxes
 mod Creating
 mod Receiving
-mod Restored
+pub mod Restored

@@ -1,7 +1,7 @@
 #![tactic(auto, using(crate::proofs::Reading::readings))]
 
 ghost use Rattle.std.specs.Prelude.{◌≡◌, ◌<◌, ◌≤◌, [], IfOk, is_some, if◌then◌else◌, option_map, option_and_then, true, length};
-ghost use Rattle.iop_objects.specs.Objects.{no_objects, object_of, state_of, waiters_of, waiting, drops, requeues};
+ghost use Rattle.iop_objects.specs.Objects.{AreObjects, no_objects, object_of, state_of, waiters_of, waiting, drops, requeues};
 ghost use Rattle.iop_objects.specs.Restoring.{may_follow};
 ghost use Rattle.iop_objects.specs.declared.objects.TheConstants.{MOST_OBJECTS, MOST_WAITERS};
 ghost use Rattle.iop_mbx.specs.declared.mailboxes.TheConstants.{MOST_MESSAGES};
@@ -77,6 +77,7 @@ impl Mailboxes {
     pub fn waiters(&self, id: u32) -> usize
         ensures count { result ≡ length (waiters_of self.now id) }
         ensures few { result ≤ MOST_WAITERS }
+        ensures sound { AreObjects self.now }
     {
         self.objects.waiters(id)
     }

@@ -2,6 +2,7 @@ pub mod Apart
 pub mod Changes
 pub mod KeptApart
 pub mod MappedLists
+pub mod MappedObjects
 pub mod Places
 pub mod Restored
 pub mod Rooms
@@ -9,3 +10,10 @@ pub mod TableChanges
 pub mod TableQueues
 pub mod Tables
 pub mod Ordered
+pub mod Chosen
+pub mod Others
+pub mod OtherWaiters
+pub mod EachObject
+pub mod EachLeft
+pub mod StayRestorable
+pub mod Holding

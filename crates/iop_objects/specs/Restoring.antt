@@ -1,10 +1,10 @@
 -- How objects are put back, one behind the other, into a table of none: those that were live, in
 -- the order of their ids, and the threads that waited for each, in the order of their arrival. It
 -- is this project's own profile.
-use Rattle.std.specs.Prelude.{◌≡◌, ℕ, ◌+◌, ◌≤◌, nat_lt, nat_le, Bool, ◌&&◌, is_some, if◌then◌else◌, Option, Some, None, option_and_then, List, [], ◌∷◌, ◌++◌, length}
+use Rattle.std.specs.Prelude.{◌≡◌, ℕ, ◌+◌, ◌<◌, ◌≤◌, nat_lt, nat_le, Bool, true, ◌&&◌, is_some, if◌then◌else◌, Option, Some, None, option_and_then, List, [], ◌∷◌, ◌++◌, length}
 use Rattle.iop_base.specs.declared.limits.TheConstants.{LAST_ID}
 use Rattle.iop_queues.specs.declared.queued.Queued.{Queued}
-use Rattle.iop_objects.specs.Objects.{Object, Objects, AreObjects, no_objects, object_of, waiting, waits}
+use Rattle.iop_objects.specs.Objects.{Object, Objects, AreObjects, no_objects, object_of, waiting, creates, deletes, with_state, waits, takes_next, takes_where, takes_next_where, drops, requeues}
 use Rattle.iop_objects.specs.declared.objects.TheConstants.{MOST_OBJECTS, MOST_WAITERS}
 use Rattle.iop_objects.specs.declared.waiter.Waiter.{Waiter}
 
@@ -72,3 +72,29 @@ module _ {A W : Type 0} where
 -- all that stands in such a table can be put back, and gives the table again
 abbrev pub ObjectsAreRestored : (A W : Type 0) → Type 0
 ObjectsAreRestored A W = (s : Objects A W) → IsRestorable s → restored s ≡ Some s
+
+module _ {A W : Type 0} where
+  -- each call keeps a table so, where it lets no more threads wait than can
+  pub record StayRestorable (s : Objects A W) : Type 0 where
+    pub creates : (state : A) → IsRestorable (creates s state).1
+    pub deletes : (id : ℕ) → IsRestorable (deletes s id)
+    pub with_state : (id : ℕ) (state : A) → IsRestorable (with_state s id state)
+    pub waits : waiting s < MOST_WAITERS → (id : ℕ) (waiter : Queued (Waiter W))
+        → IsRestorable (waits s id waiter)
+    pub takes_next : (id : ℕ) (by_priority : Bool)
+        → IsRestorable (takes_next s id by_priority).1
+    pub takes_where : (id : ℕ) (p : Waiter W → Bool) → IsRestorable (takes_where s id p).1
+    pub takes_next_where : (id : ℕ) (by_priority : Bool) (p : Waiter W → Bool)
+        → IsRestorable (takes_next_where s id by_priority p).1
+    pub drops : (id thread : ℕ) → IsRestorable (drops s id thread)
+    pub requeues : (id : ℕ) (by_priority : Bool) (thread priority : ℕ)
+        → IsRestorable (requeues s id by_priority thread priority)
+    -- and so does what is put back
+    pub with_last : (id : ℕ) (state : A) → may_follow s id ≡ true
+        → IsRestorable (with_last s id state)
+    pub with_next : (id : ℕ) → may_be_next s id ≡ true → IsRestorable (with_next s id)
+
+-- the first table is so
+pub record ObjectsStayRestorable (A W : Type 0) : Type 0 where
+  pub opening : IsRestorable (no_objects {A = A} {W = W})
+  pub calls : (s : Objects A W) → IsRestorable s → StayRestorable s

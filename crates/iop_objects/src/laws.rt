@@ -2,7 +2,7 @@
 //! nothing.
 
 ghost use Rattle.iop_objects.specs.Laws.{ObjectsKeepApart, WaitersLeaveRoom, WaitersKeepOrder};
-ghost use Rattle.iop_objects.specs.Restoring.{ObjectsAreRestored};
+ghost use Rattle.iop_objects.specs.Restoring.{ObjectsAreRestored, ObjectsStayRestorable};
 
 /// Each call changes the object of one id alone; what a wait, a take, a drop or a requeue changes
 /// of it is its waiters. Ids rise, and that of an object that was deleted is never given again.
@@ -27,4 +27,10 @@ pub fn waiters_keep_order<A, W>()
 /// again.
 pub fn objects_are_restored<A, W>()
     ensures { ObjectsAreRestored A W }
+{}
+
+/// A table of none can be put back, and each call leaves one that can, of one that can: ids rise, and
+/// no more threads wait than can, where there is room for each one that begins to.
+pub fn objects_stay_restorable<A, W>()
+    ensures { ObjectsStayRestorable A W }
 {}

@@ -7,7 +7,7 @@ use Rattle.iop_pools.specs.VariablePools.{place_of}
 use Rattle.iop_pools.specs.declared.range.Range.{Range}
 
 -- what is found nowhere is found nowhere by a test that fails more often
-none_found : (p q : ℕ → Bool) → ((n : ℕ) → p n ≡ false → q n ≡ false) → (xs : List ℕ)
+pub none_found : (p q : ℕ → Bool) → ((n : ℕ) → p n ≡ false → q n ≡ false) → (xs : List ℕ)
     → find p xs ≡ None → find q xs ≡ None
 none_found p q fails [] none = refl
 none_found p q fails (x ∷ xs) none =

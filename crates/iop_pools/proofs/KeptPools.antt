@@ -1,10 +1,12 @@
 -- What always holds of a pool is kept where memory is taken of it, and where it is given back.
-use Rattle.std.proofs.Common.{◌≡◌, ℕ, ◌+◌, ◌<◌, Some, sym, ◌∙◌, arith, mul-pos}
+use Rattle.std.proofs.Common.{◌≡◌, ℕ, ◌+◌, ◌<◌, true, Some, sym, ◌∙◌, arith, mul-pos}
 use Rattle.std.specs.Int.{div_ceil}
 use Rattle.iop_pools.specs.Pools.{Pool, length_for, place_for}
 use Rattle.iop_pools.specs.Ranges.{end_of, with_range, without}
-use Rattle.iop_pools.specs.Standing.{IsPlace, IsPool}
+use Rattle.iop_pools.specs.Restoring.{last_end, may_be_last, with_last_range}
+use Rattle.iop_pools.specs.Standing.{layout_of, IsPlace, IsPool}
 use Rattle.iop_pools.proofs.Gaps.{range_at, order-with, placed-gap, placed-with, order-without, placed-without}
+use Rattle.iop_pools.proofs.LastRanges.{facts_of, first_place, last_place, last_end-le, order-push, placed-push}
 use Rattle.iop_pools.proofs.Meeting.{place_gap}
 use Rattle.iop_pools.proofs.Taking.{ceil_some}
 
@@ -40,3 +42,23 @@ module _ (most : ℕ) (x : Pool) (sound : IsPool most x) where
     order = order-without block x.base (x.base + x.size) x.ranges sound.order;
     placed = placed-without x.base x.unit block x.ranges sound.placed;
   }
+
+  -- and where some of it is out again, behind all that is
+  pub pool_put : (start size : ℕ) → may_be_last start size x ≡ true
+      → IsPool most (with_last_range start size x)
+  pool_put start size may =
+      let from = last_end x.base x.ranges in
+      let facts = facts_of (layout_of x) from start size may in
+      let inside = last_end-le x.base (x.base + x.size) x.ranges sound.order in
+      record {
+        unit = sound.unit;
+        units = sound.units;
+        size = sound.size;
+        few = sound.few;
+        inside = sound.inside;
+        order = order-push x.base (x.base + x.size) start size x.ranges sound.order facts.behind
+            facts.some facts.inside;
+        placed = placed-push x.base x.unit (range_at start size)
+            (first_place (layout_of x) from start size facts inside.0)
+            (last_place (layout_of x) from start size facts inside.0) x.ranges sound.placed;
+      }

@@ -13,15 +13,18 @@ pub mod Making
 pub mod Meeting
 pub mod MetNext
 pub mod Fuller
+pub mod Rounding
 pub mod KeptPools
 pub mod Layouts
 pub mod GreatestFree
 pub mod LeastPlaces
 pub mod LastRanges
 pub mod PuttingOut
+pub mod EachPool
+mod Variable
 mod RangesBack
 mod PoolsBack
-mod RegularPools
+pub mod RegularPools
 mod UnitBlocks
 mod ChangesOne
 mod NextMet
@@ -29,3 +32,6 @@ mod MemoryOut
 mod MeetsNext
 mod Giving
 mod Takes
+mod RegularTables
+mod VariableRegular
+mod FixedRegular

@@ -1,5 +1,5 @@
 -- Who is met next, by what was known of the pool and of those that waited.
-use Rattle.std.proofs.Common.{◌≡◌, ℕ, ◌==◌, Bool, true, false, cond, nat_lt, is_some, Option, Some, None, List, [], ◌∷◌, if◌then◌else◌, refl, ap, sym, ◌∙◌, subst, arith, All, length, suc}
+use Rattle.std.proofs.Common.{◌≡◌, ℕ, ◌==◌, Bool, true, false, is_some, Option, Some, None, List, [], ◌∷◌, if◌then◌else◌, refl, ap, sym, ◌∙◌, arith, All, length, suc}
 use Rattle.std.proofs.lemmas.List.{length-append}
 use Rattle.std.proofs.lemmas.List.Elements.{All-nil, All-cons, All-weaker}
 use Rattle.std.proofs.lemmas.Option.{same_Some}
@@ -12,8 +12,8 @@ use Rattle.iop_pools.specs.declared.met.Met.{Met}
 use Rattle.iop_pools.proofs.Meeting.{next_holds}
 use Rattle.iop_queues.specs.Queue.{Choice, chooses_between, chooses_behind, chooses_where, chooses_best_where, chooses_next_where}
 use Rattle.iop_queues.specs.Laws.{IsTaken}
+use Rattle.iop_objects.proofs.Chosen.{next_taken}
 use Rattle.iop_queues.specs.declared.queued.Queued.{Queued}
-use Rattle.iop_queues.proofs.Choosing.{first_where}
 
 -- a size fits where there is a place for it
 place_by : (x : Pool) (size : ℕ) (none : Bool) → (size == 0) ≡ none
@@ -60,50 +60,6 @@ module _ {T : Type 0} (p : T → Bool) where
       → All Fails queue
   none_next true queue e = none_best queue e
   none_next false queue e = none_first queue e
-
-  -- who is chosen is one of them
-  behind : (x : Queued T) (xs : List (Queued T)) (c : Choice T) → IsTaken xs c
-      → IsTaken (x ∷ xs) (record { one = c.one; others = x ∷ c.others })
-  behind x xs c h = record {
-    before = x ∷ h.before;
-    behind = h.behind;
-    queue_is = ap (λ ys. x ∷ ys) h.queue_is;
-    others_are = ap (λ ys. x ∷ ys) h.others_are;
-  }
-
-  here : (x : Queued T) (xs : List (Queued T)) → IsTaken (x ∷ xs) (record { one = x; others = xs })
-  here x xs = record { before = []; behind = xs; queue_is = refl; others_are = refl }
-
-  best_taken : (queue : List (Queued T)) (c : Choice T) → chooses_best_where p queue ≡ Some c
-      → IsTaken queue c
-  best_taken [] c e = cc
-  best_taken (x ∷ xs) c e =
-      by (p x.item) (chooses_best_where p xs) (best_taken xs) e
-    where
-      is_it : {d : Choice T} → Some d ≡ Some c → IsTaken (x ∷ xs) d → IsTaken (x ∷ xs) c
-      is_it {d} e h = let same : d ≡ c = cc in subst (IsTaken (x ∷ xs)) same h
-
-      between : (less : Bool) (d : Choice T) → IsTaken xs d
-          → Some (cond less (record { one = d.one; others = x ∷ d.others })
-          (record { one = x; others = xs })) ≡ Some c
-          → IsTaken (x ∷ xs) c
-      between true d h e = is_it e (behind x xs d h)
-      between false d h e = is_it e (here x xs)
-
-      by : (b : Bool) (later : Option (Choice T))
-          → ((d : Choice T) → later ≡ Some d → IsTaken xs d)
-          → (if b then Some (chooses_between x xs later) else chooses_behind x later) ≡ Some c
-          → IsTaken (x ∷ xs) c
-      by true None rest e = is_it e (here x xs)
-      by true (Some d) rest e =
-          between (nat_lt d.one.priority x.priority) d (rest d refl) e
-      by false None rest e = cc
-      by false (Some d) rest e = is_it e (behind x xs d (rest d refl))
-
-  pub next_taken : (b : Bool) (queue : List (Queued T)) (c : Choice T)
-      → chooses_next_where b p queue ≡ Some c → IsTaken queue c
-  next_taken true queue c e = best_taken queue c e
-  next_taken false queue c e = (first_where p queue c e).taken
 
 -- the waiter that is met, its place, and what is left
 pub record IsMet (s : VariablePools) (id : ℕ) (met : Met) (left : VariablePools) : Type 0 where

@@ -1,7 +1,6 @@
 -- Each range that is out of a fixed pool stays one block.
-use Rattle.std.proofs.Common.{◌≡◌, ℕ, ◌*◌, ◌/◌, ◌%◌, ◌<◌, ◌∙◌, ◌==◌, Bool, true, false, if◌then◌else◌, Option, Some, None, Result, Ok, Err, option_map, unwrap_or, List, [], ◌∷◌, ◌++◌, map, not, refl, ap, sym, subst, arith, All, nat_lt, nat_eq, mul-div_cancel}
+use Rattle.std.proofs.Common.{◌≡◌, ℕ, ◌*◌, ◌<◌, ◌==◌, Bool, true, false, if◌then◌else◌, Option, Some, None, Result, Ok, Err, option_map, unwrap_or, List, [], ◌∷◌, ◌++◌, map, not, refl, ap, sym, subst, All, nat_lt, nat_eq}
 use Rattle.std.specs.Prelude.{⊤}
-use Rattle.std.proofs.Math.Nat.{mul-mod_left}
 use Rattle.std.proofs.lemmas.Bool.{eqb-true}
 use Rattle.std.proofs.lemmas.List.Elements.{All-nil, All-cons, All-head, All-tail, All-push, All-weaker, All-filter}
 use Rattle.iop_base.specs.declared.code.Code.{Code}
@@ -21,18 +20,11 @@ use Rattle.iop_pools.specs.Restoring.{may_be_last, with_last_range}
 use Rattle.iop_pools.specs.Standing.{pool_with, IsPool, ArePools}
 use Rattle.iop_pools.specs.declared.fixed_pool.TheConstants.{MOST_BLOCKS}
 use Rattle.iop_pools.specs.declared.range.Range.{Range}
+use Rattle.iop_pools.proofs.Rounding.{one_unit}
 use Rattle.iop_pools.proofs.Tables.{state_holds, one_alone}
 
 abbrev Kept : Object Pool ⊤ → Type 0
 Kept o = IsInBlocks o.state
-
--- one unit is rounded to itself
-rounded-unit : (unit : ℕ) → 0 < unit → rounded unit unit ≡ unit
-rounded-unit unit some =
-    let one : 1 * unit ≡ unit = omega arith in
-    let times = ap (λ n. n / unit) (sym one) ∙ mul-div_cancel 1 some in
-    let rest = ap (λ n. n % unit) (sym one) ∙ mul-mod_left 1 unit in
-    rw (times, rest) one
 
 module _ (unit : ℕ) where
   abbrev Is : Range → Type 0
@@ -139,7 +131,7 @@ module _ (s : FixedPools) (all : AreInBlocks s) where
     took some None = all
     took some (Some place) =
         with_kept (with_range (record { start = place; size = rounded x.unit x.unit }) x.ranges)
-        (with_range-kept x.unit _ (rounded-unit x.unit some) x.ranges own)
+        (with_range-kept x.unit _ (one_unit x.unit some) x.ranges own)
 
     abbrev given : (block : ℕ) → Bool → Option (Choice (Waiter ⊤))
         → Result (Option ℕ) Code × FixedPools

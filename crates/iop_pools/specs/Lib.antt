@@ -13,3 +13,4 @@ pub mod VariableRestoring
 pub mod FixedRestoring
 pub mod RestoringLaws
 pub mod BlockLaws
+pub mod RegularLaws

@@ -1,12 +1,13 @@
 -- How the program's tables stand for the pools: the ranges that are out of all pools stand in one
 -- list, each with the id of its pool.
-use Rattle.std.specs.Prelude.{◌≡◌, ℕ, ◌+◌, ◌*◌, ◌^◌, ◌<◌, ◌≤◌, ◌==◌, true, is_some, List, [], ◌∷◌, map, filter, All}
-use Rattle.iop_objects.specs.Objects.{Object, Objects, object_of}
+use Rattle.std.specs.Prelude.{◌≡◌, ℕ, ◌+◌, ◌*◌, ◌^◌, ◌<◌, ◌≤◌, ◌==◌, true, is_some, Some, List, [], ◌∷◌, map, filter, All}
+use Rattle.iop_objects.specs.Objects.{Object, Objects, object_of, state_of}
 use Rattle.iop_pools.specs.Pools.{Pool, Pools}
 use Rattle.iop_pools.specs.Ranges.{end_of}
 use Rattle.iop_pools.specs.declared.out.Out.{Out}
 use Rattle.iop_pools.specs.declared.layout.Layout.{Layout}
 use Rattle.iop_pools.specs.declared.range.Range.{Range}
+use Rattle.iop_pools.specs.declared.variable_pool.TheConstants.{VARIABLE_UNIT, MOST_BYTES}
 
 -- the ranges of the pool of an id
 abbrev pub ranges_of : ℕ → List Out → List Range
@@ -73,6 +74,14 @@ pub record IsPool (most : ℕ) (x : Pool) : Type 0 where
 -- what always holds of the pools
 abbrev pub ArePools : {W : Type 0} → (most : ℕ) → Pools W → Type 0
 ArePools most s = All (λ o. IsPool most o.state) s.live
+
+-- what always holds of a variable pool
+pub record IsVariable (x : Pool) : Type 0 where
+  pub unit : x.unit ≡ VARIABLE_UNIT
+  pub most : x.size ≤ MOST_BYTES
+
+abbrev pub AreVariable : {W : Type 0} → Pools W → Type 0
+AreVariable s = (id : ℕ) (x : Pool) → state_of s id ≡ Some x → IsVariable x
 
 -- what holds of every table
 pub record IsTable {W : Type 0} (objects : Objects Layout W) (outs : List Out) (most : ℕ) : Type 0

@@ -88,11 +88,12 @@ module _ (s : VariablePools) where
   abbrev pub gives : (id block : ℕ) → Code × VariablePools
   gives id block = given (frees s id block)
 
-  -- a thread waits for memory
+  -- a thread waits for memory: for a size that is rounded up
   abbrev pub waits : (id thread priority size : ℕ) → VariablePools
-  waits id thread priority size =
-      objects.waits s id
-      (record { priority = priority; item = record { thread = thread; wants = size } })
+  waits id thread priority size = objects.waits s id (record {
+    priority = priority;
+    item = record { thread = thread; wants = pool_length size };
+  })
 
 -- the first thread that waits and whose size then fits waits no more, and its memory is out
 abbrev pub answered : Waiter ℕ → Option ℕ × VariablePools → Option Met × VariablePools

@@ -1,6 +1,6 @@
 -- How variable pools are put back.
 use Rattle.std.specs.Prelude.{◌≡◌, ℕ, ◌+◌, ◌%◌, ◌^◌, ◌==◌, nat_le, nat_lt, Bool, true, ◌&&◌, if◌then◌else◌, Option, Some, None, option_and_then, List, [], ◌∷◌, All}
-use Rattle.iop_objects.specs.Objects.{Object}
+use Rattle.iop_objects.specs.Objects.{Object, waits}
 use Rattle.iop_objects.specs.Restoring.{may_follow, with_last, may_wait, IsRestorable}
 use Rattle.iop_objects.specs.declared.waiter.Waiter.{Waiter}
 use Rattle.iop_queues.specs.declared.queued.Queued.{Queued}
@@ -8,7 +8,7 @@ use Rattle.iop_pools.specs.Pools.{Pool, is_attribute}
 use Rattle.iop_pools.specs.Restoring.{may_be_base, holds_of, with_ranges_back, restored_by}
 use Rattle.iop_pools.specs.Standing as standing
 use Rattle.iop_pools.specs.Standing.{pool_with, IsPool}
-use Rattle.iop_pools.specs.VariablePools.{VariablePools, waits}
+use Rattle.iop_pools.specs.VariablePools.{VariablePools}
 use Rattle.iop_pools.specs.declared.layout.Layout.{Layout}
 use Rattle.iop_pools.specs.declared.variable_layout.VariableLayout.{VariableLayout}
 use Rattle.iop_pools.specs.declared.variable_pool.TheConstants.{VARIABLE_UNIT, LEAST_BYTES, MOST_BYTES, MOST_RANGES}
@@ -54,13 +54,18 @@ puts s id layout = with_last s id (pool_with (layout_for layout) [])
 abbrev pub may_put_waiter : VariablePools → (id size : ℕ) → Bool
 may_put_waiter s id size = holds_of s id (may_be_wanted size) && may_wait s id
 
+-- it waits, behind all others
+abbrev pub puts_waiter : VariablePools → (id thread priority size : ℕ) → VariablePools
+puts_waiter s id thread priority size =
+    waits s id (record { priority = priority; item = record { thread = thread; wants = size } })
+
 -- threads wait for memory again, in this order
 abbrev pub with_waiters_back : VariablePools → ℕ → List (Queued (Waiter ℕ))
     → Option VariablePools
 with_waiters_back s id [] = Some s
 with_waiters_back s id (w ∷ ws) =
     if may_put_waiter s id w.item.wants
-    then with_waiters_back (waits s id w.item.thread w.priority w.item.wants) id ws
+    then with_waiters_back (puts_waiter s id w.item.thread w.priority w.item.wants) id ws
     else None
 
 -- a pool is live again, with what was out of it and those that waited for it

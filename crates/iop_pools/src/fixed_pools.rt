@@ -1,5 +1,5 @@
 ghost use Rattle.std.specs.Prelude.{◌≡◌, ◌+◌, ◌*◌, ◌^◌, ◌<◌, ◌≤◌, [], Some, None, IfOk, All, is_some, length, option_map, slice_get, true};
-ghost use Rattle.iop_objects.specs.Objects.{no_objects, object_of, state_of, waiters_of, waiting, has_room, takes_next, drops, requeues};
+ghost use Rattle.iop_objects.specs.Objects.{AreObjects, no_objects, object_of, state_of, waiters_of, waiting, has_room, takes_next, drops, requeues};
 ghost use Rattle.iop_objects.specs.declared.objects.TheConstants.{MOST_OBJECTS, MOST_WAITERS};
 ghost use Rattle.iop_pools.specs.Laws.{Apart};
 ghost use Rattle.iop_pools.specs.Pools.{Pool, is_by_priority, place_for};
@@ -112,6 +112,7 @@ impl FixedPools {
     pub fn waiters(&self, id: u32) -> usize
         ensures count { result ≡ length (waiters_of self.now id) }
         ensures few { result ≤ MOST_WAITERS }
+        ensures sound { AreObjects self.now }
     {
         self.pools.waiters(id)
     }

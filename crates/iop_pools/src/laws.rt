@@ -5,6 +5,7 @@ ghost use Rattle.iop_pools.specs.BlockLaws.{BlocksAreUnits};
 ghost use Rattle.iop_pools.specs.GivingLaws.{MemoryIsGiven};
 ghost use Rattle.iop_pools.specs.Laws.{MemoryIsOut, PoolsAreApart, PoolsChangeOne};
 ghost use Rattle.iop_pools.specs.MeetingLaws.{NextIsMet};
+ghost use Rattle.iop_pools.specs.RegularLaws.{PoolsStayRegular};
 ghost use Rattle.iop_pools.specs.RestoringLaws.{PoolsAreRestored};
 ghost use Rattle.iop_pools.specs.TakingLaws.{MemoryIsTaken};
 
@@ -64,4 +65,11 @@ pub fn pools_are_restored()
 /// keeps it.
 pub fn blocks_are_units()
     ensures { BlocksAreUnits }
+{}
+
+/// Pools stand as ones can that are put back: of a table of none it is so, and each call keeps it,
+/// of those that are made where one may be, and of threads that wait where they may. That a size is
+/// rounded up changes neither where it fits nor how many bytes are taken for it.
+pub fn pools_stay_regular()
+    ensures { PoolsStayRegular }
 {}

@@ -1,5 +1,5 @@
 ghost use Rattle.std.specs.Prelude.{◌≡◌, ◌*◌, ◌^◌, ◌<◌, ◌≤◌, [], IfOk, IfSome, Some, is_some, option_map, option_and_then, slice_get, true, length};
-ghost use Rattle.iop_objects.specs.Objects.{no_objects, object_of, state_of, waiters_of, waiting, has_room, creates, deletes, waits, takes_next, takes_next_where, drops, requeues};
+ghost use Rattle.iop_objects.specs.Objects.{AreObjects, no_objects, object_of, state_of, waiters_of, waiting, has_room, creates, deletes, waits, takes_next, takes_next_where, drops, requeues};
 ghost use Rattle.iop_objects.specs.declared.objects.TheConstants.{MOST_OBJECTS, MOST_WAITERS};
 ghost use Rattle.iop_pools.specs.Pools.{Pool, is_by_priority, free_of, greatest_free, room_of, takes_place, frees, has_out};
 ghost use Rattle.iop_pools.specs.Standing.{layout_of, pool_with, IsPool, ArePools};
@@ -120,6 +120,7 @@ impl<W: Copy, const MOST: usize> Pools<W, MOST> {
     pub(crate) fn waiters(&self, id: u32) -> usize
         ensures count { result ≡ length (waiters_of self.now id) }
         ensures few { result ≤ MOST_WAITERS }
+        ensures sound { AreObjects self.now }
     {
         self.objects.waiters(id)
     }

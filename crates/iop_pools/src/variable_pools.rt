@@ -1,5 +1,5 @@
 ghost use Rattle.std.specs.Prelude.{◌≡◌, ◌+◌, ◌^◌, ◌<◌, ◌≤◌, [], Some, None, IfOk, All, is_some, length, option_map, slice_get, true};
-ghost use Rattle.iop_objects.specs.Objects.{no_objects, object_of, state_of, waiters_of, waiting, has_room, takes_next, drops, requeues};
+ghost use Rattle.iop_objects.specs.Objects.{AreObjects, no_objects, object_of, state_of, waiters_of, waiting, has_room, takes_next, drops, requeues};
 ghost use Rattle.iop_objects.specs.declared.objects.TheConstants.{MOST_OBJECTS, MOST_WAITERS};
 ghost use Rattle.iop_pools.specs.Laws.{Apart};
 ghost use Rattle.iop_pools.specs.Pools.{Pool, is_by_priority};
@@ -35,7 +35,11 @@ impl Model for VariablePools {
 
     ghost Value = { Objects Pool ℕ };
 
+    ghost use Rattle.iop_pools.specs.Standing.{AreVariable};
+
     ghost view = { λ s. s.pools };
+
+    ghost invariant = { λ s. AreVariable s.pools };
 }
 
 /// The greatest size for which there is room, as a condition on the threads that wait.
@@ -126,6 +130,7 @@ impl VariablePools {
     pub fn waiters(&self, id: u32) -> usize
         ensures count { result ≡ length (waiters_of self.now id) }
         ensures few { result ≤ MOST_WAITERS }
+        ensures sound { AreObjects self.now }
     {
         self.pools.waiters(id)
     }
@@ -200,8 +205,8 @@ impl VariablePools {
         }
     }
 
-    /// Lets a thread wait for memory of a live pool, behind all others. The size is one that the
-    /// pool can have, and does not fit now.
+    /// Lets a thread wait for memory of a live pool, behind all others: for a size that is rounded
+    /// up. The size is one that the pool can have, and does not fit now.
     pub fn wait(&mut self, id: u32, thread: u32, priority: u8, size: u32)
         requires live { is_some (object_of self.old.live id) ≡ true }
         requires room { waiting self.old < MOST_WAITERS }
@@ -214,7 +219,7 @@ impl VariablePools {
             id,
             Waiter {
                 thread,
-                wants: size,
+                wants: pool_length(size),
             },
             priority,
         );

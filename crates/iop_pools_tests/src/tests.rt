@@ -94,14 +94,14 @@ fn wrong_fixed(pools: &mut FixedPools, rows: &[(Call, i64)]) -> Option<usize> {
 }
 
 /// Makes a variable pool of 64 bytes, all of which are out in two ranges of 32. The thread 13 waits
-/// for 48, 14 for 16 and 15 for 16, of the priorities 10, 30 and 20.
+/// for 47, 14 for 1 and 15 for 16, of the priorities 10, 30 and 20.
 fn three_wait(alloc: Global, attr: u32) -> Result<VariablePools, AllocError> {
     let mut pools = VariablePools::new(alloc)?;
     let _ = pools.create(attr, 0, 64, BASE);
     let _ = pools.take(1, 20);
     let _ = pools.take(1, 20);
-    pools.wait(1, 13, 10, 48);
-    pools.wait(1, 14, 30, 16);
+    pools.wait(1, 13, 10, 47);
+    pools.wait(1, 14, 30, 1);
     pools.wait(1, 15, 20, 16);
     Ok(pools)
 }
@@ -175,6 +175,22 @@ fn ranges(rt: HostRuntime) -> Result<(), Fail> {
     ];
     assert_eq!(rt; wrong_variable(&mut pools, &rows), None);
     assert_eq!(rt; pools.get(1), None);
+    Ok(())
+}
+
+#[test]
+fn sizes_that_wait(rt: HostRuntime) -> Result<(), Fail> {
+    let pools = three_wait(rt.alloc(), 0)?;
+    assert!(rt; pools.walk(1).is_some());
+    if let Some(mut walk) = pools.walk(1) {
+        for waiter in [Some((13, 48)), Some((14, 16)), Some((15, 16)), None] {
+            let next = walk.next();
+            assert_eq!(rt;
+                next.map(|queued| (queued.item.thread, queued.item.wants)),
+                waiter
+            );
+        }
+    }
     Ok(())
 }
 

@@ -1,3 +1,4 @@
 mod Counting
 mod Making
-mod Restored
+pub mod Restored
+mod StayRestorable

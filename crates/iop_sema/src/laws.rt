@@ -2,7 +2,7 @@
 //! nothing.
 
 ghost use Rattle.iop_sema.specs.Laws.{SemaphoresCount};
-ghost use Rattle.iop_sema.specs.Restoring.{SemaphoresAreRestored};
+ghost use Rattle.iop_sema.specs.Restoring.{SemaphoresAreRestored, SemaphoresStayRestorable};
 
 /// A signal wakes one thread where one waits, or raises the count by one where none waits and it
 /// is below its most, and never both; it is refused exactly where none waits and the count is at
@@ -17,4 +17,10 @@ pub fn semaphores_count()
 /// into a table of none, in their order, and so can its next id. That gives the table again.
 pub fn semaphores_are_restored()
     ensures { SemaphoresAreRestored }
+{}
+
+/// A table of none can be put back, and each call leaves one that can, of one that can, where there
+/// is room for each thread that begins to wait.
+pub fn semaphores_stay_restorable()
+    ensures { SemaphoresStayRestorable }
 {}

@@ -1,5 +1,5 @@
 ghost use Rattle.std.specs.Prelude.{◌≡◌, ◌<◌, ◌≤◌, [], IfOk, is_some, option_map, true, length, slice_get};
-ghost use Rattle.iop_objects.specs.Objects.{no_objects, object_of, state_of, waiters_of, waiting, takes_next, drops, requeues};
+ghost use Rattle.iop_objects.specs.Objects.{AreObjects, no_objects, object_of, state_of, waiters_of, waiting, takes_next, drops, requeues};
 ghost use Rattle.iop_objects.specs.declared.objects.TheConstants.{MOST_OBJECTS, MOST_WAITERS};
 ghost use Rattle.iop_sema.specs.Semaphores.{creates, deletes, signals, takes, waits, is_by_priority};
 
@@ -47,6 +47,7 @@ impl Semaphores {
     pub fn waiters(&self, id: u32) -> usize
         ensures count { result ≡ length (waiters_of self.now id) }
         ensures few { result ≤ MOST_WAITERS }
+        ensures sound { AreObjects self.now }
     {
         self.objects.waiters(id)
     }

@@ -204,7 +204,7 @@ module _ (s : ThreadTable) (placed : IsPlaced s) where
       → IsMade (dormant_thread s.next param stack gp) (creates s param stack gp)
   one_creates param stack gp =
       let t = dormant_thread s.next param stack gp in
-      let none = none_of_next s.live s.next placed.given in
+      let none = none_of_next s.live s.next placed.ids.given in
       cond_both (has_room s) _ _ (IsMade t) (λ room. (made t none refl, refl))
       (λ full. (
         record {

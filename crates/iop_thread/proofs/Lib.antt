@@ -12,6 +12,8 @@ pub mod FindingThreads
 pub mod FirstRegisters
 pub mod Handling
 pub mod Holding
+pub mod IdOrder
+pub mod InOrder
 pub mod KeptSteadily
 pub mod LeastIds
 pub mod ListedThreads
@@ -30,6 +32,7 @@ pub mod RestoredTables
 pub mod RestoringThreads
 pub mod Settling
 pub mod Sleepers
+pub mod SortedLists
 pub mod Starting
 pub mod Strict
 pub mod WaitingOn

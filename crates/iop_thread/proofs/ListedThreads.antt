@@ -12,7 +12,7 @@ use Rattle.iop_thread.specs.declared.found.Found.{Found}
 use Rattle.iop_thread.specs.declared.thread.Thread.{Thread}
 use Rattle.iop_thread.specs.declared.threads.Threads.{Threads}
 use Rattle.iop_thread.specs.Placing.{times}
-use Rattle.iop_thread.specs.Restoring.{may_be_listed, is_listed, is_listed_in, are_listed}
+use Rattle.iop_thread.specs.Restoring.{is_unlisted, is_listed, is_listed_in, are_listed}
 use Rattle.iop_thread.specs.Standing.{Holds, entry_in}
 use Rattle.iop_thread.specs.States.{is_ready}
 use Rattle.iop_thread.specs.ThreadPlaces.{place_of, thread_at}
@@ -49,11 +49,11 @@ in_place_some slot (Some t) found is = (cc, cc)
 
 module _ (s : ThreadTable) (id : ℕ) where
   -- an id may not be put into the ready list where no thread has it, or one that is not ready
-  pub none_may : thread_of s.live id ≡ None → may_be_listed s id ≡ false
+  pub none_may : thread_of s.live id ≡ None → is_unlisted s id ≡ false
   none_may none = rw none refl
 
   pub idle_may_not : (u : Thread) → thread_of s.live id ≡ Some u → is_ready u.state ≡ false
-      → may_be_listed s id ≡ false
+      → is_unlisted s id ≡ false
   idle_may_not u found idle = rw (found, idle) refl
 
 module _ {R : Type 0} (stands_for : R → List Entry → Type 0) (place : ℕ → ℕ) (t : Threads R)
@@ -98,12 +98,12 @@ module _ {R : Type 0} (stands_for : R → List Entry → Type 0) (place : ℕ �
       own_id : u.id ≡ id
       own_id = thread_of_id s.live id u found
 
-      pub listed_may_not : has_entry ≡ true → may_be_listed s id ≡ false
+      pub listed_may_not : has_entry ≡ true → is_unlisted s id ≡ false
       listed_may_not has =
           let some : nat_lt 0 (times u.id s.ready) ≡ true = sym listed_there ∙ has in
           rw (found, ready) (grind (arith, nat_tests, some, own_id))
 
-      pub unlisted_may : has_entry ≡ false → may_be_listed s id ≡ true
+      pub unlisted_may : has_entry ≡ false → is_unlisted s id ≡ true
       unlisted_may none =
           let some : nat_lt 0 (times u.id s.ready) ≡ false = sym listed_there ∙ none in
           rw (found, ready) (grind (arith, nat_tests, some, own_id))
@@ -115,7 +115,7 @@ module _ {R : Type 0} (stands_for : R → List Entry → Type 0) (place : ℕ �
     place_is =
         ap place (sym (thread_of_id s.live id u found)) ∙ (h.own slot u at).slot
 
-    pub no_entry : may_be_listed s id ≡ true → HasNot slot (map (entry_in place s.live) s.ready)
+    pub no_entry : is_unlisted s id ≡ true → HasNot slot (map (entry_in place s.live) s.ready)
     no_entry may =
         let none : times id s.ready ≡ 0 = grind (arith, nat_tests, may) in
         subst (λ n. HasNot n (map (entry_in place s.live) s.ready)) place_is

@@ -1,11 +1,9 @@
 -- The live threads, and the thread that an id finds, when one changes, goes or comes.
-use Rattle.std.proofs.Common.{◌≡◌, ◌≢◌, ℕ, zero, suc, ◌+◌, ◌<◌, ◌==◌, Bool, true, false, cond, not, if◌then◌else◌, Option, Some, None, option_map, List, [], ◌∷◌, ◌++◌, length, get_or, map, filter, All, AllPairs, Contains, refl, ap, sym, ◌∙◌, arith, length-append}
+use Rattle.std.proofs.Common.{◌≡◌, ◌≢◌, ℕ, zero, suc, ◌+◌, ◌<◌, ◌==◌, Bool, true, false, cond, not, if◌then◌else◌, Option, Some, None, option_map, List, [], ◌∷◌, ◌++◌, length, map, filter, All, AllPairs, Contains, refl, ap, sym, arith, length-append}
 use Rattle.std.proofs.lemmas.Bool.Decides.{nat_tests}
 use Rattle.std.proofs.lemmas.Bool.{ne_eqb}
-use Rattle.std.proofs.lemmas.List.{get_or-map, length-map}
-use Rattle.std.proofs.lemmas.List.Elements.{All-contains, All-filter, All-map, All-push, All-weaker}
-use Rattle.std.proofs.lemmas.List.Kept.{AllPairs-filter}
-use Rattle.std.proofs.lemmas.List.Quantifiers.{all_pairs_push}
+use Rattle.std.proofs.lemmas.List.{length-map}
+use Rattle.std.proofs.lemmas.List.Elements.{All-contains, All-weaker}
 use Rattle.iop_base.proofs.Lists.{find-none}
 use Rattle.iop_thread.specs.declared.thread.Thread.{Thread}
 use Rattle.iop_thread.specs.ThreadTable.{thread_of}
@@ -126,56 +124,6 @@ length-without_thread (u ∷ live) id t own found =
 -- one thread more
 pub length-added : (live : List Thread) (t : Thread) → length (live ++ t ∷ []) ≡ length live + 1
 length-added live t = length-append live (t ∷ [])
-
--- a change keeps the id of each
-changed_id : (t u : Thread) → (if u.id == t.id then t else u).id ≡ u.id
-changed_id t u = grind (arith, nat_tests)
-
--- so no two have one id after it
-pub own_ids_changed : (t : Thread) (live : List Thread) → HaveOwnIds live →
-    HaveOwnIds (changed t live)
-own_ids_changed t live own = λ i j d less below.
-    let change = λ (u : Thread). if u.id == t.id then t else u in
-    let inside : j < length live = omega (arith, below, length-changed t live) in
-    let before : i < length live = omega (arith, less, inside) in
-    rw (get_or-map change live i d d before, get_or-map change live j d d inside)
-    (λ same. own i j d less inside
-    (sym (changed_id t (get_or live i d)) ∙ same ∙ changed_id t (get_or live j d)))
-
--- and no id is still to be given
-pub given_changed : (t : Thread) (live : List Thread) (next : ℕ) →
-    All (λ u. u.id < next) live → All (λ u. u.id < next) (changed t live)
-given_changed t live next given =
-    All-map (λ (u : Thread). u.id < next) (λ u. if u.id == t.id then t else u) live
-    (All-weaker (λ (u : Thread). u.id < next) (λ u. (if u.id == t.id then t else u).id < next)
-    (λ u small. omega (arith, small, changed_id t u)) live given)
-
--- no two of those that are left have one id
-pub own_ids_without : (id : ℕ) (live : List Thread) → HaveOwnIds live →
-    HaveOwnIds (without_thread id live)
-own_ids_without id live own = AllPairs-filter (λ t u. t.id ≢ u.id) (λ u. not (u.id == id)) live own
-
--- no id of those that are left is still to be given
-pub given_without : (id : ℕ) (live : List Thread) (next : ℕ) →
-    All (λ u. u.id < next) live → All (λ u. u.id < next) (without_thread id live)
-given_without id live next given =
-    All-filter (λ u. not (u.id == id)) (λ u. u.id < next) live given
-
--- no two threads have one id when one comes that has the next id
-pub own_ids_added : (live : List Thread) (t : Thread) → All (λ u. u.id < t.id) live →
-    HaveOwnIds live → HaveOwnIds (live ++ t ∷ [])
-own_ids_added live t given own =
-    all_pairs_push (λ t u. t.id ≢ u.id) live t own
-    (λ k d below. let small = given k d below in omega (arith, small))
-
--- then the next one but that is still to be given
-pub given_added : (live : List Thread) (t : Thread) → All (λ u. u.id < t.id) live →
-    All (λ u. u.id < t.id + 1) (live ++ t ∷ [])
-given_added live t given =
-    All-push (λ u. u.id < t.id + 1) live t
-    (All-weaker (λ u. u.id < t.id) (λ u. u.id < t.id + 1) (λ u small. omega (arith, small)) live
-    given)
-    (omega arith)
 
 -- an id that is still to be given finds none
 pub none_of_next : (live : List Thread) (next : ℕ) → All (λ u. u.id < next) live →

@@ -1,5 +1,6 @@
 -- Lists that are mapped, and then filtered, searched, or asked for the best.
-use Rattle.std.proofs.Common.{◌≡◌, ℕ, Bool, true, false, cond, if◌then◌else◌, nat_lt, Option, Some, None, IfSome, option_map, List, [], ◌∷◌, map, filter, find, All, refl, ap, ◌∙◌}
+use Rattle.std.proofs.Common.{◌≡◌, ℕ, Bool, true, false, cond, if◌then◌else◌, nat_lt, Option, Some, None, IfSome, option_map, List, [], ◌∷◌, map, filter, find, All, refl, ap, ◌∙◌, subst, arith}
+use Rattle.std.proofs.lemmas.List.{get_or-map, length-map}
 use Rattle.std.proofs.lemmas.List.Elements.{All-head, All-tail}
 use Rattle.iop_base.specs.Choosing.{better, best}
 
@@ -10,6 +11,12 @@ map_agree f g [] same = refl
 map_agree f g (x ∷ xs) same =
     let rest = map_agree f g xs (All-tail (λ y. f y ≡ g y) x xs same) in
     ap (λ y. y ∷ map f xs) (All-head (λ y. f y ≡ g y) x xs same) ∙ ap (λ l. g x ∷ l) rest
+
+-- what holds of all of a list that is mapped
+pub All-mapped : {X Y : Type 0} (P : Y → Type 0) (f : X → Y) (xs : List X) → All P (map f xs)
+    → All (λ x. P (f x)) xs
+All-mapped P f xs all = λ k d below.
+    subst P (get_or-map f xs k d (f d) below) (all k (f d) (omega (arith, below, length-map xs f)))
 
 -- a list is filtered before it is mapped or after
 pub filter-map_agree : {X Y : Type 0} (f : X → Y) (p : X → Bool) (q : Y → Bool) (xs : List X)

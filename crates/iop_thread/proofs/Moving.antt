@@ -1,5 +1,5 @@
 -- A thread leaves where it is, is in hand, and arrives elsewhere: then all are placed again.
-use Rattle.std.proofs.Common.{◌≡◌, ℕ, ◌<◌, ◌==◌, Bool, true, false, if◌then◌else◌, option_map, unwrap_or, Option, Some, None, List, [], ◌∷◌, ◌++◌, All, refl, ap, ◌∙◌, arith}
+use Rattle.std.proofs.Common.{◌≡◌, ℕ, ◌<◌, ◌==◌, Bool, true, false, if◌then◌else◌, option_map, unwrap_or, Option, Some, None, List, [], ◌∷◌, ◌++◌, refl, ap, ◌∙◌, arith}
 use Rattle.std.proofs.lemmas.Bool.Decides.{nat_tests}
 use Rattle.iop_base.specs.Numbers.{one_if}
 use Rattle.iop_exec.specs.declared.cpu.Cpu.{Cpu}
@@ -8,8 +8,9 @@ use Rattle.iop_thread.specs.declared.state.State.TheVariants.{Dormant, Running, 
 use Rattle.iop_thread.specs.declared.thread.Thread.{Thread}
 use Rattle.iop_thread.specs.States.{is_ready, is_running}
 use Rattle.iop_thread.specs.ThreadTable.{ThreadTable, thread_of, is_it, in_state, with_thread, without, ready_last, ready_first, leaves, runs}
-use Rattle.iop_thread.specs.Placing.{IsPlaced, times, is_in_state}
-use Rattle.iop_thread.proofs.LiveThreads.{changed, HaveOwnIds, thread_of_changed, own_ids_changed, given_changed}
+use Rattle.iop_thread.specs.Placing.{AreInIdOrder, IsPlaced, times, is_in_state}
+use Rattle.iop_thread.proofs.IdOrder.{changed_in_order}
+use Rattle.iop_thread.proofs.LiveThreads.{changed, thread_of_changed}
 use Rattle.iop_thread.proofs.ReadyIds.{times_first, times_last, times_without}
 
 -- all threads are placed but the one of this id, which is nowhere: its state says nothing
@@ -18,8 +19,7 @@ pub record IsInHand (id : ℕ) (s : ThreadTable) : Type 0 where
       ≡ (if other == id then 0 else one_if (is_in_state is_ready s.live other))
   pub running : (other : ℕ) → is_it s.running other
       ≡ (if other == id then false else is_in_state is_running s.live other)
-  pub ids : HaveOwnIds s.live
-  pub given : All (λ t. t.id < s.next) s.live
+  pub ids : AreInIdOrder s.live s.next
 
 -- the state after a change, by whether the id is that of the changed thread
 state_by : (p : State → Bool) (t u : Thread) (o : Option Thread) (b : Bool) →
@@ -73,7 +73,6 @@ module _ (s : ThreadTable) (t : Thread) (placed : IsPlaced s)
     running = λ other. let at = placed.running t.id in let e = in_its_state is_running state is in
         grind (arith, nat_tests, placed.running other, at, e, still);
     ids = placed.ids;
-    given = placed.given;
   }
 
   -- a ready thread is in hand out of the ready list
@@ -87,7 +86,6 @@ module _ (s : ThreadTable) (t : Thread) (placed : IsPlaced s)
         let e = in_its_state is_running (Ready registers) is in
         grind (arith, nat_tests, placed.running other, at, e);
     ids = placed.ids;
-    given = placed.given;
   }
 
   -- the running thread is in hand when none runs
@@ -101,7 +99,6 @@ module _ (s : ThreadTable) (t : Thread) (placed : IsPlaced s)
         let only = only_it s.running t.id other here in
         grind (arith, nat_tests, placed.running other, only);
     ids = placed.ids;
-    given = placed.given;
   }
 
   -- a thread that leaves where its state has it is in hand
@@ -132,8 +129,7 @@ module _ (s : ThreadTable) (old new : Thread) (hand : IsInHand new.id s)
         let is = is_in_state_changed is_running s.live old new found id in
         let at = runs id in
         grind (arith, nat_tests, hand.running id, at, is);
-    ids = own_ids_changed new s.live hand.ids;
-    given = given_changed new s.live s.next hand.given;
+    ids = changed_in_order s.live s.next hand.ids new;
   }
 
 module _ (s : ThreadTable) (old t : Thread) (hand : IsInHand t.id s)
@@ -212,8 +208,7 @@ module _ (s : ThreadTable) (placed : IsPlaced s) where
         let at = is_in_state_changed is_running s.live t u found id in
         let now = running_now id in
         grind (arith, nat_tests, placed.running id, at, now);
-    ids = own_ids_changed u s.live placed.ids;
-    given = given_changed u s.live s.next placed.given;
+    ids = changed_in_order s.live s.next placed.ids u;
   }
     where
       ready_now : (id : ℕ) → is_in_state is_ready s.live u.id ≡ is_ready u.state
@@ -233,7 +228,6 @@ module _ (s : ThreadTable) (placed : IsPlaced s) where
         grind (arith, nat_tests, placed.ready other, once, left, last);
     running = placed.running;
     ids = placed.ids;
-    given = placed.given;
   }
     where
       at_most_once : (b : Bool) → times id s.ready ≡ one_if b → times id s.ready ≡ 1

@@ -1,10 +1,12 @@
 -- Threads are placed at first, and stay so whatever is done.
-use Rattle.std.proofs.Common.{◌≡◌, arith}
+use Rattle.std.proofs.Common.{[], arith}
 use Rattle.std.proofs.lemmas.Bool.Decides.{nat_tests}
 use Rattle.iop_thread.specs.ThreadTable.{ThreadTable}
-use Rattle.iop_thread.specs.Operations.{opening}
+use Rattle.iop_thread.specs.declared.thread.TheConstants.{LOADER, LOADER_STACK}
+use Rattle.iop_thread.specs.Operations.{dormant_thread, loader_param, opening}
 use Rattle.iop_thread.specs.Placing.{IsPlaced}
 use Rattle.iop_thread.specs.Laws.{KeepsPlaces, OperationsKeepPlaces}
+use Rattle.iop_thread.proofs.IdOrder.{added_in_order, none_in_order}
 use Rattle.iop_thread.proofs.Starting.{placed_creates, placed_deletes, placed_starts, placed_begins, placed_ends_running, placed_terminates}
 use Rattle.iop_thread.proofs.Waking.{placed_blocks, placed_wakes, placed_suspends, placed_resumes, placed_wakes_up, placed_cancels, placed_takes_wakeup}
 use Rattle.iop_thread.proofs.Dispatching.{placed_changes, placed_rotates, placed_dispatches}
@@ -14,8 +16,8 @@ pub placed_opening : IsPlaced opening
 placed_opening = record {
   ready = λ id. grind (arith, nat_tests);
   running = λ id. grind (arith, nat_tests);
-  ids = λ i j d less below. absurd (omega (arith, less, below));
-  given = λ k d below. let first : k ≡ 0 = omega (arith, below) in rw first (omega arith);
+  ids = added_in_order [] LOADER none_in_order (dormant_thread LOADER loader_param LOADER_STACK 0)
+      (omega arith) (omega arith) (omega arith);
 }
 
 -- each operation leaves threads that are placed

@@ -1,8 +1,8 @@
 -- What the program's table holds when threads are put back into it, and how they are placed so far.
-use Rattle.std.proofs.Common.{◌≡◌, ℕ, ◌+◌, ◌<◌, ◌≤◌, ◌==◌, Bool, true, false, if◌then◌else◌, Option, Some, None, is_some, option_map, unwrap_or, List, [], ◌∷◌, ◌++◌, length, set, All, refl, ap, sym, ◌∙◌, subst, arith}
+use Rattle.std.proofs.Common.{◌≡◌, ℕ, ◌+◌, ◌<◌, ◌≤◌, ◌==◌, Bool, true, false, if◌then◌else◌, Option, Some, None, is_some, option_map, unwrap_or, List, [], ◌∷◌, ◌++◌, length, set, refl, ap, sym, ◌∙◌, subst, arith}
 use Rattle.std.proofs.lemmas.Bool.{eq-eqb}
 use Rattle.std.proofs.lemmas.Bool.Decides.{nat_tests}
-use Rattle.std.proofs.lemmas.List.Elements.{All-contains, All-nil, All-weaker}
+use Rattle.std.proofs.lemmas.List.Elements.{All-contains, All-nil}
 use Rattle.std.proofs.lemmas.List.Sums.{AllPass-from_list_all}
 use Rattle.iop_base.specs.Numbers.{one_if}
 use Rattle.iop_ready.specs.declared.entry.Entry.{Entry}
@@ -11,14 +11,15 @@ use Rattle.iop_thread.specs.declared.thread.Thread.{Thread}
 use Rattle.iop_thread.specs.declared.thread.TheConstants.{LOADER}
 use Rattle.iop_thread.specs.declared.threads.Threads.{Threads}
 use Rattle.iop_thread.specs.Placing.{IsPlaced, times, is_in_state}
-use Rattle.iop_thread.specs.Restoring.{no_threads, may_stand_beside, with_last, may_be_listed, with_last_ready, is_listed, are_listed, with_next, ArePlacedSoFar}
+use Rattle.iop_thread.specs.Restoring.{no_threads, may_stand_beside, may_follow, with_last, is_unlisted, with_last_ready, is_listed, are_listed, may_be_next, with_next, ArePlacedSoFar}
 use Rattle.iop_thread.specs.Standing.{Holds}
 use Rattle.iop_thread.specs.States.{is_ready, is_running}
 use Rattle.iop_thread.specs.ThreadPlaces.{thread_at, HasAlone}
 use Rattle.iop_thread.specs.ThreadTable.{ThreadTable, thread_of, is_it}
 use Rattle.iop_thread.proofs.Coming.{comes, place_with}
 use Rattle.iop_thread.proofs.Holding.{one_running}
-use Rattle.iop_thread.proofs.LiveThreads.{none_of_next, own_ids_added, given_added, thread_of_added, thread_of_id, thread_of_is_live}
+use Rattle.iop_thread.proofs.IdOrder.{added_in_order, all_before, later_in_order, none_in_order}
+use Rattle.iop_thread.proofs.LiveThreads.{none_of_next, thread_of_added, thread_of_id, thread_of_is_live}
 use Rattle.iop_thread.proofs.ReadyIds.{times_last}
 
 -- a table of no thread
@@ -42,8 +43,7 @@ pub placed_none : ArePlacedSoFar no_threads
 placed_none = record {
   ready = λ id. grind (arith, nat_tests);
   running = λ id. grind (arith, nat_tests);
-  ids = λ i j d less below. absurd (omega (arith, less, below));
-  given = All-nil (λ t. t.id < no_threads.next);
+  ids = none_in_order;
 }
 
 module _ {R : Type 0} (stands_for : R → List Entry → Type 0) (place : ℕ → ℕ) (t : Threads R)
@@ -62,13 +62,13 @@ module _ {R : Type 0} (stands_for : R → List Entry → Type 0) (place : ℕ �
   }
 
 -- the threads of a table stay placed with another next id
-pub next_placed : (s : ThreadTable) (n : ℕ) → IsPlaced s → s.next ≤ n → IsPlaced (with_next s n)
-next_placed s n placed le = record {
+pub next_placed : (s : ThreadTable) (n : ℕ) → IsPlaced s → may_be_next s n ≡ true
+    → IsPlaced (with_next s n)
+next_placed s n placed may = record {
   ready = placed.ready;
   running = placed.running;
-  ids = placed.ids;
-  given = All-weaker (λ t. t.id < s.next) (λ t. t.id < n) (λ t less. omega (arith, less, le)) s.live
-      placed.given;
+  ids = later_in_order s.live s.next placed.ids n (grind (arith, nat_tests, may))
+      (grind (arith, nat_tests, may));
 }
 
 module _ {R : Type 0} (stands_for : R → List Entry → Type 0) (place : ℕ → ℕ) (t : Threads R)
@@ -135,13 +135,8 @@ module _ (s : ThreadTable) (placed : ArePlacedSoFar s) where
 
   -- a thread comes back behind all others
   module _ (u : Thread) (ahead : s.next ≤ u.id) where
-    older : All (λ t. t.id < u.id) s.live
-    older =
-        All-weaker (λ t. t.id < s.next) (λ t. t.id < u.id) (λ t less. omega (arith, less, ahead))
-        s.live placed.given
-
     pub none_yet : thread_of s.live u.id ≡ None
-    none_yet = none_of_next s.live u.id older
+    none_yet = none_of_next s.live u.id (all_before s.live s.next placed.ids u ahead)
 
     nowhere : (p : State → Bool) → is_in_state p s.live u.id ≡ false
     nowhere p = rw none_yet refl
@@ -171,32 +166,31 @@ module _ (s : ThreadTable) (placed : ArePlacedSoFar s) where
         ap (λ p. is_it p u.id) (sym is) ∙ placed.running u.id ∙ nowhere is_running in
         grind (arith, nat_tests, other)
 
-    pub placed_last : may_stand_beside s u ≡ true → ArePlacedSoFar (with_last s u)
-    placed_last beside = record {
+    pub placed_last : may_follow s u ≡ true → ArePlacedSoFar (with_last s u)
+    placed_last may = record {
       ready = λ id.
           let now = state_then is_ready id in
           let own = nowhere is_ready in
           let few = placed.ready id in
           grind (arith, nat_tests, now, own, few);
       running = λ id.
-          runs_then beside id (is_running u.state) refl s.running refl
+          runs_then (grind (arith, nat_tests, may)) id (is_running u.state) refl s.running refl
           ∙ ap (λ b. if id == u.id then is_running u.state else b) (placed.running id)
           ∙ sym (state_then is_running id);
-      ids = own_ids_added s.live u older placed.ids;
-      given = given_added s.live u older;
+      ids = added_in_order s.live s.next placed.ids u ahead (grind (arith, nat_tests, may))
+          (grind (arith, nat_tests, may));
     }
 
   -- an id comes back into the ready list
-  pub placed_last_ready : (id : ℕ) → may_be_listed s id ≡ true
+  pub placed_last_ready : (id : ℕ) → is_unlisted s id ≡ true
       → ArePlacedSoFar (with_last_ready s id)
-  placed_last_ready id may = record {
+  placed_last_ready id unlisted = record {
     ready = λ other.
         let more = times_last other id s.ready in
         let few = placed.ready other in
-        grind (arith, nat_tests, more, few, may);
+        grind (arith, nat_tests, more, few, unlisted);
     running = placed.running;
     ids = placed.ids;
-    given = placed.given;
   }
 
   -- where each thread that is ready is in the ready list all are placed
@@ -205,7 +199,6 @@ module _ (s : ThreadTable) (placed : ArePlacedSoFar s) where
     ready = λ id. by id (thread_of s.live id) refl;
     running = placed.running;
     ids = placed.ids;
-    given = placed.given;
   }
     where
       by : (id : ℕ) (o : Option Thread) → thread_of s.live id ≡ o

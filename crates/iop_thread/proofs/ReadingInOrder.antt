@@ -4,7 +4,8 @@ use Rattle.std.proofs.lemmas.Bool.Decides.{nat_tests}
 use Rattle.std.proofs.lemmas.List.Elements.{All-nil, All-head, All-tail, All-push, All-weaker}
 use Rattle.iop_base.proofs.Searching.{AllPairs-head, AllPairs-tail}
 use Rattle.iop_thread.specs.declared.thread.Thread.{Thread}
-use Rattle.iop_thread.specs.Reading.{least_above, next_above, AreRising, and_on, all_above, ThreadsAreReadInOrder}
+use Rattle.iop_thread.specs.Placing.{AreRising}
+use Rattle.iop_thread.specs.Reading.{least_above, next_above, and_on, all_above, ThreadsAreReadInOrder}
 use Rattle.iop_thread.specs.ThreadTable.{thread_of}
 use Rattle.iop_thread.proofs.LeastIds.{has-ids, has-above, reduce-least, reduce-there}
 

@@ -1,7 +1,7 @@
 -- What is read of the program's table, in order: the least id above another, and the ready threads
 -- of a priority.
-use Rattle.std.proofs.Common.{◌≡◌, ℕ, ◌==◌, min, true, Option, Some, None, is_some, option_map, option_and_then, List, map, filter, filter_map, slice_get, refl, ap, ◌∙◌}
-use Rattle.std.specs.List.{reduce}
+use Rattle.std.proofs.Common.{◌≡◌, ℕ, ◌==◌, min, Bool, true, false, cond, ◌||◌, Option, Some, None, is_some, option_map, option_and_then, List, [], ◌∷◌, map, filter, filter_map, slice_get, refl, ap, ◌∙◌}
+use Rattle.std.specs.List.{list_any, reduce}
 use Rattle.std.proofs.lemmas.Option.{get_or_from_slice_get, slice_get-map, slice_get_within}
 use Rattle.std.proofs.lemmas.List.Elements.{All-filter}
 use Rattle.iop_ready.specs.declared.entry.Entry.{Entry}
@@ -26,6 +26,22 @@ pub id_found : (slot : ℕ) (o : Option Thread)
     ≡ option_map (λ (u : Thread). u.id) o
 id_found slot None = refl
 id_found slot (Some u) = refl
+
+-- where a test finds some in a list there is a first one
+first_found : (p : ℕ → Bool) (ids : List ℕ)
+    → is_some (slice_get (filter p ids) 0) ≡ list_any p ids
+first_found p [] = refl
+first_found p (id ∷ ids) = by (p id) (first_found p ids)
+  where
+    by : (b : Bool) → is_some (slice_get (filter p ids) 0) ≡ list_any p ids
+        → is_some (slice_get (cond b (id ∷ filter p ids) (filter p ids)) 0)
+        ≡ (b || list_any p ids)
+    by true rest = refl
+    by false rest = rest
+
+some_mapped : (f : ℕ → ℕ) (o : Option ℕ) → is_some (option_map f o) ≡ is_some o
+some_mapped f None = refl
+some_mapped f (Some n) = refl
 
 module _ {R : Type 0} (stands_for : R → List Entry → Type 0) (place : ℕ → ℕ) (t : Threads R)
     (s : ThreadTable) (h : Holds stands_for place t s) where
@@ -59,6 +75,15 @@ module _ {R : Type 0} (stands_for : R → List Entry → Type 0) (place : ℕ �
           ≡ option_map place o
       either None = refl
       either (Some id) = refl
+
+  -- whether a thread of a priority is ready
+  pub some_ready : (priority : ℕ)
+      → is_some (slot_at priority 0 (map (entry_in place s.live) s.ready))
+      ≡ list_any (λ id. priority_of s.live id == priority) s.ready
+  some_ready priority =
+      ap is_some (slot_is priority 0)
+      ∙ some_mapped place (ready_at s priority 0)
+      ∙ first_found (λ id. priority_of s.live id == priority) s.ready
 
   -- a thread that is ready stands in its place
   stands_there : (id : ℕ) → is_some (thread_of s.live id) ≡ true

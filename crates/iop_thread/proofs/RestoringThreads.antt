@@ -12,12 +12,15 @@ use Rattle.iop_base.specs.declared.limits.TheConstants.{LAST_ID}
 use Rattle.iop_ready.specs.declared.slot.TheConstants.{MOST_THREADS}
 use Rattle.iop_thread.specs.declared.thread.Thread.{Thread}
 use Rattle.iop_thread.specs.declared.thread.TheConstants.{LOADER}
-use Rattle.iop_thread.specs.Placing.{times, is_in_state}
-use Rattle.iop_thread.specs.Reading.{AreRising}
-use Rattle.iop_thread.specs.Restoring.{may_stand_beside, may_follow, may_be_listed, is_listed, are_listed, is_complete, may_be_next, with_threads_back, with_ready_back, with_running_back, with_next_back, restored, IsInIdOrder}
+use Rattle.iop_thread.specs.Ordering.{in_order}
+use Rattle.iop_thread.specs.Placing.{AreRising, IsPlaced, times, is_in_state}
+use Rattle.iop_thread.specs.Restoring.{may_stand_beside, may_follow, is_unlisted, is_none_worse, is_listed, are_listed, is_complete, may_be_next, with_threads_back, with_ready_back, with_running_back, with_next_back, restored}
 use Rattle.iop_thread.specs.States.{is_ready, is_running}
-use Rattle.iop_thread.specs.ThreadTable.{ThreadTable, thread_of, is_it}
+use Rattle.iop_thread.specs.ThreadTable.{ThreadTable, thread_of, priority_of, is_it}
+use Rattle.iop_thread.proofs.IdOrder.{own_ids}
+use Rattle.iop_thread.proofs.InOrder.{placed_in_order}
 use Rattle.iop_thread.proofs.LiveThreads.{HaveOwnIds, contains_thread_of, thread_of_id, thread_of_is_live}
+use Rattle.iop_thread.proofs.SortedLists.{IsSorted, at_most_all, before_at_most, sorted}
 
 -- some threads, of which one runs, or none, and none is in the ready list yet
 abbrev table_of : List Thread → (running : Option ℕ) → (next : ℕ) → ThreadTable
@@ -194,37 +197,40 @@ module _ (live : List Thread) (running : Option ℕ) (next : ℕ) where
 
   ready_back : (done ids : List ℕ)
       → ((id : ℕ) → times id (done ++ ids) ≡ one_if (is_in_state is_ready live id))
+      → IsSorted (priority_of live) (done ++ ids)
       → with_ready_back (with_list done) ids ≡ Some (with_list (done ++ ids))
-  ready_back done [] once = ap (λ l. Some (with_list l)) (sym (append-nil done))
-  ready_back done (id ∷ ids) once =
-      let here = once id in
-      let both = times-append id done (id ∷ ids) in
-      let may : may_be_listed (with_list done) id ≡ true =
-      first (is_in_state is_ready live id) refl (here) (both) in
+  ready_back done [] once sorted = ap (λ l. Some (with_list l)) (sym (append-nil done))
+  ready_back done (id ∷ ids) once sorted =
+      let unlisted : is_unlisted (with_list done) id ≡ true =
+      first (is_in_state is_ready live id) refl (once id) (times-append id done (id ∷ ids)) in
+      let none_worse : is_none_worse (with_list done) (priority_of live id) ≡ true =
+      at_most_all (priority_of live) done (priority_of live id)
+      (before_at_most (priority_of live) done id ids sorted) in
       let grouped : (done ++ id ∷ []) ++ ids ≡ done ++ id ∷ ids = append_assoc done (id ∷ []) ids in
-      rw may
-      (ready_back (done ++ id ∷ []) ids (rw grouped once) ∙ ap (λ l. Some (with_list l)) grouped)
+      rw (unlisted, none_worse)
+      (ready_back (done ++ id ∷ []) ids (rw grouped once) (rw grouped sorted)
+      ∙ ap (λ l. Some (with_list l)) grouped)
     where
       first : (b : Bool) → is_in_state is_ready live id ≡ b
           → times id (done ++ id ∷ ids) ≡ one_if (is_in_state is_ready live id)
           → times id (done ++ id ∷ ids) ≡ times id done + times id (id ∷ ids)
-          → may_be_listed (with_list done) id ≡ true
+          → is_unlisted (with_list done) id ≡ true
       first b is here both = grind (arith, nat_tests, is, here, both)
 
 same_running : (running : Option ℕ) → option_eq nat_eq running running ≡ true
 same_running None = refl
 same_running (Some id) = eq-eqb id id refl
 
-module _ (s : ThreadTable) (h : IsInIdOrder s) where
+module _ (s : ThreadTable) (h : IsPlaced s) (sorted : IsSorted (priority_of s.live) s.ready) where
   -- each thread is in the state that its id says
   own_state : (t : Thread) → Contains s.live t → thread_of s.live t.id ≡ Some t
-  own_state t there = contains_thread_of s.live t h.placed.ids there
+  own_state t there = contains_thread_of s.live t (own_ids s.live s.next h.ids) there
 
   each_is_one : All (IsOne s.running) s.live
   each_is_one =
       All-weaker (Contains s.live) (IsOne s.running)
       (λ t there. let found = own_state t there in
-      let placed = h.placed.running t.id in
+      let placed = h.running t.id in
       grind (arith, nat_tests, found, placed))
       s.live (All-contains_itself s.live)
 
@@ -233,7 +239,7 @@ module _ (s : ThreadTable) (h : IsInIdOrder s) where
       list_all-from_AllPass (is_listed s) s.live
       (All-weaker (Contains s.live) (λ t. is_listed s t ≡ true)
       (λ t there. let found = own_state t there in
-      let placed = h.placed.ready t.id in
+      let placed = h.ready t.id in
       grind (arith, nat_tests, found, placed))
       s.live (All-contains_itself s.live))
 
@@ -246,30 +252,30 @@ module _ (s : ThreadTable) (h : IsInIdOrder s) where
           → running_behind None s.live ≡ s.running
       by None none =
           let here = ap (λ o. is_it o id) is in
-          absurd (grind (arith, nat_tests, h.placed.running id, here, none))
+          absurd (grind (arith, nat_tests, h.running id, here, none))
       by (Some t) found =
           rw is
           (running_comes id s.live (subst (λ r. All (IsOne r) s.live) is each_is_one)
           (t, thread_of_is_live s.live id t found, thread_of_id s.live id t found))
 
-  pub restored_again : restored s ≡ Some s
+  restored_again : restored s ≡ Some s
   restored_again =
       let next = behind LOADER s.live in
-      let last : s.next ≤ LAST_ID + 1 = h.next_last in
+      let last : s.next ≤ LAST_ID + 1 = h.ids.next_last in
       let live : with_threads_back (table_of [] None LOADER) s.live
       ≡ Some (table_of s.live s.running next) =
       threads_back [] s.live None LOADER
-      (rises LOADER s.next s.live last h.first h.placed.given h.rising)
-      (alone s.running None s.live each_is_one h.placed.ids (inl refl))
-      (omega (arith, h.few))
+      (rises LOADER s.next s.live last h.ids.first h.ids.given h.ids.rising)
+      (alone s.running None s.live each_is_one (own_ids s.live s.next h.ids) (inl refl))
+      (omega (arith, h.ids.few))
       ∙ ap (λ r. Some (table_of s.live r next)) (running_again s.running refl) in
       let ready : with_ready_back (table_of s.live s.running next) s.ready
       ≡ Some (record s { next = next }) =
-      ready_back s.live s.running next [] s.ready h.placed.ready in
+      ready_back s.live s.running next [] s.ready h.ready sorted in
       let complete : is_complete (record s { next = next }) s.running ≡ true =
       rw (each_is_listed, same_running s.running) refl in
       let first : next ≤ s.next =
-      behind_below LOADER s.next s.live h.next_first h.placed.given in
+      behind_below LOADER s.next s.live h.ids.next_first h.ids.given in
       let from : nat_le next s.next ≡ true = grind (arith, nat_tests, first) in
       let to : nat_le s.next (LAST_ID + 1) ≡ true = grind (arith, nat_tests, last) in
       let may : may_be_next (record s { next = next }) s.next ≡ true = rw (from, to) refl in
@@ -279,3 +285,7 @@ module _ (s : ThreadTable) (h : IsInIdOrder s) where
       ap (λ o. then_next (then_running (then_ready o))) live
       ∙ ap (λ o. then_next (then_running o)) ready
       ∙ rw complete (rw may refl)
+
+pub restored_in_order : (s : ThreadTable) → IsPlaced s → restored (in_order s) ≡ Some (in_order s)
+restored_in_order s placed =
+    restored_again (in_order s) (placed_in_order s placed) (sorted (priority_of s.live) s.ready)

@@ -16,6 +16,7 @@ use Rattle.iop_thread.specs.ThreadTable.{ThreadTable, thread_of, is_it}
 use Rattle.iop_thread.specs.Placing.{IsPlaced}
 use Rattle.iop_thread.specs.Moves.{IsIn, IsThere, HasNotId, CanEnter}
 use Rattle.iop_thread.specs.Standing.{Stands, Holds, Leaves, Lends}
+use Rattle.iop_thread.proofs.IdOrder.{own_ids}
 use Rattle.iop_thread.proofs.LiveThreads.{contains_thread_of}
 use Rattle.iop_thread.proofs.PlaceLists.{thread_at-within, taken-le}
 use Rattle.iop_thread.proofs.Holding.{one_place}
@@ -100,12 +101,12 @@ pub lends : {R : Type 0} (stands_for : R → List Entry → Type 0) (t : Threads
 lends stands_for t s h = record {
   slot = h.place;
   below = λ u live.
-      let found = contains_thread_of s.live u h.placed.ids live in
+      let found = contains_thread_of s.live u (own_ids s.live s.next h.placed.ids) live in
       let there = h.holds.there u.id u found in
       omega (arith, thread_at-within t.places (h.place u.id) u there, h.holds.size);
   distinct = λ u v live too same.
-      let found = contains_thread_of s.live u h.placed.ids live in
-      let other = contains_thread_of s.live v h.placed.ids too in
+      let found = contains_thread_of s.live u (own_ids s.live s.next h.placed.ids) live in
+      let other = contains_thread_of s.live v (own_ids s.live s.next h.placed.ids) too in
       let id = one_place stands_for h.place t s h.holds u.id v.id u v found other same in
       same_Some u v (sym found ∙ ap (thread_of s.live) id ∙ other);
   stands = h.holds.ready;

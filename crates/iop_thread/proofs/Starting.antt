@@ -1,5 +1,5 @@
 -- Threads stay placed when one is made, deleted, started or ended.
-use Rattle.std.proofs.Common.{◌≡◌, ℕ, ◌+◌, ◌==◌, not, Option, Some, None, [], ◌∷◌, ◌++◌, filter, refl, arith}
+use Rattle.std.proofs.Common.{◌≡◌, ℕ, ◌+◌, ◌==◌, true, not, Option, Some, None, [], ◌∷◌, ◌++◌, filter, refl, arith}
 use Rattle.std.proofs.lemmas.Bool.{cond_both}
 use Rattle.std.proofs.lemmas.Bool.Decides.{nat_tests}
 use Rattle.iop_exec.specs.declared.cpu.Cpu.{Cpu}
@@ -11,31 +11,33 @@ use Rattle.iop_thread.specs.States.{is_dormant, first_registers}
 use Rattle.iop_thread.specs.ThreadTable.{ThreadTable, thread_of, ready_last, running_thread, has_room}
 use Rattle.iop_thread.specs.Operations.{dormant_thread, creates, deletes_it, deletes, starts_it, starts, begins_it, begins, ends_it, ends_running, terminates_it, terminates}
 use Rattle.iop_thread.specs.Placing.{IsPlaced}
-use Rattle.iop_thread.proofs.LiveThreads.{thread_of_added, thread_of_without, own_ids_added, own_ids_without, given_added, given_without, none_of_next}
+use Rattle.iop_thread.proofs.IdOrder.{added_in_order, without_in_order}
+use Rattle.iop_thread.proofs.LiveThreads.{thread_of_added, thread_of_without, none_of_next}
 use Rattle.iop_thread.proofs.Moving.{in_hand, arrives_last, goes_aside, goes_last}
 use Rattle.iop_thread.proofs.FindingThreads.{Finds, finds_by_id, dormant_state, running_thread_runs, either_way}
 
 module _ (s : ThreadTable) (placed : IsPlaced s) where
   -- a dormant thread comes
   placed_with_made : (param : Param) (stack gp : ℕ)
+      → has_room s ≡ true
       → IsPlaced (record s
       { live = s.live ++ dormant_thread s.next param stack gp ∷ []; next = s.next + 1 })
-  placed_with_made param stack gp =
+  placed_with_made param stack gp room =
       let t = dormant_thread s.next param stack gp in
-      let none = none_of_next s.live s.next placed.given in
+      let none = none_of_next s.live s.next placed.ids.given in
       record {
         ready = λ id. let added = thread_of_added s.live t id none in
             grind (arith, nat_tests, placed.ready id, added, none);
         running = λ id. let added = thread_of_added s.live t id none in
             grind (arith, nat_tests, placed.running id, added, none);
-        ids = own_ids_added s.live t placed.given placed.ids;
-        given = given_added s.live t placed.given;
+        ids = added_in_order s.live s.next placed.ids t (omega arith)
+            (grind (arith, nat_tests, room)) (grind (arith, nat_tests, room));
       }
 
   -- a thread is made, where there is room
   pub placed_creates : (param : Param) (stack gp : ℕ) → IsPlaced (creates s param stack gp).1
   placed_creates param stack gp =
-      either_way IsPlaced (has_room s) _ _ (λ room. placed_with_made param stack gp) (λ full. placed)
+      either_way IsPlaced (has_room s) _ _ (placed_with_made param stack gp) (λ full. placed)
 
   -- a dormant thread goes
   placed_without : (t : Thread) → thread_of s.live t.id ≡ Some t → t.state ≡ Dormant
@@ -47,8 +49,7 @@ module _ (s : ThreadTable) (placed : IsPlaced s) where
             grind (arith, nat_tests, hand.ready id, left);
         running = λ id. let left = thread_of_without s.live t.id id in
             grind (arith, nat_tests, hand.running id, left);
-        ids = own_ids_without t.id s.live placed.ids;
-        given = given_without t.id s.live s.next placed.given;
+        ids = without_in_order s.live s.next placed.ids t.id;
       }
 
   -- a thread is deleted, if it is dormant

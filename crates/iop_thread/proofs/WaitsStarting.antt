@@ -38,7 +38,7 @@ module _ (s : ThreadTable) (placed : IsPlaced s) where
       → let done = creates s param stack gp in
       Shows done.1 (λ id. is_live s id || is_ok done.0 && id == s.next) (wait_of s) s.running
   moves_made param stack gp true room =
-      let none = none_of_next s.live s.next placed.given in
+      let none = none_of_next s.live s.next placed.ids.given in
       let u = dormant_thread s.next param stack gp in
       record {
         live = λ id. let added = thread_of_added s.live u id none in

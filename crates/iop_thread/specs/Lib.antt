@@ -3,6 +3,7 @@ pub mod FirstRegisters
 pub mod Laws
 pub mod Moves
 pub mod Operations
+pub mod Ordering
 pub mod Placing
 pub mod Reading
 pub mod Restored

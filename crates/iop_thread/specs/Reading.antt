@@ -1,8 +1,9 @@
 -- The orders in which the threads are read: the live ones by rising id, the ready ones by priority,
 -- and by arrival within one. They are this project's own profile.
-use Rattle.std.specs.Prelude.{◌≡◌, ℕ, zero, suc, ◌<◌, ◌==◌, min, nat_lt, option_and_then, Option, Some, None, List, [], ◌∷◌, length, map, find, filter, slice_get, All, AllPairs}
+use Rattle.std.specs.Prelude.{◌≡◌, ℕ, zero, suc, ◌<◌, ◌==◌, min, nat_lt, option_and_then, Option, Some, None, List, [], ◌∷◌, length, map, find, filter, slice_get, All}
 use Rattle.std.specs.List.{reduce}
 use Rattle.iop_thread.specs.declared.thread.Thread.{Thread}
+use Rattle.iop_thread.specs.Placing.{AreRising}
 use Rattle.iop_thread.specs.ThreadTable.{ThreadTable, thread_of, priority_of}
 
 -- the least of the ids above this one
@@ -17,10 +18,6 @@ next_above live id = option_and_then (thread_of live) (least_above live id)
 abbrev pub ready_at : ThreadTable → (priority place : ℕ) → Option ℕ
 ready_at s priority place =
     slice_get (filter (λ id. priority_of s.live id == priority) s.ready) place
-
--- ids rise
-abbrev pub AreRising : List Thread → Type 0
-AreRising live = AllPairs (λ t u. t.id < u.id) live
 
 -- a thread, if there is one, and those that are found from its id on
 abbrev pub and_on : (ℕ → List Thread) → Option Thread → List Thread

@@ -1,6 +1,6 @@
 -- How threads are put back into a table of none: those that were live, in the order of their ids,
--- the ready list, which of them runs, and the next id. It is this project's own profile.
-use Rattle.std.specs.Prelude.{◌≡◌, ◌≢◌, ℕ, ◌+◌, ◌<◌, ◌≤◌, ◌==◌, nat_eq, nat_lt, nat_le, Bool, true, not, ◌&&◌, ◌||◌, is_some, if◌then◌else◌, Option, Some, None, option_and_then, List, [], ◌∷◌, ◌++◌, length, All, AllPairs}
+-- the ready list by priority, which of them runs, and the next id. It is this project's profile.
+use Rattle.std.specs.Prelude.{◌≡◌, ℕ, ◌+◌, ◌≤◌, ◌==◌, nat_eq, nat_lt, nat_le, Bool, true, not, ◌&&◌, ◌||◌, is_some, if◌then◌else◌, Option, Some, None, option_and_then, List, [], ◌∷◌, ◌++◌, length}
 use Rattle.std.specs.List.{list_all}
 use Rattle.std.specs.Option.{option_eq}
 use Rattle.iop_base.specs.Numbers.{one_if}
@@ -8,10 +8,9 @@ use Rattle.iop_base.specs.declared.limits.TheConstants.{LAST_ID}
 use Rattle.iop_ready.specs.declared.slot.TheConstants.{MOST_THREADS}
 use Rattle.iop_thread.specs.declared.thread.Thread.{Thread}
 use Rattle.iop_thread.specs.declared.thread.TheConstants.{LOADER}
-use Rattle.iop_thread.specs.Placing.{IsPlaced, times, is_in_state}
-use Rattle.iop_thread.specs.Reading.{AreRising}
+use Rattle.iop_thread.specs.Placing.{AreInIdOrder, times, is_in_state}
 use Rattle.iop_thread.specs.States.{is_ready, is_running}
-use Rattle.iop_thread.specs.ThreadTable.{ThreadTable, is_it}
+use Rattle.iop_thread.specs.ThreadTable.{ThreadTable, priority_of, is_it}
 
 -- no thread, and the loader's id is the next one
 abbrev pub no_threads : ThreadTable
@@ -42,10 +41,17 @@ with_last s t = record {
   next = t.id + 1;
 }
 
--- whether an id may stand behind all others in the ready list: its thread is ready, and it is not
--- in the list
+-- whether the thread of an id is ready, and not in the ready list
+abbrev pub is_unlisted : ThreadTable → ℕ → Bool
+is_unlisted s id = is_in_state is_ready s.live id && times id s.ready == 0
+
+-- whether no thread in the ready list has a worse priority than this
+abbrev pub is_none_worse : ThreadTable → (priority : ℕ) → Bool
+is_none_worse s priority = list_all (λ id. nat_le (priority_of s.live id) priority) s.ready
+
+-- whether an id may stand behind all others in the ready list
 abbrev pub may_be_listed : ThreadTable → ℕ → Bool
-may_be_listed s id = is_in_state is_ready s.live id && times id s.ready == 0
+may_be_listed s id = is_unlisted s id && is_none_worse s (priority_of s.live id)
 
 abbrev pub with_last_ready : ThreadTable → ℕ → ThreadTable
 with_last_ready s id = record s { ready = s.ready ++ id ∷ [] }
@@ -79,8 +85,7 @@ with_next s id = record s { next = id }
 pub record ArePlacedSoFar (s : ThreadTable) : Type 0 where
   pub ready : (id : ℕ) → times id s.ready ≤ one_if (is_in_state is_ready s.live id)
   pub running : (id : ℕ) → is_it s.running id ≡ is_in_state is_running s.live id
-  pub ids : AllPairs (λ t u. t.id ≢ u.id) s.live
-  pub given : All (λ t. t.id < s.next) s.live
+  pub ids : AreInIdOrder s.live s.next
 
 -- threads are live again, in this order
 abbrev pub with_threads_back : ThreadTable → List Thread → Option ThreadTable
@@ -106,18 +111,3 @@ restored s =
     option_and_then (λ t. with_next_back t s.next)
     (option_and_then (λ t. with_running_back t s.running)
     (option_and_then (λ t. with_ready_back t s.ready) (with_threads_back no_threads s.live)))
-
--- a placed table in which ids rise, from the loader's on, and no more threads are live than can
-pub record IsInIdOrder (s : ThreadTable) : Type 0 where
-  pub placed : IsPlaced s
-  pub rising : AreRising s.live
-  pub first : All (λ t. LOADER ≤ t.id) s.live
-  pub few : length s.live ≤ MOST_THREADS
-  pub next_first : LOADER ≤ s.next
-  pub next_last : s.next ≤ LAST_ID + 1
-
--- all that stands in such a table can be put back, and gives the table again; where all that stands
--- in a table can be put back, it is such a table
-pub record ThreadsAreRestored : Type 0 where
-  pub again : (s : ThreadTable) → IsInIdOrder s → restored s ≡ Some s
-  pub only : (s left : ThreadTable) → restored s ≡ Some left → (left ≡ s) × IsInIdOrder s

@@ -7,10 +7,11 @@ ghost use Rattle.iop_thread.specs.Changes.{OperationsChangeOne};
 ghost use Rattle.iop_thread.specs.Waking.{WakingEndsOneWait};
 ghost use Rattle.iop_thread.specs.FirstRegisters.{FirstRegistersAreRead};
 ghost use Rattle.iop_thread.specs.Reading.{ThreadsAreReadInOrder};
-ghost use Rattle.iop_thread.specs.Restoring.{ThreadsAreRestored};
+ghost use Rattle.iop_thread.specs.Ordering.{ReadyThreadsAreReadInOrder, ThreadsAreRestored, TablesStandInOrder};
 
-/// Each thread that is ready is once in the ready list, which has no other, the one that runs is in
-/// the state of running, and no two threads have one id: at first, and after each operation.
+/// Each thread that is ready is once in the ready list, which has no other, and the one that runs
+/// is in the state of running. The ids of the live threads rise, from the loader's on, and are below
+/// the next one; no more are live than can. So it is at first, and after each operation.
 pub fn operations_keep_places()
     ensures { OperationsKeepPlaces }
 {}
@@ -73,9 +74,23 @@ pub fn threads_are_read_in_order()
     ensures { ThreadsAreReadInOrder }
 {}
 
-/// All that stands in a placed table whose ids rise, from the loader's on, can be put back into one
-/// of no thread: the threads, then the ready list, which of them runs, and the next id. That gives
-/// the table again. Where all that stands in a table can be put back, it is such a table.
+/// The ready threads of each priority are found, from place 0 on, in order of their arrival. So of
+/// one priority after the other all that are ready are found, each once, in order, if the priority
+/// of each is one that can be.
+pub fn ready_threads_are_read_in_order()
+    ensures { ReadyThreadsAreReadInOrder }
+{}
+
+/// All that stands in a placed table whose ready list is in order can be put back into one of no
+/// thread: the threads, then the ready list, which of them runs, and the next id. That gives the
+/// table again. Where all that stands in a table can be put back, it is such a table.
 pub fn threads_are_restored()
     ensures { ThreadsAreRestored }
+{}
+
+/// A table beside the kernel's ready list stands for threads in order exactly where it stands for
+/// them as they are: the queues keep the order within a priority alone. The priorities of the ready
+/// threads are then ones that can be.
+pub fn tables_stand_in_order()
+    ensures { TablesStandInOrder }
 {}

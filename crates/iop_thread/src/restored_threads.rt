@@ -1,19 +1,20 @@
-ghost use Rattle.std.specs.Prelude.{◌≡◌, IfOk, IfSome, MatchOption, Some, [], if◌then◌else◌, is_some, true, false};
+ghost use Rattle.std.specs.Prelude.{◌≡◌, ◌==◌, IfOk, IfSome, MatchOption, Some, [], if◌then◌else◌, is_some, true, false};
+ghost use Rattle.std.specs.List.{list_any};
 ghost use Rattle.iop_base.specs.declared.limits.TheConstants.{LAST_ID};
 ghost use Rattle.iop_thread.specs.Moves.{IsThere};
 ghost use Rattle.iop_thread.specs.Restored.{Restores, IsRestored};
-ghost use Rattle.iop_thread.specs.Restoring.{no_threads, is_ahead, may_stand_beside, may_follow, with_last, may_be_listed, with_last_ready, is_listed_in, are_listed, is_complete};
+ghost use Rattle.iop_thread.specs.Restoring.{no_threads, is_ahead, may_stand_beside, may_follow, with_last, is_unlisted, is_none_worse, may_be_listed, with_last_ready, is_listed_in, are_listed, is_complete};
 ghost use Rattle.iop_thread.specs.Standing.{Stands};
 ghost use Rattle.iop_thread.specs.States.{is_running};
 ghost use Rattle.iop_thread.specs.ThreadPlaces.{thread_at};
-ghost use Rattle.iop_thread.specs.ThreadTable.{ThreadTable, thread_of};
+ghost use Rattle.iop_thread.specs.ThreadTable.{ThreadTable, thread_of, priority_of};
 
 use crate::found::Found;
 use crate::places::Places;
 use crate::thread::{LOADER, Thread};
 use crate::threads::Threads;
 use iop_base::LAST_ID;
-use iop_ready::{MOST_THREADS, Ready, Slot};
+use iop_ready::{LOWEST_PRIORITY, MOST_THREADS, Priority, Ready, Slot};
 use std::alloc::{AllocError, Global};
 
 /// Threads that are put back into a table of none: first each thread, then the ready list. A thread
@@ -62,7 +63,8 @@ impl<R: Ready> RestoredThreads<R> {
     }
 
     /// Puts the thread of an id back into the ready list, behind all others. False exactly where
-    /// none of this id is live, it is not ready, or it is in the list; nothing changes then.
+    /// none of this id is live, it is not ready, it is in the list, or one of a worse priority is;
+    /// nothing changes then.
     pub fn put_ready(&mut self, id: u32) -> bool
         requires sound { IsRestored R.stands self.old }
         ensures may { (s : ThreadTable) → Restores R.stands self.old s
@@ -73,6 +75,9 @@ impl<R: Ready> RestoredThreads<R> {
         let Some(found) = self.find_unlisted(id) else {
             return false;
         };
+        if !self.is_none_worse(&found.thread) {
+            return false;
+        }
         self.threads
             .ready
             .add_last(found.slot, found.thread.priority);
@@ -122,8 +127,8 @@ impl<R: Ready> RestoredThreads<R> {
     /// Finds the thread of an id, with its place, if it is ready and not in the ready list.
     fn find_unlisted(&self, id: u32) -> Option<Found>
         ensures { (s : ThreadTable) → Restores R.stands self.now s → MatchOption result
-            (may_be_listed s id ≡ false)
-            (λ found. (may_be_listed s id ≡ true) × (thread_of s.live id ≡ Some found.thread)
+            (is_unlisted s id ≡ false)
+            (λ found. (is_unlisted s id ≡ true) × (thread_of s.live id ≡ Some found.thread)
             × IsThere self.now.threads.places found) }
     {
         let slot = self.threads.places.find(id)?;
@@ -135,6 +140,27 @@ impl<R: Ready> RestoredThreads<R> {
             return None;
         }
         Some(found)
+    }
+
+    /// Says whether no thread in the ready list has a worse priority than this one.
+    fn is_none_worse(&self, thread: &Thread) -> bool
+        ensures { (s : ThreadTable) → Restores R.stands self.now s
+            → result ≡ is_none_worse s thread.now.priority }
+    {
+        for better in thread.priority.number()..LOWEST_PRIORITY as u8 {
+            if self.is_ready_at(Priority::new(better + 1)) {
+                return false;
+            }
+        }
+        true
+    }
+
+    /// Says whether a thread of a priority is in the ready list.
+    fn is_ready_at(&self, priority: Priority) -> bool
+        ensures { (s : ThreadTable) → Restores R.stands self.now s
+            → result ≡ list_any (λ id. priority_of s.live id == priority) s.ready }
+    {
+        self.threads.ready.at(priority, 0).is_some()
     }
 
     /// Says whether each thread that is ready is in the ready list.

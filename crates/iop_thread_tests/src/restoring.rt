@@ -12,7 +12,7 @@ use std::test::Fail;
 /// What a row of a table puts back.
 #[derive(Clone, Copy)]
 enum Put {
-    Thread(u32, State),
+    Thread(Thread),
     Ready(u32),
 }
 
@@ -22,7 +22,7 @@ fn taken(restored: &mut RestoredThreads<KernelReady>, what: Put) -> bool
     ensures { IsRestored KernelStands restored.new }
 {
     match what {
-        Put::Thread(id, state) => restored.put_back(thread(id, state)),
+        Put::Thread(thread) => restored.put_back(thread),
         Put::Ready(id) => restored.put_ready(id),
     }
 }
@@ -61,6 +61,14 @@ fn thread(id: u32, state: State) -> Thread {
     }
 }
 
+/// Makes a thread of priority 19.
+fn better(id: u32, state: State) -> Thread {
+    Thread {
+        priority: Priority::new(19),
+        ..thread(id, state)
+    }
+}
+
 /// Puts back thread 1, which runs, thread 3, which is ready, and the ready list.
 fn finished(
     alloc: Global,
@@ -81,18 +89,22 @@ fn what_is_taken(rt: HostRuntime) -> Result<(), Fail> {
     let mut restored = RestoredThreads::new(rt.alloc(), KernelReady::new(rt.alloc())?)?;
     let ready = State::Ready(registers_at(0x100));
     let rows = [
-        (Put::Thread(0, State::Dormant), false),
-        (Put::Thread(1, State::Running), true),
-        (Put::Thread(1, State::Dormant), false),
-        (Put::Thread(2, State::Running), false),
-        (Put::Thread(0x8000_0000, State::Dormant), false),
-        (Put::Thread(3, ready), true),
-        (Put::Thread(2, ready), false),
-        (Put::Thread(5, ready), true),
+        (Put::Thread(thread(0, State::Dormant)), false),
+        (Put::Thread(thread(1, State::Running)), true),
+        (Put::Thread(thread(1, State::Dormant)), false),
+        (Put::Thread(thread(2, State::Running)), false),
+        (Put::Thread(thread(0x8000_0000, State::Dormant)), false),
+        (Put::Thread(thread(3, ready)), true),
+        (Put::Thread(thread(2, ready)), false),
+        (Put::Thread(thread(5, ready)), true),
+        (Put::Thread(better(6, ready)), true),
+        (Put::Thread(better(7, ready)), true),
         (Put::Ready(1), false),
         (Put::Ready(2), false),
+        (Put::Ready(7), true),
         (Put::Ready(5), true),
         (Put::Ready(5), false),
+        (Put::Ready(6), false),
         (Put::Ready(3), true),
     ];
     assert_eq!(rt; wrong_row(&mut restored, &rows), None);

@@ -11,6 +11,7 @@ use Rattle.iop_queues.specs.Queue.{in_order, Choice, chooses}
 use Rattle.iop_queues.specs.declared.queued.Queued.{Queued}
 use Rattle.iop_objects.specs.declared.waiter.Waiter.{Waiter}
 use Rattle.iop_objects.proofs.Changes.{object_of-changed}
+use Rattle.iop_objects.proofs.Others.{object_of_id, waiters_leave_states}
 use Rattle.iop_queues.proofs.Choosing.{queues_chosen}
 use Rattle.iop_ready.specs.declared.entry.Entry.{Entry}
 use Rattle.iop_thread.specs.Operations.{wakes}
@@ -25,7 +26,6 @@ use Rattle.iop_kernel.specs.Waits.{threads_of, wakes_all}
 use Rattle.iop_kernel.specs.declared.kernel.Kernel.{Kernel as Program}
 use Rattle.iop_kernel.proofs.Bodies.KindTables.{own_table, table_twice, same_table, order_stays, by_priority_known}
 use Rattle.iop_kernel.proofs.Bodies.Standing.{holds_table}
-use Rattle.iop_kernel.proofs.Placing.Objects.{object_of_id, waiters_leave_states}
 use Rattle.iop_kernel.proofs.Placing.Queues.{none_chosen}
 
 -- the threads after those were woken that waited for an object that is deleted

@@ -11,9 +11,9 @@ use Rattle.iop_objects.specs.Objects.{object_of, state_of, waiters_in, waiters_o
 use Rattle.iop_queues.specs.Queue.{Choice, chooses_where}
 use Rattle.iop_objects.specs.declared.waiter.Waiter.{Waiter}
 use Rattle.iop_objects.proofs.Changes.{object_of-changed}
+use Rattle.iop_objects.proofs.Others.{HaveRisingIds}
 use Rattle.iop_kernel.specs.EventFlags.{LiveFlag}
 use Rattle.iop_kernel.proofs.Bodies.ObjectChanges.{changes_twice, changes_alike}
-use Rattle.iop_kernel.proofs.Placing.Objects.{HaveRisingIds}
 
 module _ (s : EventFlags) (id : ℕ) (o : LiveFlag) where
   -- the event flag has a pattern, and these threads wait for it

@@ -14,6 +14,7 @@ use Rattle.iop_event.proofs.Settling.{Waiting}
 use Rattle.iop_exec.specs.Row.{with_reg}
 use Rattle.iop_exec.specs.declared.cpu.Cpu.{Cpu}
 use Rattle.iop_objects.specs.Objects.{object_of, state_of, waiters_of, changes}
+use Rattle.iop_objects.proofs.Others.{HaveRisingIds, object_of_id}
 use Rattle.iop_ready.specs.declared.entry.Entry.{Entry}
 use Rattle.iop_stubs.specs.Stubs.{Memory}
 use Rattle.iop_kernel.specs.Boards.{Board}
@@ -26,7 +27,6 @@ use Rattle.iop_kernel.specs.declared.kernel.Kernel.{Kernel as Program}
 use Rattle.iop_kernel.proofs.Bodies.FlagSteps.{IsMetNext, changed_to, left_with, state_left, waiters_left, flag_set, flag_met, flag_settled}
 use Rattle.iop_kernel.proofs.Bodies.ObjectChanges.{changes_alike}
 use Rattle.iop_kernel.proofs.Bodies.Standing.{holds_flags}
-use Rattle.iop_kernel.proofs.Placing.Objects.{HaveRisingIds, object_of_id}
 
 -- what is known of an event flag once the threads that wait for it have settled
 abbrev settled_to : Settled → LiveFlag → LiveFlag

@@ -4,8 +4,8 @@ use Rattle.std.specs.Prelude.{◌==◌, if◌then◌else◌}
 use Rattle.std.proofs.lemmas.Bool.Decides.{nat_tests}
 use Rattle.std.proofs.lemmas.List.Elements.{All-head, All-tail}
 use Rattle.iop_objects.specs.Objects.{Object, Objects, object_of, changes}
+use Rattle.iop_objects.proofs.Others.{HaveRisingIds}
 use Rattle.iop_base.proofs.Searching.{AllPairs-head, AllPairs-tail}
-use Rattle.iop_kernel.proofs.Placing.Objects.{HaveRisingIds}
 
 module _ {A W : Type 0} (id : ℕ) where
   -- the objects after a change

@@ -5,7 +5,7 @@ use Rattle.iop_base.specs.Piece.{Piece}
 use Rattle.iop_base.proofs.Giving.{gives_none, gives_then}
 use Rattle.iop_event.specs.EventFlags.{EventFlags}
 use Rattle.iop_exec.specs.declared.cpu.Cpu.{Cpu}
-use Rattle.iop_intr.specs.InterruptLines.{IrqLine}
+use Rattle.iop_intr.specs.declared.irq_line.IrqLine.{IrqLine}
 use Rattle.iop_mbx.specs.Mailboxes.{Mailboxes}
 use Rattle.iop_pools.specs.FixedPools.{FixedPools}
 use Rattle.iop_pools.specs.VariablePools.{VariablePools}

@@ -4,7 +4,7 @@ use Rattle.std.proofs.Common.{◌≡◌, ◌≢◌, ℕ, Bool, true, false, Opti
 use Rattle.std.specs.Prelude.{⊤}
 use Rattle.iop_base.specs.Piece.{Piece}
 use Rattle.iop_base.specs.declared.code.TheConstants.Code.{WAIT_RELEASED}
-use Rattle.iop_intr.specs.InterruptLines.{IrqLine}
+use Rattle.iop_intr.specs.declared.irq_line.IrqLine.{IrqLine}
 use Rattle.iop_registry.specs.declared.registry.Entry.{Entry}
 use Rattle.iop_services.specs.declared.codes.TheConstants.{LOADCORE, SYSMEM, INTRMAN, THBASE, THVPOOL, THFPOOL}
 use Rattle.iop_services.specs.declared.service.Service.{Service}

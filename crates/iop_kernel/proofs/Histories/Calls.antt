@@ -13,6 +13,7 @@ use Rattle.iop_objects.specs.Objects.{object_of, state_of, deletes, waits}
 use Rattle.iop_queues.specs.Queue.{Choice, chooses}
 use Rattle.iop_queues.specs.declared.queued.Queued.{Queued}
 use Rattle.iop_objects.specs.declared.waiter.Waiter.{Waiter}
+use Rattle.iop_objects.proofs.Others.{waiters_leave_states}
 use Rattle.iop_services.specs.Table.{row_of, allows}
 use Rattle.iop_services.specs.declared.codes.TheConstants.{THBASE}
 use Rattle.iop_services.specs.declared.row.Row.{Row}
@@ -40,7 +41,6 @@ use Rattle.iop_kernel.specs.declared.call.Call.TheVariants.{Library, ThreadRetur
 use Rattle.iop_kernel.proofs.Codes.Libraries.{serves_apart, exits_apart}
 use Rattle.iop_kernel.proofs.Bodies.KindTables.{own_table}
 use Rattle.iop_kernel.proofs.Histories.Telling.{Tells, TellsBy, none_changes, deletes_told}
-use Rattle.iop_kernel.proofs.Placing.Objects.{waiters_leave_states}
 use Rattle.iop_kernel.proofs.Placing.ObjectsKept.{same_objects}
 use Rattle.iop_kernel.proofs.Placing.Queues.{none_chosen, all_chosen}
 

@@ -4,11 +4,11 @@ use Rattle.std.proofs.Common.{◌≡◌, ℕ, ◌≤◌, ◌+◌, ◌==◌, ◌&
 use Rattle.std.proofs.lemmas.Bool.{and_left, and_right}
 use Rattle.std.proofs.lemmas.List.Sums.{sum_by-append}
 use Rattle.iop_objects.specs.Objects.{state_of}
+use Rattle.iop_objects.proofs.Others.{HaveIdsBelow}
 use Rattle.iop_sema.specs.Semaphores.{Semaphores}
 use Rattle.iop_sema.specs.declared.semaphore.Semaphore.{Semaphore}
 use Rattle.iop_kernel.specs.Histories.{Called, is_signal, is_take, succeeds, signals_in, takes_in, signals, takes, AreCounted}
 use Rattle.iop_kernel.proofs.Histories.Telling.{Tells, TellsBy, Becomes, longer, nothing_yet}
-use Rattle.iop_kernel.proofs.Placing.Objects.{HaveIdsBelow}
 
 -- how many signals of a semaphore a call is, if there is one, and how many takes
 abbrev pub signals_of : (id : ℕ) → Option Called → ℕ

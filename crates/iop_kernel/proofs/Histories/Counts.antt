@@ -10,6 +10,7 @@ use Rattle.iop_objects.specs.Objects.{object_of, state_of, waiters_of, with_stat
 use Rattle.iop_objects.specs.Objects as objects
 use Rattle.iop_queues.specs.Queue.{Choice, chooses}
 use Rattle.iop_objects.specs.declared.waiter.Waiter.{Waiter}
+use Rattle.iop_objects.proofs.Others.{waiters_leave_states}
 use Rattle.iop_sema.specs.Semaphores.{Semaphores, by_priority, with_count}
 use Rattle.iop_sema.specs.Semaphores as semaphores
 use Rattle.iop_sema.specs.declared.semaphore.Semaphore.{Semaphore}
@@ -28,7 +29,6 @@ use Rattle.iop_kernel.proofs.Histories.Calls.{word_tells, one_waits, none_waits,
 use Rattle.iop_kernel.proofs.Histories.Calls as telling
 use Rattle.iop_kernel.proofs.Histories.CountedHistories.{counts, elsewhere_counts, waited_counts}
 use Rattle.iop_kernel.proofs.Histories.Telling.{TellsBy, none_changes, one_changes, creates_told, unless}
-use Rattle.iop_kernel.proofs.Placing.Objects.{waiters_leave_states}
 
 -- the service that signals, and one that takes
 abbrev Signal : Service

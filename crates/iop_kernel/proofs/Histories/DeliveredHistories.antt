@@ -8,13 +8,13 @@ use Rattle.std.proofs.lemmas.List.{map-append}
 use Rattle.iop_base.specs.Numbers.{wrapped}
 use Rattle.iop_mbx.specs.Mailboxes.{Mailbox, Mailboxes, messages_by_priority, next_message, with_messages}
 use Rattle.iop_objects.specs.Objects.{state_of}
+use Rattle.iop_objects.proofs.Others.{HaveIdsBelow}
 use Rattle.iop_queues.specs.Queue.{Choice, chooses}
 use Rattle.iop_queues.specs.declared.queued.Queued.{Queued}
 use Rattle.iop_queues.proofs.Choosing.{queues_chosen}
 use Rattle.iop_thread.specs.Placing.{times}
 use Rattle.iop_kernel.specs.Histories.{Called, is_send, is_receive, succeeds, sent_in, received_in, sent, received, queued, IsDelivered, AreDelivered}
 use Rattle.iop_kernel.proofs.Histories.Telling.{Tells, TellsBy, Becomes, longer, nothing_yet}
-use Rattle.iop_kernel.proofs.Placing.Objects.{HaveIdsBelow}
 use Rattle.iop_kernel.proofs.Placing.Queues.{times_append}
 
 -- the message that a call sent to a mailbox, if there is a call and it is one

@@ -13,6 +13,8 @@ use Rattle.iop_objects.specs.Objects as objects
 use Rattle.iop_queues.specs.Queue.{Choice, chooses}
 use Rattle.iop_queues.specs.declared.queued.Queued.{Queued}
 use Rattle.iop_objects.specs.declared.waiter.Waiter.{Waiter}
+use Rattle.iop_objects.proofs.OtherWaiters.{chosen_one}
+use Rattle.iop_objects.proofs.Others.{waiters_leave_states}
 use Rattle.iop_services.specs.declared.service.Service.{Service}
 use Rattle.iop_services.specs.declared.service.Service.TheVariants.{Thmsgbx}
 use Rattle.iop_services.specs.declared.thmsgbx_service.ThmsgbxService.TheVariants.{CreateMbx, DeleteMbx, SendMbx, ReceiveMbx, PollMbx, ReferMbxStatus}
@@ -31,8 +33,6 @@ use Rattle.iop_kernel.proofs.Histories.Calls as telling
 use Rattle.iop_kernel.proofs.Histories.DeliveredHistories.{delivers, elsewhere_delivers, sent_of, received_of, put_keeps, handed_keeps, got_keeps}
 use Rattle.iop_kernel.proofs.Histories.Telling.{TellsBy, one_becomes, one_changes, creates_told, unless}
 use Rattle.iop_kernel.proofs.Keeping.Memory.{words_inside}
-use Rattle.iop_kernel.proofs.Placing.Objects.{waiters_leave_states}
-use Rattle.iop_kernel.proofs.Placing.ObjectsKept.{chosen_one}
 use Rattle.iop_kernel.proofs.Placing.Queues.{none_chosen}
 use Rattle.iop_kernel.proofs.Readings.WordBytes.{first_at}
 

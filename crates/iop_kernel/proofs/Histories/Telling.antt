@@ -11,9 +11,9 @@ use Rattle.iop_base.specs.declared.code.Code.{Code}
 use Rattle.iop_base.proofs.Lists.{find-none}
 use Rattle.iop_objects.specs.Objects.{Object, Objects, object_of, state_of, has_room, creates, deletes, with_state}
 use Rattle.iop_objects.proofs.Changes.{state_of-with_state}
+use Rattle.iop_objects.proofs.Others.{HaveIdsBelow, known, object_of_without}
 use Rattle.iop_services.specs.declared.service.Service.{Service}
 use Rattle.iop_kernel.specs.Histories.{Called, succeeds}
-use Rattle.iop_kernel.proofs.Placing.Objects.{HaveIdsBelow, known, object_of_without}
 
 -- a history with a call more, if there is one
 abbrev pub longer : List Called → Option Called → List Called

@@ -10,9 +10,10 @@ use Rattle.std.proofs.lemmas.Bool.Decides.{nat_tests}
 use Rattle.std.proofs.lemmas.List.Folds.{list_any-from_Any}
 use mathlib.Core.Logic.{inl, inr}
 use Rattle.iop_exec.specs.declared.cpu.Cpu.{Cpu}
-use Rattle.iop_intr.specs.InterruptLines.{IrqLine, idle, line_of, deliverable}
+use Rattle.iop_intr.specs.InterruptLines.{idle, line_of, deliverable}
 use Rattle.iop_intr.specs.Laws.{CanBeDelivered, IsLowest}
 use Rattle.iop_intr.specs.declared.handler.Handler.{Handler}
+use Rattle.iop_intr.specs.declared.irq_line.IrqLine.{IrqLine}
 use Rattle.iop_intr.proofs.Keeping.{deliverable-lowest}
 use Rattle.iop_time.specs.Laws.{Stands, NoneHasCome, IsNext}
 use Rattle.iop_time.specs.Taking.{timer_of, takes_due}

@@ -7,7 +7,8 @@ use Rattle.std.proofs.lemmas.List.{get_or-set_same, get_or-set_other}
 use Rattle.std.proofs.lemmas.List.Elements.{All-weaker}
 use mathlib.Core.Logic.{inl, inr}
 use Rattle.iop_exec.specs.Row.{reg}
-use Rattle.iop_intr.specs.InterruptLines.{IrqLine, idle, line_of, finished, finishing}
+use Rattle.iop_intr.specs.InterruptLines.{idle, line_of, finished, finishing}
+use Rattle.iop_intr.specs.declared.irq_line.IrqLine.{IrqLine}
 use Rattle.iop_time.specs.Timers.{Timers, AreTimers, removes, sets_again}
 use Rattle.iop_time.specs.declared.alarm.Alarm.{Alarm as TimerAlarm}
 use Rattle.iop_time.proofs.Leaving.{each_call_leaves}

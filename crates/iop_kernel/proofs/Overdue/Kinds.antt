@@ -13,6 +13,8 @@ use Rattle.iop_objects.specs.Objects.{state_of, waiters_of, changes, with_state,
 use Rattle.iop_queues.specs.Queue.{Choice, chooses}
 use Rattle.iop_queues.specs.declared.queued.Queued.{Queued}
 use Rattle.iop_objects.specs.declared.waiter.Waiter.{Waiter}
+use Rattle.iop_objects.proofs.EachObject.{each_changes, each_with_waiters, each_with_state, each_creates, each_deletes}
+use Rattle.iop_objects.proofs.OtherWaiters.{NoOthers, all_others, none_new, none_without, none_requeued, none_chosen_new}
 use Rattle.iop_pools.specs.Pools as pools
 use Rattle.iop_pools.specs.Pools.{Pool, length_for}
 use Rattle.iop_pools.specs.VariablePools.{place_of}
@@ -23,9 +25,7 @@ use Rattle.iop_thread.specs.declared.kind.Kind.{Kind}
 use Rattle.iop_thread.specs.declared.kind.Kind.TheVariants.{Semaphore, EventFlag, Mailbox, VariablePool, FixedPool}
 use Rattle.iop_kernel.specs.Kinds.{State, Wants, Table}
 use Rattle.iop_kernel.specs.Overdue.{AreIdle, IsIdle}
-use Rattle.iop_kernel.proofs.Overdue.Objects.{each_changes, each_with_waiters, each_with_state, each_creates, each_deletes}
 use Rattle.iop_kernel.proofs.Placing.Moves.{settled_flag}
-use Rattle.iop_kernel.proofs.Placing.ObjectsKept.{NoOthers, all_others, none_new, none_without, none_requeued, none_chosen_new}
 use Rattle.iop_kernel.proofs.Placing.Queues.{none_chosen, all_chosen}
 use Rattle.iop_kernel.proofs.Walk.Changes.{Changes, HasToWait}
 use Rattle.iop_kernel.proofs.Walk.Changes.FixedChanges.{takes as take_block, gives as give_block}

@@ -1,7 +1,7 @@
 -- Threads and waiters stay placed when other threads stand in the kernel, or when only what is
 -- beside them changes.
 use Rattle.std.proofs.Common.{◌≡◌, ℕ, ◌≤◌, Bool, true, Option, List, length, ap, ◌∙◌, subst}
-use Rattle.iop_intr.specs.InterruptLines.{IrqLine}
+use Rattle.iop_intr.specs.declared.irq_line.IrqLine.{IrqLine}
 use Rattle.iop_thread.specs.Laws.{KeepsPlaces}
 use Rattle.iop_thread.specs.Placing as threads_placing
 use Rattle.iop_thread.specs.Placing.{times}

@@ -11,6 +11,8 @@ use Rattle.iop_queues.specs.Queue.{Choice, chooses, in_order}
 use Rattle.iop_queues.specs.declared.queued.Queued.{Queued}
 use Rattle.iop_objects.specs.declared.waiter.Waiter.{Waiter}
 use Rattle.iop_objects.proofs.Changes.{waiters_of-with_waiters, waiters_of-with_state}
+use Rattle.iop_objects.proofs.OtherWaiters.{all_but_chosen, all_but_taken}
+use Rattle.iop_objects.proofs.Others.{IsBut, with_waiters_but, with_state_but, but_twice}
 use Rattle.iop_pools.specs.Pools.{Pool}
 use Rattle.iop_pools.specs.VariablePools.{VariablePools, meets_next}
 use Rattle.iop_pools.specs.declared.met.Met.{Met}
@@ -32,8 +34,6 @@ use Rattle.iop_kernel.specs.System.{Kernel}
 use Rattle.iop_kernel.specs.Waits.{threads_of, wakes_all}
 use Rattle.iop_kernel.proofs.Bodies.KindTables.{for_object, own_object}
 use Rattle.iop_kernel.proofs.Placing.Basics.{places, moves, keeps, same_live}
-use Rattle.iop_kernel.proofs.Placing.Objects.{IsBut, with_waiters_but, with_state_but, but_twice}
-use Rattle.iop_kernel.proofs.Placing.ObjectsKept.{all_but_chosen, all_but_taken}
 use Rattle.iop_kernel.proofs.Placing.Priorities.{all_waiting, keeps_priorities}
 use Rattle.iop_kernel.proofs.Placing.QueuedPriorities.{queued_on}
 use Rattle.iop_kernel.proofs.Placing.Queues.{times_added, times_in, times_in_last, times_in_order, chosen_split, taken_split}

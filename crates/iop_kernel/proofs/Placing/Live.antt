@@ -15,6 +15,7 @@ use Rattle.iop_thread.specs.Placing.{IsPlaced, times}
 use Rattle.iop_thread.specs.ThreadTable.{ThreadTable, thread_of}
 use Rattle.iop_thread.specs.Waits.{is_live}
 use Rattle.iop_thread.specs.declared.thread.Thread.{Thread}
+use Rattle.iop_thread.proofs.IdOrder.{own_ids}
 use Rattle.iop_thread.proofs.LiveThreads.{HaveOwnIds, thread_of_id, thread_of_is_live}
 use Rattle.iop_thread.proofs.ReadyIds.{times_first}
 use Rattle.iop_time.specs.declared.clock.TheConstants.{MOST_DELAYS}
@@ -79,8 +80,9 @@ pub no_more_live : (old left : ThreadTable) → IsPlaced left
     → ((id : ℕ) → is_live left id ≡ true → is_live old id ≡ true)
     → length left.live ≤ length old.live
 no_more_live old left placed was =
+    let own = own_ids left.live left.next placed.ids in
     let fewer = few old.live (ids_of left.live)
-    (λ id. grind (arith, once_live left.live placed.ids id, was id)) in
+    (λ id. grind (arith, once_live left.live own id, was id)) in
     omega (arith, fewer, length-map left.live (λ t. t.id))
 
 -- so there is still room for a delay of each where the same are live

@@ -12,6 +12,7 @@ use Rattle.iop_base.proofs.Lists.{find-none}
 use Rattle.iop_objects.specs.Laws.{threads_of, threads_waiting}
 use Rattle.iop_objects.specs.Objects.{Object, waiting, object_of, waiters_in}
 use Rattle.iop_objects.specs.declared.objects.TheConstants.{MOST_WAITERS}
+use Rattle.iop_objects.proofs.Others.{HaveRisingIds}
 use Rattle.iop_base.proofs.Searching.{AllPairs-head, AllPairs-tail}
 use Rattle.iop_ready.specs.declared.entry.Entry.{Entry}
 use Rattle.iop_thread.specs.Placing as threads_placing
@@ -37,7 +38,6 @@ use Rattle.iop_kernel.specs.declared.active_handler.ActiveHandler.{ActiveHandler
 use Rattle.iop_kernel.specs.declared.kernel.Kernel.{Kernel as Program}
 use Rattle.iop_kernel.proofs.Bodies.KindTables.{one_object}
 use Rattle.iop_kernel.proofs.Placing.Live.{few}
-use Rattle.iop_kernel.proofs.Placing.Objects.{HaveRisingIds}
 use Rattle.iop_kernel.proofs.Placing.Queues.{delayed, undelayed, times_append, times_in}
 use Rattle.iop_kernel.proofs.Placing.Threads.{running_waits_not}
 

@@ -9,6 +9,7 @@ use Rattle.iop_exec.specs.Row.{reg}
 use Rattle.iop_exec.specs.declared.cpu.Cpu.{Cpu}
 use Rattle.iop_objects.specs.Objects.{waiters_in}
 use Rattle.iop_objects.proofs.Apart.{none_stays}
+use Rattle.iop_objects.proofs.Others.{changes_but, deletes_but, waiters_own}
 use Rattle.iop_pools.specs.Pools.{with_ranges}
 use Rattle.iop_pools.specs.Ranges.{without}
 use Rattle.iop_thread.specs.Operations as threads
@@ -30,7 +31,6 @@ use Rattle.iop_kernel.proofs.Keeping.RunningThread.{caller_runs}
 use Rattle.iop_kernel.proofs.Placing.Basics.{comes, stand_on, places, moves, keeps, open_placed, ended_places, beside_placed}
 use Rattle.iop_kernel.proofs.Placing.Kinds.{all_in_order, blocked_turns, delayed_placed, blocked_placed, chosen_placed, woken_placed, met_placed}
 use Rattle.iop_kernel.proofs.Placing.Moves.{deleted_placed, made_placed, terminated_placed, changed_placed, woken_up_placed, set_placed, cancelled_placed, settled_flag, settled_rest, times_settled}
-use Rattle.iop_kernel.proofs.Placing.Objects.{changes_but, deletes_but, waiters_own}
 use Rattle.iop_kernel.proofs.Placing.Priorities.{all_waiting}
 use Rattle.iop_kernel.proofs.Placing.Queues.{times_in}
 use Rattle.iop_kernel.proofs.Placing.Steps.{handler_returned_places}

@@ -7,6 +7,7 @@ use Rattle.std.proofs.lemmas.List.Elements.{All-filter}
 use Rattle.iop_base.specs.Numbers.{one_if}
 use Rattle.iop_objects.specs.Objects.{waiters_in, waiters_of}
 use Rattle.iop_objects.specs.WaiterQueues.{is_thread, without}
+use Rattle.iop_objects.proofs.Others.{IsBut, with_waiters_but, waiters_now}
 use Rattle.iop_thread.specs.Operations as threads
 use Rattle.iop_thread.specs.Placing as threads_placing
 use Rattle.iop_thread.specs.Placing.{times}
@@ -31,7 +32,6 @@ use Rattle.iop_kernel.specs.System.{Kernel}
 use Rattle.iop_kernel.specs.Waits.{leaves_object, requeues_at, wakes_all}
 use Rattle.iop_kernel.proofs.Bodies.KindTables.{each_table, other_kind, own_object}
 use Rattle.iop_kernel.proofs.Placing.Live.{live_room}
-use Rattle.iop_kernel.proofs.Placing.Objects.{IsBut, with_waiters_but, waiters_now}
 use Rattle.iop_kernel.proofs.Placing.Priorities.{KeepAll, KeepPriorities, IsChanged, keeps_priorities, other_wait}
 use Rattle.iop_kernel.proofs.Placing.QueuedPriorities.{queued_on}
 use Rattle.iop_kernel.proofs.Placing.Queues.{delayed, times_dropped, times_in, times_in_without}

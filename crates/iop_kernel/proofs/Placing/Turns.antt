@@ -11,6 +11,8 @@ use Rattle.iop_objects.specs.WaiterQueues.{requeued}
 use Rattle.iop_objects.specs.declared.objects.TheConstants.{MOST_OBJECTS}
 use Rattle.iop_objects.proofs.Apart.{makes_one}
 use Rattle.iop_objects.proofs.Changes.{waiters_of-with_state}
+use Rattle.iop_objects.proofs.OtherWaiters.{none_new, none_requeued}
+use Rattle.iop_objects.proofs.Others.{IsBut, changes_but, with_waiters_but, waiters_now, waiters_added}
 use Rattle.iop_thread.specs.Placing.{IsPlaced}
 use Rattle.iop_thread.specs.ThreadTable.{ThreadTable}
 use Rattle.iop_thread.specs.Waits.{wait_of}
@@ -21,8 +23,6 @@ use Rattle.iop_time.specs.declared.clock.TheConstants.{MOST_DELAYS}
 use Rattle.iop_kernel.specs.Kinds.{State, Live, Table}
 use Rattle.iop_kernel.specs.Placing.{AreWaited, HasItsPriority, is_for}
 use Rattle.iop_kernel.proofs.Bodies.KindTables.{own_object}
-use Rattle.iop_kernel.proofs.Placing.Objects.{IsBut, changes_but, with_waiters_but, waiters_now, waiters_added}
-use Rattle.iop_kernel.proofs.Placing.ObjectsKept.{none_new, none_requeued}
 use Rattle.iop_kernel.proofs.Placing.Priorities.{KeepFor, KeepPriorities, IsChanged, other_wait}
 use Rattle.iop_kernel.proofs.Placing.QueuedPriorities.{queued_on, requeued_priorities}
 use Rattle.iop_kernel.proofs.Placing.Queues.{times_in, times_in_requeued}

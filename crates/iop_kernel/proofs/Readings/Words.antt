@@ -5,7 +5,8 @@ use Rattle.std.proofs.lemmas.Bool.Decides.{nat_tests}
 use Rattle.iop_base.specs.Numbers.{one_if, wrapped}
 use Rattle.iop_base.specs.declared.code.Code.{Code}
 use Rattle.iop_base.specs.declared.code.TheConstants.Code.{ILLEGAL_INTERRUPT}
-use Rattle.iop_intr.specs.InterruptLines.{IrqLine, line_of, disable_line, disabling}
+use Rattle.iop_intr.specs.InterruptLines.{line_of, disable_line, disabling}
+use Rattle.iop_intr.specs.declared.irq_line.IrqLine.{IrqLine}
 use Rattle.iop_intr.specs.declared.irqs.TheConstants.{IRQ_LINES}
 use Rattle.iop_services.specs.declared.intrman_service.IntrmanService.TheVariants.{DisableIntr, CpuSuspendIntr}
 use Rattle.iop_kernel.specs.Boards.{Board, place_of_word}

@@ -9,13 +9,13 @@ use Rattle.iop_mbx.specs.Mailboxes.{Mailbox, Mailboxes}
 use Rattle.iop_objects.specs.Objects.{state_of, object_of, changes}
 use Rattle.iop_objects.specs.declared.waiter.Waiter.{Waiter}
 use Rattle.iop_objects.proofs.Changes.{object_of-changed}
+use Rattle.iop_objects.proofs.Others.{object_of_id}
 use Rattle.iop_kernel.specs.Boards.{Board, quiet}
 use Rattle.iop_kernel.specs.EventFlags.{LiveFlag, sets_flag, serves_thevent}
 use Rattle.iop_kernel.specs.Mailboxes.{message_priority, queues_by, queues_message, sends_by, serves_thmsgbx}
 use Rattle.iop_kernel.specs.ObjectRequests.{SetsBits, Queues, IsFree, ServesObjects, ObjectRequestsAreServed}
 use Rattle.iop_kernel.specs.System.{Core, argument, answers, with_event_flags}
 use Rattle.iop_kernel.proofs.Keeping.Meetings.{set_flags, met_of, meets_core}
-use Rattle.iop_kernel.proofs.Placing.Objects.{object_of_id}
 
 -- what an event flag is left with when bits are set
 set_state : (c : Core) (id bits : ℕ) (o : LiveFlag)

@@ -9,7 +9,7 @@ use Rattle.iop_pools.specs.FixedPools as fixed
 use Rattle.iop_pools.specs.FixedPools.{FixedPools}
 use Rattle.iop_pools.specs.Pools.{Pool, place_for, takes_at, takes_of, takes_place}
 use Rattle.iop_pools.specs.VariablePools as variable
-use Rattle.iop_pools.specs.VariablePools.{VariablePools, place_of}
+use Rattle.iop_pools.specs.VariablePools.{VariablePools, place_of, pool_length}
 use Rattle.iop_services.specs.declared.service.Service.TheVariants.{Thvpool, Thfpool}
 use Rattle.iop_services.specs.declared.thfpool_service.ThfpoolService.TheVariants.{AllocateFpl}
 use Rattle.iop_services.specs.declared.thvpool_service.ThvpoolService.TheVariants.{AllocateVpl}
@@ -30,11 +30,13 @@ module _ (c : Core) (placed : IsPlaced c.kernel) (thread : ℕ) (calls : caller 
   module _ (id size : ℕ) where
     abbrev Waits_size : Result ℕ Code × VariablePools → Type 0
     Waits_size r =
-        Waits c placed thread calls VariablePool id size (vpl.takes_or_waits c id size r)
+        Waits c placed thread calls VariablePool id (pool_length size)
+        (vpl.takes_or_waits c id size r)
 
     by_place : (t : Option ℕ × VariablePools)
         → Waits_size (variable.taken c.kernel.variable_pools t)
-    by_place (None, left) = waits_so c placed thread calls VariablePool id size (caller c) refl
+    by_place (None, left) =
+        waits_so c placed thread calls VariablePool id (pool_length size) (caller c) refl
     by_place (Some place, left) = λ is. absurd (cc is)
 
     by_pool : (o : Option Pool) → Waits_size (variable.takes_it c.kernel.variable_pools id size o)
@@ -43,9 +45,11 @@ module _ (c : Core) (placed : IsPlaced c.kernel) (thread : ℕ) (calls : caller 
         cond_both (size == 0 || nat_lt x.size size) _ _ Waits_size (λ illegal is. absurd (cc is))
         (λ legal. by_place (takes_place c.kernel.variable_pools id size))
 
-    variable_waits : Waits c placed thread calls VariablePool id size (allocate_vpl c id size)
+    variable_waits : Waits c placed thread calls VariablePool id (pool_length size)
+        (allocate_vpl c id size)
     variable_waits =
-        cond_both (may_switch c.kernel) _ _ (Waits c placed thread calls VariablePool id size)
+        cond_both (may_switch c.kernel) _ _
+        (Waits c placed thread calls VariablePool id (pool_length size))
         (λ may. by_pool (state_of c.kernel.variable_pools id)) (λ cannot is. absurd (cc is))
 
   -- a fixed pool of which no block is free
@@ -134,9 +138,8 @@ module _ (s : System) where
 
 -- the services, by their arguments
 pub variable_left : LeavesSo (Thvpool AllocateVpl)
-    (λ s left thread.
-    WaitsFor VariablePool s.core left (argument s.core 0) (argument s.core 1) thread
-    × VariablePoolIsFull s)
+    (λ s left thread. let size = pool_length (argument s.core 1) in
+    WaitsFor VariablePool s.core left (argument s.core 0) size thread × VariablePoolIsFull s)
 unfolding serves serves_thvpool
 variable_left s thread placed calls stops = (
   variable_waits s.core placed thread calls (argument s.core 0) (argument s.core 1) stops,

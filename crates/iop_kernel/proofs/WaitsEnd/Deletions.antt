@@ -4,6 +4,7 @@ use Rattle.std.proofs.lemmas.Bool.{eq-eqb}
 use Rattle.iop_base.specs.Numbers.{one_if}
 use Rattle.iop_base.specs.declared.code.TheConstants.Code.{OBJECT_DELETED}
 use Rattle.iop_objects.specs.Objects.{object_of, deletes}
+use Rattle.iop_objects.proofs.Others.{object_of_id, object_of_without}
 use Rattle.iop_thread.specs.Placing.{times}
 use Rattle.iop_thread.specs.ThreadTable.{ThreadTable}
 use Rattle.iop_thread.specs.Waits.{wait_of}
@@ -25,7 +26,6 @@ use Rattle.iop_kernel.specs.VariablePools.{serves_thvpool}
 use Rattle.iop_kernel.specs.Waits.{wakes_all}
 use Rattle.iop_kernel.specs.WakingLaws.{WakesAll, DeletionsWakeAll}
 use Rattle.iop_kernel.proofs.Bodies.KindTables.{own_table, own_object}
-use Rattle.iop_kernel.proofs.Placing.Objects.{object_of_id, object_of_without}
 use Rattle.iop_kernel.proofs.Placing.Threads.{all_woken}
 use Rattle.iop_kernel.proofs.WaitsEnd.Waiters.{times_ordered, each_wakes}
 

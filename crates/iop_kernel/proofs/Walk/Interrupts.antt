@@ -4,7 +4,8 @@ use Rattle.iop_base.specs.Numbers.{one_if}
 use Rattle.iop_base.specs.Piece.{Piece}
 use Rattle.iop_base.specs.declared.code.Code.{Code}
 use Rattle.iop_base.specs.declared.code.TheConstants.Code.{ILLEGAL_INTERRUPT}
-use Rattle.iop_intr.specs.InterruptLines.{IrqLine, disabling}
+use Rattle.iop_intr.specs.InterruptLines.{disabling}
+use Rattle.iop_intr.specs.declared.irq_line.IrqLine.{IrqLine}
 use Rattle.iop_time.specs.ClockTime.{moment_after}
 use Rattle.iop_kernel.specs.Boards.{board_of, optional_place}
 use Rattle.iop_kernel.specs.Interrupts.{disable_interrupts, suspended_code, disables_by, disables_at, suspends_at}

@@ -11,7 +11,7 @@ use Rattle.iop_base.specs.declared.guest_fault.GuestFault.TheVariants.{Address, 
 use Rattle.iop_base.specs.declared.line.Line.TheVariants as lines
 use Rattle.iop_exec.specs.Row.{reg}
 use Rattle.iop_exec.specs.declared.cpu.Cpu.{Cpu}
-use Rattle.iop_intr.specs.InterruptLines.{IrqLine}
+use Rattle.iop_intr.specs.declared.irq_line.IrqLine.{IrqLine}
 use Rattle.iop_objects.specs.Objects.{object_of, state_of, waiters_of, with_state, with_waiters}
 use Rattle.iop_objects.specs.Objects as objects
 use Rattle.iop_queues.specs.Queue.{Choice, chooses}

@@ -9,8 +9,9 @@ use Rattle.iop_base.specs.declared.code.TheConstants.Code.{OK}
 use Rattle.iop_base.specs.declared.line.Line.{Line}
 use Rattle.iop_base.specs.declared.line.Line.TheVariants as lines
 use Rattle.iop_exec.specs.declared.cpu.Cpu.{Cpu}
-use Rattle.iop_intr.specs.InterruptLines.{IrqLine, line_of, deliverable, delivering}
+use Rattle.iop_intr.specs.InterruptLines.{line_of, deliverable, delivering}
 use Rattle.iop_intr.specs.declared.handler.Handler.{Handler}
+use Rattle.iop_intr.specs.declared.irq_line.IrqLine.{IrqLine}
 use Rattle.iop_thread.specs.Operations as threads
 use Rattle.iop_time.specs.Taking.{without_due, takes_due}
 use Rattle.iop_time.specs.Timers.{drops_delay}

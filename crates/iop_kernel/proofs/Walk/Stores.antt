@@ -9,6 +9,7 @@ use Rattle.iop_base.specs.declared.code.TheConstants.Code.{OK}
 use Rattle.iop_base.proofs.Memory.{length-with_bytes}
 use Rattle.iop_event.specs.declared.met.Met.{Met}
 use Rattle.iop_objects.specs.Objects.{Object, Objects, object_of}
+use Rattle.iop_objects.proofs.Others.{object_of_id}
 use Rattle.iop_stubs.specs.Stubs.{Memory, after_store, store_lines}
 use Rattle.iop_thread.specs.declared.kind.Kind.{Kind}
 use Rattle.iop_time.specs.ClockTime.{micros_of}
@@ -22,7 +23,6 @@ use Rattle.iop_kernel.specs.declared.after.After.{After}
 use Rattle.iop_kernel.specs.declared.system_clock.TheConstants.{MICROS_OF_SECOND}
 use Rattle.iop_kernel.proofs.Keeping.Meetings.{met_inside}
 use Rattle.iop_kernel.proofs.Keeping.Memory.{WordsFit}
-use Rattle.iop_kernel.proofs.Placing.Objects.{object_of_id}
 use Rattle.iop_kernel.proofs.Readings.WordBytes.{length-bytes_of_words}
 use Rattle.iop_kernel.proofs.Walk.Moves.{EachMoves, CoreEnds, BoardEnds}
 use Rattle.iop_kernel.proofs.Walk.Threads.{only}

@@ -11,6 +11,7 @@ use Rattle.iop_pools.specs.Ranges.{is_out, without}
 use Rattle.iop_pools.specs.VariablePools as pools
 use Rattle.iop_pools.specs.VariablePools.{VariablePools, pool_length, place_of}
 use Rattle.iop_pools.specs.declared.variable_pool.TheConstants.{VARIABLE_UNIT}
+use Rattle.iop_pools.proofs.Rounding.{rounded_unplaced}
 use Rattle.iop_pools.proofs.Sizes.{variable_units}
 use Rattle.iop_sysmem.specs.Allocating.{allocating}
 use Rattle.iop_sysmem.specs.BlockMap.{BlockMap}
@@ -126,7 +127,8 @@ module _ {P : System → List Piece → Type 0} {Q : After → System → List P
         takes_by (λ (r : Result ℕ Code × VariablePools). CoreGoes (takes_or_waits c id size r))
         refused
         (λ x known full.
-        waits_goes e VariablePool m asks leave id x size may known full tt (caller c) refl)
+        waits_goes e VariablePool m asks leave id x (pool_length size) may known
+        (rounded_unplaced x size full) tt (caller c) refl)
         took (state_of vpls id) refl)
         (λ cannot. only e _)
 

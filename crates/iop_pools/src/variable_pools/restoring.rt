@@ -3,8 +3,7 @@
 ghost use Rattle.std.specs.Prelude.{◌≡◌, if◌then◌else◌};
 ghost use Rattle.iop_objects.specs.Restoring.{may_be_next, with_next};
 ghost use Rattle.iop_pools.specs.Restoring.{holds_of, may_be_out, with_out_last};
-ghost use Rattle.iop_pools.specs.VariablePools.{waits};
-ghost use Rattle.iop_pools.specs.VariableRestoring.{may_put, puts, may_be_wanted, may_put_waiter};
+ghost use Rattle.iop_pools.specs.VariableRestoring.{may_put, puts, may_be_wanted, may_put_waiter, puts_waiter};
 
 use crate::variable_layout::VariableLayout;
 use crate::variable_pool::VARIABLE_UNIT;
@@ -57,7 +56,7 @@ impl VariablePools {
     pub fn put_waiter(&mut self, id: u32, thread: u32, size: u32, priority: u8) -> bool
         ensures may { result ≡ may_put_waiter self.old id size }
         ensures put { self.new
-            ≡ if result then waits self.old id thread priority size else self.old }
+            ≡ if result then puts_waiter self.old id thread priority size else self.old }
     {
         if !self.may_be_wanted(id, size) {
             return false;

@@ -73,7 +73,7 @@ wait-requires c =
     let none : c.in_ok-pools.pools ≡ no_objects = search rules in
     let out =
     all_taken c.args.attr none c.create.ensures.left c.take.ensures.left c.take-2.ensures.left in
-    let all = subst (IsReady 48) (sym out) (ready c.args.attr 48 [] (lit≤ tt) (lit< tt) refl) in
+    let all = subst (IsReady 47) (sym out) (ready c.args.attr 47 [] (lit≤ tt) (lit< tt) refl) in
     record {
       live = all.live;
       room = all.room;
@@ -88,9 +88,9 @@ wait-requires-2 c =
     let out =
     all_taken c.args.attr none c.create.ensures.left c.take.ensures.left c.take-2.ensures.left in
     let one : c.wait.new.self ≡ one_pool c.args.attr all_out (waiter 10 13 48 ∷ []) =
-    c.wait.ensures ∙ ap (λ s. waits s 1 13 10 48) out in
+    c.wait.ensures ∙ ap (λ s. waits s 1 13 10 47) out in
     let all =
-    subst (IsReady 16) (sym one) (ready c.args.attr 16 (waiter 10 13 48 ∷ []) (lit≤ tt) (lit< tt)
+    subst (IsReady 1) (sym one) (ready c.args.attr 1 (waiter 10 13 48 ∷ []) (lit≤ tt) (lit< tt)
     refl) in
     record {
       live = all.live;
@@ -106,10 +106,10 @@ wait-requires-3 c =
     let out =
     all_taken c.args.attr none c.create.ensures.left c.take.ensures.left c.take-2.ensures.left in
     let one : c.wait.new.self ≡ one_pool c.args.attr all_out (waiter 10 13 48 ∷ []) =
-    c.wait.ensures ∙ ap (λ s. waits s 1 13 10 48) out in
+    c.wait.ensures ∙ ap (λ s. waits s 1 13 10 47) out in
     let two : c.wait-2.new.self
     ≡ one_pool c.args.attr all_out (waiter 10 13 48 ∷ waiter 30 14 16 ∷ []) =
-    c.wait-2.ensures ∙ ap (λ s. waits s 1 14 30 16) one in
+    c.wait-2.ensures ∙ ap (λ s. waits s 1 14 30 1) one in
     let all =
     subst (IsReady 16) (sym two) (ready c.args.attr 16
     (waiter 10 13 48 ∷ waiter 30 14 16 ∷ []) (lit≤ tt) (lit< tt) refl) in

@@ -1,14 +1,13 @@
 use Rattle.std.proofs.Common.{◌≡◌, ℕ, true, false, List, Option, is_some, set, sym, ap, subst, ◌∙◌, arith}
 use Rattle.iop_base.specs.Bits.{ChangesOnly}
-use Rattle.iop_intr.specs.InterruptLines.{IrqLine}
 use Rattle.iop_intr.specs.Laws.{line_with}
 use Rattle.iop_intr.specs.declared.handler.Handler.{Handler}
-use Rattle.iop_intr.specs.declared.line.Line.{Line}
+use Rattle.iop_intr.specs.declared.irq_line.IrqLine.{IrqLine}
 use Rattle.iop_intr.proofs.Calls.{puts, puts_without}
 use Rattle.iop_intr.proofs.irqs.Irqs.put_line.Goals as goal
 
 -- the lines where the one that is put has this handler
-abbrev given : List IrqLine → ℕ → Line → Option Handler → List IrqLine
+abbrev given : List IrqLine → ℕ → IrqLine → Option Handler → List IrqLine
 given lines n line handler = set lines n (line_with line.raised line.enabled handler)
 
 pub returns-in-Some : goal.returns-in-Some

@@ -1,4 +1,4 @@
-use Rattle.std.proofs.Common.{◌∙◌, sym, ap, subst, arith, true, List}
+use Rattle.std.proofs.Common.{◌∙◌, sym, ap, subst, arith, List}
 use Rattle.iop_pools.specs.Restoring.{may_be_out, with_out_last}
 use Rattle.iop_pools.specs.Standing.{pools_in, IsTable}
 use Rattle.iop_pools.specs.declared.out.Out.{Out}

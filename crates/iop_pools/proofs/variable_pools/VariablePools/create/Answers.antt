@@ -1,5 +1,6 @@
-use Rattle.std.proofs.Common.{arith}
+use Rattle.std.proofs.Common.{refl, arith, div-add-mod'}
 use Rattle.std.specs.Int.{div_ceil}
+use Rattle.iop_pools.proofs.Variable.{same_variable, variable_creates}
 use Rattle.iop_pools.proofs.variable_pools.VariablePools.create.Goals as goal
 
 pub create-requires : goal.create-requires
@@ -16,3 +17,12 @@ create-requires c =
         placed = tt;
       },
     )
+
+pub invariant_of-self : goal.invariant_of-self
+invariant_of-self c =
+    same_variable c.create.ensures.left
+    (variable_creates c.self.inside.pools c.self.invariant _
+    (record {
+      unit = refl;
+      most = omega (arith, c.requires.size, c.pool_length.ensures, div-add-mod' c.args.size 16);
+    }))

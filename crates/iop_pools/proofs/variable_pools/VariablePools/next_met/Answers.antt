@@ -1,6 +1,7 @@
 use Rattle.std.proofs.Common.{◌≡◌, ◌∙◌, sym, ap, arith, rules, None}
 use Rattle.iop_pools.specs.VariablePools.{meets_next}
 use Rattle.iop_pools.proofs.Meeting.{meets_unknown, meets_none, left_none, wants_some, met_answer, met_left, unmet_answer, unmet_left}
+use Rattle.iop_pools.proofs.Variable.{same_variable, variable_takes, variable_takes_where}
 use Rattle.iop_pools.proofs.variable_pools.VariablePools.next_met.Goals as goal
 
 pub take-requires : goal.take-requires
@@ -79,3 +80,27 @@ returns-in_err-block-clause-left c =
     c.take_waiter_where.new.self c.in_ok-waiter.ensures.left
     c.in_err-block.ensures.answer
     ∙ ap (λ s. (meets_next s c.args.id).1) c.self.view_is
+
+pub invariant_of-self-in_err-block : goal.invariant_of-self-in_err-block
+invariant_of-self-in_err-block c =
+    let left = c.take_waiter_where.new.self in
+    same_variable c.take.ensures.left
+    (variable_takes left
+    (same_variable c.in_ok-waiter.ensures.left
+    (variable_takes_where c.self.inside.pools c.self.invariant c.args.id _ _))
+    c.args.id c.in_ok-waiter.waiter.wants
+    (wants_some c.self.inside.pools c.args.id _ c.in_ok-room.room
+    c.in_ok-room.ensures.known c.in_ok-room.ensures.sound c.in_ok-waiter.waiter
+    c.in_ok-waiter.ensures.answer))
+
+pub invariant_of-self-2 : goal.invariant_of-self-2
+invariant_of-self-2 c =
+    let left = c.take_waiter_where.new.self in
+    same_variable c.take.ensures.left
+    (variable_takes left
+    (same_variable c.in_ok-waiter.ensures.left
+    (variable_takes_where c.self.inside.pools c.self.invariant c.args.id _ _))
+    c.args.id c.in_ok-waiter.waiter.wants
+    (wants_some c.self.inside.pools c.args.id _ c.in_ok-room.room
+    c.in_ok-room.ensures.known c.in_ok-room.ensures.sound c.in_ok-waiter.waiter
+    c.in_ok-waiter.ensures.answer))

@@ -1,5 +1,6 @@
 use Rattle.std.proofs.Common.{◌≡◌, ⊎_elim, sym, arith}
 use Rattle.std.proofs.lemmas.Bool.{cases_lt}
+use Rattle.iop_thread.proofs.IdOrder.{own_ids}
 use Rattle.iop_thread.proofs.ListedThreads.{all_are, not_all}
 use Rattle.iop_thread.proofs.restored_threads.RestoredThreads.are_listed.Goals as goal
 
@@ -18,6 +19,7 @@ loop-place-preserved g c = λ s r slot below.
 
 pub returns : goal.returns
 returns g c = λ s r.
-    sym (all_are g.R.Ready.stands r.place c.args.self.now.threads s r.holds r.placed.ids
+    sym (all_are g.R.Ready.stands r.place c.args.self.now.threads s r.holds
+    (own_ids s.live s.next r.placed.ids)
     (λ slot below.
     c.loop-place.invariant s r slot (omega (arith, below, c.loop-place-test.false))))

@@ -28,7 +28,7 @@ returns g c = λ s h.
     let room = has_room-free g.R.Ready.stands h.place t s h.holds (Some slot) is in
     let some : has_room s ≡ true = grind (arith, nat_tests, room, c.if-self-gt-LAST_ID.false) in
     let none : thread_of s.live u.id ≡ None =
-    rw (c.dormant.ensures, ← h.holds.next) (none_of_next s.live s.next h.placed.given) in
+    rw (c.dormant.ensures, ← h.holds.next) (none_of_next s.live s.next h.placed.ids.given) in
     let left = comes g.R.Ready.stands h.place t s h.holds slot u none free.0 free.1
     (running_is_live s h.placed) in
     settled g.R.Ready.stands (place_with h.place u.id slot)

@@ -8,8 +8,9 @@ use Rattle.std.proofs.lemmas.Option.{same_Some}
 use Rattle.iop_base.specs.declared.code.Code.{Code}
 use Rattle.iop_objects.specs.Objects.{Object, Objects, object_of, state_of, waiters_in, waiters_of, has_room, creates, deletes, changes, with_state, with_waiters}
 use Rattle.iop_queues.specs.declared.queued.Queued.{Queued}
+use Rattle.iop_objects.specs.Restoring.{with_last}
 use Rattle.iop_objects.specs.declared.waiter.Waiter.{Waiter}
-use Rattle.iop_kernel.proofs.Placing.Objects.{changed, object_of_id, object_of_changed, object_of_without}
+use Rattle.iop_objects.proofs.Others.{changed, object_of_id, object_of_changed, object_of_without}
 
 module _ {A W : Type 0} (Q : A → List (Queued (Waiter W)) → Type 0) where
   -- a fact of what is known of an object and of those that wait for it holds of each one
@@ -21,7 +22,7 @@ module _ {A W : Type 0} (Q : A → List (Queued (Waiter W)) → Type 0) where
   HoldsOf o = Q o.state o.waiters
 
   -- it holds of each where it holds of each one that is found
-  each_from_found : (s : Objects A W)
+  pub each_from_found : (s : Objects A W)
       → ((id : ℕ) (o : Object A W) → object_of s.live id ≡ Some o → HoldsOf o) → HoldsOfEach s
   each_from_found s all id x is = by (object_of s.live id) refl is
     where
@@ -75,26 +76,28 @@ module _ {A W : Type 0} (Q : A → List (Queued (Waiter W)) → Type 0) (s : Obj
       each_changes n (λ o. record o { state = state }) (λ o. refl)
       (λ o found. subst (Q state) (ap waiters_in found) now)
 
-  -- an object as it is made
-  abbrev made : A → Object A W
-  made state = record { id = s.next; state = state; waiters = [] }
+  -- one comes behind all others, of which it holds
+  module _ (n : ℕ) (state : A) (first : Q state []) where
+    abbrev last : Object A W
+    last = record { id = n; state = state; waiters = [] }
 
-  -- one is made, of which it holds
+    pub each_with_last : HoldsOfEach Q (with_last s n state)
+    each_with_last =
+        each_from_found Q (with_last s n state) (λ id o found. by id o (object_of s.live id) refl
+        (sym (find-append (λ o. o.id == id) s.live (last ∷ [])) ∙ found))
+      where
+        by : (id : ℕ) (o : Object A W) (p : Option (Object A W)) → object_of s.live id ≡ p
+            → option_or p (if last.id == id then Some last else None) ≡ Some o → HoldsOf Q o
+        by id o (Some p) was = λ is. found_holds id o (was ∙ is)
+        by id o None was =
+            cond_both (last.id == id) _ None (λ found. found ≡ Some o → HoldsOf Q o)
+            (λ it is. subst (HoldsOf Q) (same_Some last o is) first) (λ other is. cc)
+
+  -- so where one is made
   pub each_creates : (state : A) → Q state [] → HoldsOfEach Q (creates s state).1
   each_creates state first =
       cond_both (has_room s) _ _ (λ (r : Result ℕ Code × Objects A W). HoldsOfEach Q r.1)
-      (λ room. each_from_found Q (record { live = s.live ++ made state ∷ []; next = s.next + 1 })
-      (λ id o found. by id o (object_of s.live id) refl
-      (sym (find-append (λ o. o.id == id) s.live (made state ∷ [])) ∙ found)))
-      (λ full. h)
-    where
-      by : (id : ℕ) (o : Object A W) (p : Option (Object A W)) → object_of s.live id ≡ p
-          → option_or p (if (made state).id == id then Some (made state) else None) ≡ Some o
-          → HoldsOf Q o
-      by id o (Some p) was = λ is. found_holds id o (was ∙ is)
-      by id o None was =
-          cond_both ((made state).id == id) _ None (λ found. found ≡ Some o → HoldsOf Q o)
-          (λ it is. subst (HoldsOf Q) (same_Some (made state) o is) first) (λ other is. cc)
+      (λ room. each_with_last s.next state first) (λ full. h)
 
   -- one is deleted
   pub each_deletes : (n : ℕ) → HoldsOfEach Q (deletes s n)

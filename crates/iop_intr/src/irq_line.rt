@@ -2,7 +2,7 @@ use crate::handler::Handler;
 
 /// How an interrupt line stands.
 #[derive(Clone, Copy, Debug, PartialEq, Eq, Drop)]
-pub struct Line {
+pub struct IrqLine {
     /// Whether it is raised.
     pub raised: bool,
     /// Whether it is enabled.
