@@ -1,2 +1,3 @@
+pub mod KeepLemmas
 pub mod Shelving
 pub mod SinkLemmas

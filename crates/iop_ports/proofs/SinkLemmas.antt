@@ -22,6 +22,7 @@ fails_later {old} {middle} {new} xs ys e f =
       taken = h.taken ∙ extended-extended old.taken xs ys;
       cause = h.cause;
       never_falls = h.never_falls;
+      keep = h.keep;
     }
 
 -- the rest of a list, as a slice has it

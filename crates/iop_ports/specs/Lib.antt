@@ -5,6 +5,10 @@ pub mod Calls
 pub mod Shelf
 pub mod MemFiles
 pub mod SureFiles
+pub mod Keeps
 pub mod Sinks
+pub mod Creating
 pub mod MemSink
+pub mod MemKeep
+pub mod Laws
 pub mod Places

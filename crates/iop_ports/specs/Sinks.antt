@@ -3,12 +3,19 @@ use Rattle.std.specs.Prelude.{◌≡◌, ℕ, ◌≤◌, Bool, true, false, Opti
 use Rattle.iop_base.specs.Counts.{HasCause}
 use Rattle.iop_base.specs.Piece.{IsFrontOf}
 use Rattle.iop_base.specs.Output.{extended}
+use Rattle.iop_ports.specs.Keeps.{KeepTold, nothing_told}
 
 pub record SinkTold : Type 0 where
   -- the bytes that it has taken, where it tells them
   pub taken : Option (List ℕ)
-  -- how often a write has failed
+  -- how often a call has failed
   pub faults : ℕ
+  -- what no write changes: the calls that created its file
+  pub keep : KeepTold
+
+-- what a sink tells that is no keep
+abbrev pub plain_sink : Option (List ℕ) → ℕ → SinkTold
+plain_sink taken faults = record { taken = taken; faults = faults; keep = nothing_told }
 
 -- after it took these bytes, with no failure
 abbrev pub after_taking : List ℕ → SinkTold → SinkTold
@@ -19,6 +26,7 @@ pub record FailsAfter (bytes : List ℕ) (old new : SinkTold) : Type 0 where
   pub taken : new.taken ≡ extended old.taken bytes
   pub cause : HasCause old.faults new.faults
   pub never_falls : old.faults ≤ new.faults
+  pub keep : new.keep ≡ old.keep
 
 -- a write failed before the piece was whole: a front of it was taken
 pub record IsSentShort (piece : List ℕ) (old new : SinkTold) : Type 0 where

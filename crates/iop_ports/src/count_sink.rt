@@ -1,4 +1,5 @@
 ghost use Rattle.std.specs.Prelude.{◌≡◌, ◌+◌, ◌-◌, ◌^◌, None, Ok, length, min};
+ghost use Rattle.iop_ports.specs.Sinks.{plain_sink};
 
 use crate::ports::{Failed, Sink};
 
@@ -19,7 +20,7 @@ impl CountSink {
 }
 
 impl Sink for CountSink {
-    ghost told = { λ _. record { taken = None; faults = 0 } };
+    ghost told = { λ _. plain_sink None 0 };
 
     /// Counts the whole piece. It never fails.
     fn write(&mut self, piece: &[u8]) -> Result<usize, Failed>

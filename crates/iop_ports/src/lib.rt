@@ -4,7 +4,10 @@
 mod calls;
 mod count_sink;
 mod disk_files;
+mod disk_keep;
+mod laws;
 mod mem_files;
+mod mem_keep;
 mod mem_sink;
 mod ports;
 mod sending;
@@ -15,9 +18,12 @@ mod trickle_sink;
 
 pub use count_sink::CountSink;
 pub use disk_files::DiskFiles;
+pub use disk_keep::DiskKeep;
+pub use laws::creations_come_first;
 pub use mem_files::MemFiles;
+pub use mem_keep::MemKeep;
 pub use mem_sink::MemSink;
-pub use ports::{Failed, Files, Sink};
+pub use ports::{Failed, Files, Keep, Sink};
 pub use sending::send;
 pub use stream_sink::StreamSink;
 pub use sure_files::SureFiles;

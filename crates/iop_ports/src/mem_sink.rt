@@ -1,5 +1,8 @@
-ghost use Rattle.std.specs.Prelude.{◌≡◌, ◌≤◌, Some, IfOk, is_err};
+ghost use Rattle.std.specs.Prelude.{◌≡◌, ◌≤◌, false, Some, IfOk, is_err, []};
+ghost use Rattle.iop_base.specs.Counts.{risen};
+ghost use Rattle.iop_ports.specs.Calls.{is_listed, with_call};
 ghost use Rattle.iop_ports.specs.MemSink.{empty_sink, write_fails, taken_count, after_write};
+ghost use Rattle.iop_ports.specs.Sinks.{plain_sink};
 
 use crate::calls::Calls;
 use crate::ports::{Failed, Sink};
@@ -62,10 +65,35 @@ impl MemSink {
     {
         self.calls.faults()
     }
+
+    /// Counts a call that is no write, and answers whether its number is listed.
+    pub(crate) fn begin_call(&mut self) -> bool
+        ensures listed { result ≡ is_listed self.old.calls }
+        ensures counted { self.new ≡ record self.old { calls = with_call false self.old.calls } }
+    {
+        self.calls.begin()
+    }
+
+    /// Counts the failure of the call that was begun last.
+    pub(crate) fn fail_call(&mut self)
+        ensures counted { self.new ≡ record self.old {
+          calls = record self.old.calls { faults = risen self.old.calls.faults };
+        } }
+        ensures never_falls { self.old.calls.faults ≤ self.new.calls.faults }
+    {
+        self.calls.fail();
+    }
+
+    /// Drops its bytes.
+    pub(crate) fn clear(&mut self)
+        ensures { self.new ≡ record self.old { bytes = [] } }
+    {
+        self.bytes.clear();
+    }
 }
 
 impl Sink for MemSink {
-    ghost told = { λ sink. record { taken = Some sink.bytes; faults = sink.calls.faults } };
+    ghost told = { λ sink. plain_sink (Some sink.bytes) sink.calls.faults };
 
     /// Takes as much of the front of `piece` as the room that is left holds. It fails where the
     /// call's number is listed or no room is left.

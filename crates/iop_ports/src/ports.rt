@@ -3,6 +3,7 @@ ghost use Rattle.std.specs.Result.{result_unwrap_or};
 ghost use Rattle.iop_base.specs.Counts.{HasCause};
 ghost use Rattle.iop_ports.specs.Files.{FilesTold, after_opening, after_reading, Reads};
 ghost use Rattle.iop_ports.specs.Sinks.{SinkTold, after_taking, FailsAfter};
+ghost use Rattle.iop_ports.specs.Creating.{Creates};
 
 /// A call to the outside failed.
 #[derive(Clone, Copy, Debug, PartialEq, Eq)]
@@ -52,4 +53,14 @@ pub trait Sink {
             told self.new ≡ after_taking (take n piece.now) (told self.old)) }
         ensures fails { OnErr result (FailsAfter [] (told self.old) (told self.new)) }
         ensures empty { length piece.now ≡ 0 → IsOk result };
+}
+
+/// A sink whose bytes are those of a file, once it is created.
+///
+/// Writes change nothing of what it tells of the calls of `create`.
+pub trait Keep: Sink {
+    /// Creates the file of this name, given as it is, in place of one that is there: from then on
+    /// its bytes are those that are written. A call that fails leaves the bytes that were taken.
+    fn create(&mut self, name: &str) -> Result<(), Failed>
+        ensures { Creates (is_ok result) name.now (Self.told self.old) (Self.told self.new) };
 }

@@ -1,4 +1,5 @@
-ghost use Rattle.std.specs.Prelude.{◌≡◌, None};
+ghost use Rattle.std.specs.Prelude.{◌≡◌, ◌<◌, ◌≤◌, None, IfSome, length};
+ghost use Rattle.iop_ports.specs.Sinks.{plain_sink};
 
 use crate::ports::{Failed, Sink};
 use std::io::Write;
@@ -23,7 +24,7 @@ impl<W: Write + Drop> StreamSink<W> {
 }
 
 impl<W: Write + Drop> Sink for StreamSink<W> {
-    ghost told = { λ sink. record { taken = None; faults = sink.faults } };
+    ghost told = { λ sink. plain_sink None sink.faults };
 
     /// Writes once. It fails with each error of the writer, and where the writer takes nothing. The
     /// write of an empty piece does not reach the writer.
@@ -31,12 +32,22 @@ impl<W: Write + Drop> Sink for StreamSink<W> {
         if piece.is_empty() {
             return Ok(0);
         }
-        match self.writer.write(piece) {
-            Ok(count) if count > 0 => Ok(count),
-            _ => {
+        match write_some(&mut self.writer, piece) {
+            Some(count) => Ok(count),
+            None => {
                 self.faults = self.faults.saturating_add(1);
                 Err(Failed)
             }
         }
+    }
+}
+
+/// Writes once and answers how many bytes were taken: none where the writer fails or takes nothing.
+pub(crate) fn write_some<W: Write>(writer: &mut W, piece: &[u8]) -> Option<usize>
+    ensures { IfSome result (λ n. (0 < n) × (n ≤ length piece.now)) }
+{
+    match writer.write(piece) {
+        Ok(count) if count > 0 => Some(count),
+        _ => None,
     }
 }

@@ -1,5 +1,6 @@
 ghost use Rattle.std.specs.Prelude.{◌≡◌, ◌≤◌, Some, IfOk, is_err, take};
 ghost use Rattle.iop_ports.specs.MemSink.{empty_sink, write_fails, taken_count, after_write};
+ghost use Rattle.iop_ports.specs.Sinks.{plain_sink};
 
 use crate::mem_sink::MemSink;
 use crate::ports::{Failed, Sink};
@@ -57,7 +58,7 @@ impl TrickleSink {
 }
 
 impl Sink for TrickleSink {
-    ghost told = { λ sink. record { taken = Some sink.bytes; faults = sink.calls.faults } };
+    ghost told = { λ sink. plain_sink (Some sink.bytes) sink.calls.faults };
 
     /// Takes the first byte of `piece`. It fails where the call's number is listed or no room is
     /// left.

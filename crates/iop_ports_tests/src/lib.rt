@@ -1,5 +1,8 @@
-//! Tests of iop_ports: what files and sinks answer, in memory and of the host, and where they fail.
+//! Tests of iop_ports: what files, sinks and keeps answer, in memory and of the host, and where they
+//! fail.
 #![tactic(auto)]
 
+#[cfg(test)]
+mod keeps;
 #[cfg(test)]
 mod tests;

@@ -20,7 +20,12 @@ fn reads<F: Files>(rt: &impl Abort, files: &mut F, wanted: &str) -> Result<(), F
 }
 
 /// Writes the piece once and compares the answer.
-fn writes<S: Sink>(rt: &impl Abort, sink: &mut S, piece: &str, wanted: Result<usize, Failed>) {
+pub(crate) fn writes<S: Sink>(
+    rt: &impl Abort,
+    sink: &mut S,
+    piece: &str,
+    wanted: Result<usize, Failed>,
+) {
     assert_eq!(rt; sink.write(piece.as_bytes()), wanted);
 }
 

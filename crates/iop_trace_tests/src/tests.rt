@@ -30,8 +30,9 @@ impl Counter {
 
 impl Sink for Counter {
     ghost use Rattle.std.specs.Prelude.{Some};
+    ghost use Rattle.iop_ports.specs.Sinks.{plain_sink};
 
-    ghost told = { λ sink. record { taken = Some sink.bytes.items; faults = sink.faults } };
+    ghost told = { λ sink. plain_sink (Some sink.bytes.items) sink.faults };
 
     fn write(&mut self, piece: &[u8]) -> Result<usize, Failed> {
         self.writes = self.writes.saturating_add(1);

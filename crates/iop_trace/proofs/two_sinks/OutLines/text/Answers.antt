@@ -3,7 +3,7 @@ use Rattle.iop_trace.proofs.Sending.{text_gives}
 use Rattle.iop_trace.proofs.two_sinks.OutLines.text.Goals as goal
 
 pub returns-then-not-self : goal.returns-then-not-self
-returns-then-not-self g c = text_gives _ _ _ _ c.if-not-self.true _ _ _ c.send.ensures
+returns-then-not-self g c = text_gives _ _ _ _ c.if-not-self.true _ _ _ _ c.send.ensures
 
 pub returns-else-not-self : goal.returns-else-not-self
 returns-else-not-self g c = failed_gives _ _ c.if-not-self.false
