@@ -16,6 +16,7 @@ use Rattle.iop_snapshot.proofs.Putting.{next_series}
 use Rattle.iop_saved_tables.specs.Laws.{FormsAreLawful}
 use Rattle.iop_saved_tables.specs.Records.{alarm_numbers, alarm_of, alarm_form, delay_numbers, delay_of, delay_form, block_numbers, block_of, block_form, library_numbers, library_of, library_form, stub_numbers, stub_of, stub_form, next_stub}
 use Rattle.iop_saved_tables.specs.Tables.{put_alarm, put_delay, put_library, put_used, unopened}
+use Rattle.iop_saved_tables.proofs.LineLaws.{lines_lawful}
 
 alarm_lawful : IsLawful alarm_form
 unfolding alarm_form item
@@ -120,6 +121,7 @@ forms_lawful = record {
   delays = λ timers.
       series_lawful delay_form (next_form put_delay delay_form timers)
       (next_series put_delay delay_form delay_lawful timers);
+  lines = lines_lawful;
   blocks = λ map.
       tested_lawful (series block_form (next_form put_used block_form (unopened map)))
       (λ used. nat_lt 0 (length used))

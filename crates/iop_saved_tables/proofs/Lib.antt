@@ -1,3 +1,4 @@
 pub mod Names
 pub mod Opening
+pub mod LineLaws
 pub mod Lawful

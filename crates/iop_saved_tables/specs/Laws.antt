@@ -1,12 +1,22 @@
 -- What the laws of the forms say.
+use Rattle.iop_registry.specs.Restoring as registry
 use Rattle.iop_registry.specs.declared.registry.Entry.{Entry}
 use Rattle.iop_snapshot.specs.Forms.{IsLawful, series}
-use Rattle.iop_snapshot.specs.Putting.{next_form}
+use Rattle.iop_snapshot.specs.Putting.{put_all, next_form}
+use Rattle.iop_stubs.specs.Restoring.{stubs_put_back}
+use Rattle.iop_stubs.specs.Stubs.{Memory}
+use Rattle.iop_stubs.specs.declared.live_stub.Stub.{Stub}
 use Rattle.iop_sysmem.specs.BlockMap.{BlockMap}
+use Rattle.iop_sysmem.specs.Restoring as blocks
+use Rattle.iop_sysmem.specs.declared.block.Block.{Block}
+use Rattle.iop_time.specs.Restoring.{alarms_put_back, delays_put_back}
 use Rattle.iop_time.specs.Timers.{Timers}
-use Rattle.std.specs.Prelude.{List}
+use Rattle.iop_time.specs.declared.alarm.Alarm.{Alarm}
+use Rattle.iop_time.specs.declared.delay.Delay.{Delay}
+use Rattle.std.specs.Prelude.{◌≡◌, List}
+use Rattle.iop_saved_tables.specs.Lines.{lines_form}
 use Rattle.iop_saved_tables.specs.Records.{alarm_form, delay_form, library_form, stub_form, next_stub}
-use Rattle.iop_saved_tables.specs.Tables.{put_alarm, put_delay, put_library, used_form}
+use Rattle.iop_saved_tables.specs.Tables.{put_alarm, put_delay, put_block, put_library, put_stub, used_form}
 
 -- what was spelled is read, whatever follows, and what was read is what is spelled
 pub record FormsAreLawful : Type 0 where
@@ -14,7 +24,22 @@ pub record FormsAreLawful : Type 0 where
       → IsLawful (series alarm_form (next_form put_alarm alarm_form timers))
   pub delays : (timers : Timers)
       → IsLawful (series delay_form (next_form put_delay delay_form timers))
+  pub lines : IsLawful lines_form
   pub blocks : (map : BlockMap) → IsLawful (used_form map)
   pub libraries : (libraries : List Entry)
       → IsLawful (series library_form (next_form put_library library_form libraries))
   pub stubs : IsLawful (series stub_form next_stub)
+
+-- to put records back one after the other is what each table's crate says of it: so all that stands
+-- in a table comes back, as its law says
+pub record TablesArePutBack : Type 0 where
+  pub alarms : (timers : Timers) (alarms : List Alarm)
+      → put_all put_alarm timers alarms ≡ alarms_put_back timers alarms
+  pub delays : (timers : Timers) (delays : List Delay)
+      → put_all put_delay timers delays ≡ delays_put_back timers delays
+  pub blocks : (map : BlockMap) (used : List Block)
+      → put_all put_block map used ≡ blocks.with_all map used
+  pub libraries : (old new : List Entry)
+      → put_all put_library old new ≡ registry.with_all old new
+  pub stubs : (memory : Memory) (stubs : List Stub)
+      → put_all put_stub memory stubs ≡ stubs_put_back memory stubs

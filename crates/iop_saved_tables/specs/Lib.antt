@@ -1,5 +1,5 @@
 pub mod Records
+pub mod Lines
 pub mod Tables
-pub mod Begins
 pub mod Opened
 pub mod Laws

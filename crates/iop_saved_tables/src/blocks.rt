@@ -7,7 +7,7 @@ ghost use Rattle.iop_snapshot.specs.Putting.{put_all, next_form, PutsOne};
 ghost use Rattle.iop_snapshot.specs.Reading.{GivesNone};
 ghost use Rattle.iop_snapshot.specs.Writing.{place_of, Writes};
 ghost use Rattle.iop_snapshot.specs.declared.widths.TheConstants.{USED_RANGE as WIDTHS};
-ghost use Rattle.iop_saved_tables.specs.Begins.{none_put};
+ghost use Rattle.iop_snapshot.specs.Begins.{none_put};
 ghost use Rattle.iop_saved_tables.specs.Records.{block_numbers, block_form};
 ghost use Rattle.iop_sysmem.specs.declared.block.Block.{Block};
 ghost use Rattle.iop_saved_tables.specs.Opened.{opened};

@@ -6,7 +6,7 @@ ghost use Rattle.iop_snapshot.specs.Items.{fits_item};
 ghost use Rattle.iop_snapshot.specs.Putting.{put_all, next_form, PutsOne, PutsAll};
 ghost use Rattle.iop_snapshot.specs.Writing.{place_of, Writes};
 ghost use Rattle.iop_snapshot.specs.declared.widths.TheConstants.{LIBRARY as WIDTHS};
-ghost use Rattle.iop_saved_tables.specs.Begins.{none_put};
+ghost use Rattle.iop_snapshot.specs.Begins.{none_put};
 ghost use Rattle.iop_saved_tables.specs.Records.{library_numbers, library_form};
 ghost use Rattle.iop_saved_tables.specs.Tables.{put_library};
 

@@ -9,7 +9,7 @@ ghost use Rattle.iop_snapshot.specs.Writing.{place_of, Writes};
 ghost use Rattle.iop_snapshot.specs.declared.widths.TheConstants.{STUB as WIDTHS};
 ghost use Rattle.iop_stubs.specs.declared.live_stub.Stub.{Stub as LiveStub};
 ghost use Rattle.iop_stubs.specs.declared.live_stub.TheConstants.Stub.{MOST_LIVE};
-ghost use Rattle.iop_saved_tables.specs.Begins.{none_behind};
+ghost use Rattle.iop_snapshot.specs.Begins.{none_behind};
 ghost use Rattle.iop_saved_tables.specs.Records.{stub_numbers, stub_form, next_stub};
 ghost use Rattle.iop_saved_tables.specs.Tables.{put_stub};
 

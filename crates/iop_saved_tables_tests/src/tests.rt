@@ -1,8 +1,9 @@
+use iop_intr::{Handler, IrqLine};
 use iop_ports::MemSink;
 use iop_registry::Registry;
 use iop_saved_tables::{
-    put_stubs, restore_alarms, restore_blocks, restore_delays, restore_libraries, restore_stubs,
-    save_alarms, save_blocks, save_delays, save_libraries,
+    put_stubs, restore_alarms, restore_blocks, restore_delays, restore_libraries, restore_lines,
+    restore_stubs, save_alarms, save_blocks, save_delays, save_libraries, save_lines,
 };
 use iop_snapshot::{Decoder, Encoder, SnapFault};
 use iop_stubs::Guest;
@@ -49,6 +50,17 @@ const STUBS: [u8; 23] = [
     8, 0, 1, 0, b'a', b'b', 0, 0, 0, 0, 0, 0, 1, 4, 0, 0, 0, 2, 0,
 ];
 
+/// A line that is enabled: its handler, the handler's argument, and gp.
+const LINE: [u8; 15] = [0, 1, 1, 4, 0, 1, 0, 5, 0, 0, 0, 6, 0, 0, 0];
+
+/// The bytes of all lines: the first is raised, the last is that one, the others are idle.
+fn lines() -> [u8; 960] {
+    let mut bytes = [0; 960];
+    bytes[0] = 1;
+    bytes[945..].copy_from_slice(&LINE);
+    bytes
+}
+
 /// Makes a copy of bytes with another one at a place, if there is one.
 fn with_byte(alloc: Global, bytes: &[u8], place: usize, byte: u8) -> Result<Vec<u8>, AllocError> {
     let mut changed = Vec::from_slice(alloc, bytes)?;
@@ -60,7 +72,7 @@ fn with_byte(alloc: Global, bytes: &[u8], place: usize, byte: u8) -> Result<Vec<
 
 /// A sink with room for the bytes of a test.
 fn sink(alloc: Global) -> Result<MemSink, AllocError> {
-    MemSink::new(alloc, 100, Vec::new(alloc))
+    MemSink::new(alloc, 1000, Vec::new(alloc))
 }
 
 /// Restores alarms into an empty clock.
@@ -104,6 +116,22 @@ fn libraries_again(alloc: Global, bytes: &[u8]) -> Result<MemSink, SnapFault> {
     Ok(sink)
 }
 
+/// Restores lines and writes them again.
+fn lines_again(alloc: Global, bytes: &[u8]) -> Result<MemSink, SnapFault> {
+    let mut sink = sink(alloc)?;
+    let Some(lines) = restore_lines(&mut Decoder::new(bytes)) else {
+        return Err(SnapFault::Bad);
+    };
+    let _ = save_lines(&lines, &mut Encoder::new(&mut sink));
+    Ok(sink)
+}
+
+/// The last line of those that are restored, if they are.
+fn last_line(bytes: &[u8]) -> Option<IrqLine> {
+    let lines = restore_lines(&mut Decoder::new(bytes))?;
+    Some(lines.line(63))
+}
+
 /// Whether a sink was written these bytes.
 fn is_written(sink: Result<MemSink, SnapFault>, wanted: &[u8]) -> bool {
     match sink {
@@ -121,6 +149,31 @@ fn lists_come_back(rt: HostRuntime) {
         is_written(libraries_again(alloc, &LIBRARIES), &LIBRARIES),
         true
     );
+}
+
+#[test]
+fn lines_come_back(rt: HostRuntime) -> Result<(), Fail> {
+    let alloc = rt.alloc();
+    let bytes = lines();
+    let handler = Handler {
+        address: 0x1_0004,
+        arg: 5,
+        gp: 6,
+    };
+    let last = IrqLine {
+        raised: false,
+        enabled: true,
+        handler: Some(handler),
+    };
+    assert_eq!(rt; last_line(&bytes), Some(last));
+    assert_eq!(rt; is_written(lines_again(alloc, &bytes), &bytes), true);
+    assert_eq!(rt; last_line(&bytes[1..]), None);
+    // No truth values, and a handler, an argument and a gp where there is no handler.
+    for (place, byte) in [(0, 2), (1, 2), (2, 2), (3, 1), (7, 1), (14, 1), (947, 0)] {
+        let changed = with_byte(alloc, &bytes, place, byte)?;
+        assert_eq!(rt; last_line(&changed), None);
+    }
+    Ok(())
 }
 
 /// The place, major version, index and target of the first stub.

@@ -1,6 +1,6 @@
 -- Numbers of an item, and numbers that are put in or taken out one by one.
-use Rattle.std.proofs.Common.{◌≡◌, ℕ, zero, suc, ◌+◌, ◌<◌, ◌^◌, true, ltb, List, [], ◌∷◌, ◌++◌, length, get_or, set, take, drop, replicate, refl, sym, ap, ◌∙◌, arith}
-use Rattle.std.proofs.lemmas.Bool.{and_parts, and_from, ltb-true, lt-ltb}
+use Rattle.std.proofs.Common.{◌≡◌, ℕ, suc, ◌+◌, ◌<◌, ◌^◌, true, List, [], ◌∷◌, ◌++◌, length, get_or, set, take, drop, replicate, refl, sym, ap, ◌∙◌, arith}
+use Rattle.std.proofs.lemmas.Bool.{lt-ltb}
 use Rattle.std.proofs.lemmas.List.{take_more, take_more_set, take_all, take-append-drop, length-drop, get_or-replicate, get_or_append_left}
 use Rattle.iop_snapshot.specs.Items.{fits_item}
 use Rattle.iop_snapshot.specs.declared.widths.TheConstants.{CPU}

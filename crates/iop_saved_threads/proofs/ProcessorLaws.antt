@@ -7,25 +7,14 @@ use Rattle.std.proofs.lemmas.List.{take_at, get_or-append_right, length-append, 
 use Rattle.iop_base.specs.Numbers.{one_if}
 use Rattle.iop_exec.specs.declared.cpu.Cpu.{Cpu}
 use Rattle.iop_exec.specs.declared.cpu.Pending.{Pending}
+use Rattle.iop_snapshot.specs.Flags.{flag_of}
 use Rattle.iop_snapshot.specs.Forms.{IsLawful, item, tested}
 use Rattle.iop_snapshot.specs.Items.{fits_item}
 use Rattle.iop_snapshot.specs.declared.widths.TheConstants.{CPU}
 use Rattle.iop_snapshot.proofs.Combining.{item_lawful, seen_tested_lawful, then_some, map_some}
+use Rattle.iop_snapshot.proofs.Flags.{flag_again, flag_is}
 use Rattle.iop_snapshot.proofs.Numbers.{numbers_from-all, fits_long}
-use Rattle.iop_saved_threads.specs.Processors.{flag_of, pending_register, pending_value, pending_of, cpu_numbers, cpu_with, cpu_of, is_for_register, is_steady, cpu_form, steady_form, is_kept, kept_form}
-
-flag_again : (b : Bool) → flag_of (one_if b) ≡ Some b
-flag_again true = refl
-flag_again false = refl
-
-flag_is : (n : ℕ) (b : Bool) → flag_of n ≡ Some b → one_if b ≡ n
-flag_is n b e = by_tests (eqb n 0) (eqb n 1) (eqb-true n 0) (eqb-true n 1) e
-  where
-    by_tests : (p q : Bool) → (p ≡ true → n ≡ 0) → (q ≡ true → n ≡ 1)
-        → cond p (Some false) (cond q (Some true) None) ≡ Some b → one_if b ≡ n
-    by_tests true q f g e = ap one_if (sym (same_Some false b e)) ∙ sym (f refl)
-    by_tests false true f g e = ap one_if (sym (same_Some true b e)) ∙ sym (g refl)
-    by_tests false false f g e = absurd cc
+use Rattle.iop_saved_threads.specs.Processors.{pending_register, pending_value, pending_of, cpu_numbers, cpu_with, cpu_of, is_for_register, is_steady, cpu_form, steady_form, is_kept, kept_form}
 
 not_true : (b : Bool) → not b ≡ true → b ≡ false
 not_true true e = absurd cc

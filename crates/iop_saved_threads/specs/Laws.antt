@@ -1,8 +1,12 @@
 -- What the laws of the forms say.
-use Rattle.std.specs.Prelude.{◌≡◌}
+use Rattle.std.specs.Prelude.{◌≡◌, ℕ, List}
+use Rattle.iop_thread.specs.Restoring.{no_threads, with_threads_back, with_ready_back}
+use Rattle.iop_thread.specs.ThreadTable.{ThreadTable}
 use Rattle.iop_thread.specs.declared.thread.Thread.{Thread}
-use Rattle.iop_snapshot.specs.Forms.{IsLawful}
+use Rattle.iop_snapshot.specs.Forms.{IsLawful, series}
+use Rattle.iop_snapshot.specs.Putting.{put_all, next_form}
 use Rattle.iop_saved_threads.specs.Processors.{cpu_form, steady_form, kept_form}
+use Rattle.iop_saved_threads.specs.Tables.{put_thread, put_ready, id_form, next_ready}
 use Rattle.iop_saved_threads.specs.Threads.{thread_form, read_form}
 
 pub record FormsAreLawful : Type 0 where
@@ -11,3 +15,12 @@ pub record FormsAreLawful : Type 0 where
   pub threads : IsLawful read_form
   -- a thread is spelled in one way
   pub same : (t : Thread) → read_form.spell t ≡ (thread_form cpu_form).spell t
+  -- threads that may be live together, and ready ones
+  pub live : IsLawful (series read_form (next_form put_thread read_form no_threads))
+  pub ready : IsLawful (series id_form next_ready)
+
+-- to put threads back one after the other, and then the ready ones, is what iop_thread says of it:
+-- so all that stands in a table comes back, as its law says
+pub record ThreadsArePutBack : Type 0 where
+  pub live : (s : ThreadTable) (ts : List Thread) → put_all put_thread s ts ≡ with_threads_back s ts
+  pub ready : (s : ThreadTable) (ids : List ℕ) → put_all put_ready s ids ≡ with_ready_back s ids

@@ -1,3 +1,4 @@
 pub mod Processors
 pub mod Threads
+pub mod Tables
 pub mod Laws

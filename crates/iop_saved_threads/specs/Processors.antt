@@ -1,14 +1,11 @@
 -- How a processor is spelled: this project's own profile.
-use Rattle.std.specs.Prelude.{ℕ, ◌+◌, ◌==◌, nat_lt, Bool, true, false, not, ◌&&◌, ◌||◌, if◌then◌else◌, Option, Some, None, option_map, option_and_then, List, [], ◌∷◌, ◌++◌, take, slice_index}
+use Rattle.std.specs.Prelude.{ℕ, ◌+◌, ◌==◌, nat_lt, Bool, true, not, ◌&&◌, ◌||◌, if◌then◌else◌, Option, Some, None, option_map, option_and_then, List, [], ◌∷◌, ◌++◌, take, slice_index}
 use Rattle.iop_base.specs.Numbers.{one_if, wrapped}
 use Rattle.iop_exec.specs.declared.cpu.Cpu.{Cpu}
 use Rattle.iop_exec.specs.declared.cpu.Pending.{Pending}
+use Rattle.iop_snapshot.specs.Flags.{flag_of}
 use Rattle.iop_snapshot.specs.Forms.{Form, item, seen_as, tested}
 use Rattle.iop_snapshot.specs.declared.widths.TheConstants.{CPU}
-
--- a truth value is 0 or 1
-abbrev pub flag_of : ℕ → Option Bool
-flag_of n = if n == 0 then Some false else if n == 1 then Some true else None
 
 -- what is pending: register 0 and value 0 where nothing is
 abbrev pub pending_register : Option Pending → ℕ

@@ -5,14 +5,14 @@ ghost use Rattle.iop_snapshot.specs.Items.{fits_item};
 ghost use Rattle.iop_snapshot.specs.Reading.{Reads};
 ghost use Rattle.iop_snapshot.specs.Writing.{place_of, Writes};
 ghost use Rattle.iop_snapshot.specs.declared.widths.TheConstants.{CPU as WIDTHS};
-ghost use Rattle.iop_saved_threads.specs.Processors.{flag_of, pending_register, pending_value, pending_of, cpu_numbers, cpu_of, cpu_form, is_for_register, is_steady, steady_form, is_kept, kept_form};
+ghost use Rattle.iop_saved_threads.specs.Processors.{pending_register, pending_value, pending_of, cpu_numbers, cpu_of, cpu_form, is_for_register, is_steady, steady_form, is_kept, kept_form};
 
 use iop_base::WriteFault;
 use iop_exec::{Cpu, Pending};
 use iop_isa::Reg;
 use iop_ports::Sink;
 use iop_snapshot::widths::CPU;
-use iop_snapshot::{Decoder, Encoder};
+use iop_snapshot::{Decoder, Encoder, flag_of};
 
 /// Writes a processor.
 #[tactic(auto, unfolding(crate::specs::Processors::cpu_form, iop_snapshot::specs::Forms::item))]
@@ -142,17 +142,6 @@ fn registers_of(numbers: &[u64; 39]) -> [u32; 32]
         registers[index] = numbers[index] as u32;
     }
     registers
-}
-
-/// Sees a number as a truth value. None exactly where it is neither 0 nor 1.
-fn flag_of(number: u64) -> Option<bool>
-    ensures { result ≡ flag_of number }
-{
-    match number {
-        0 => Some(false),
-        1 => Some(true),
-        _ => None,
-    }
 }
 
 /// Sees two numbers as what is pending. None exactly where the first is 0 and the second is not, or

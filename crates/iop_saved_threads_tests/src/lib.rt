@@ -1,5 +1,8 @@
-//! Tests of iop_saved_threads: which bytes processors and threads are, and which bytes are none.
+//! Tests of iop_saved_threads: which bytes processors and threads are, and which bytes are none; all
+//! threads of a table, and the ready ones.
 #![tactic(auto)]
 
+#[cfg(test)]
+mod tables;
 #[cfg(test)]
 mod tests;

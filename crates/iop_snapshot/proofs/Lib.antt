@@ -8,4 +8,5 @@ pub mod Saving
 pub mod Restoring
 pub mod Laying
 pub mod Numbers
+pub mod Flags
 pub mod Putting

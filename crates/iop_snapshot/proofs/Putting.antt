@@ -1,8 +1,7 @@
 -- One value more is put back behind others.
-use Rattle.std.proofs.Common.{◌≡◌, ℕ, true, Option, Some, None, is_some, Result, Ok, Err, List, [], ◌∷◌, ◌++◌, refl, sym, ap, subst, ◌∙◌}
+use Rattle.std.proofs.Common.{◌≡◌, ℕ, Option, Some, None, is_some, Result, Ok, Err, List, [], ◌∷◌, ◌++◌, refl, sym, ap, subst, ◌∙◌, Bool, true, false, if◌then◌else◌}
 use Rattle.std.specs.Prelude.{MatchResult, option_and_then}
 use Rattle.iop_snapshot.specs.declared.fault.SnapFault.{SnapFault}
-use Rattle.iop_snapshot.specs.declared.fault.SnapFault.TheVariants.{Bad, Memory}
 use Rattle.iop_snapshot.specs.Forms.{Form, IsLawful, IsSeries, tested}
 use Rattle.iop_snapshot.specs.Reading.{GivesNone}
 use Rattle.iop_snapshot.specs.Putting.{put_all, may_put, may_follow, next_form, PutsOne}
@@ -59,3 +58,23 @@ module _ {T X : Type 0} (put : T → X → Option T) where
       lawful = λ before. tested_lawful form (may_follow put base before) law;
       same = λ before x. refl;
     }
+
+-- what puts one value after the other, each where it may be put, is the same in any words
+module _ {T X : Type 0} (may : T → X → Bool) (with_last : T → X → T)
+    (all : T → List X → Option T) (nothing : (table : T) → all table [] ≡ Some table)
+    (more : (table : T) (x : X) (xs : List X) → all table (x ∷ xs)
+    ≡ (if may table x then all (with_last table x) xs else None)) where
+  abbrev put_if : T → X → Option T
+  put_if table x = if may table x then Some (with_last table x) else None
+
+  pub puts_each : (table : T) (xs : List X) → put_all put_if table xs ≡ all table xs
+  puts_each table [] = sym (nothing table)
+  puts_each table (x ∷ xs) =
+      by (may table x) (puts_each (with_last table x) xs) ∙ sym (more table x xs)
+    where
+      by : (b : Bool) → put_all put_if (with_last table x) xs ≡ all (with_last table x) xs
+          → option_and_then (λ left. put_all put_if left xs)
+          (if b then Some (with_last table x) else None)
+          ≡ (if b then all (with_last table x) xs else None)
+      by true same = same
+      by false same = refl

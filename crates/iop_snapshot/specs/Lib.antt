@@ -1,7 +1,9 @@
 pub mod Items
+pub mod Flags
 pub mod Writing
 pub mod Forms
 pub mod Laws
 pub mod Layout
 pub mod Reading
 pub mod Putting
+pub mod Begins

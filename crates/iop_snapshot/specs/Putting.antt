@@ -1,6 +1,6 @@
 -- How values are put back into a table, one behind the other, each where the table takes it: this
 -- project's own profile.
-use Rattle.std.specs.Prelude.{◌≡◌, Bool, is_some, Option, Some, None, option_and_then, Result, MatchResult, List, [], ◌∷◌, ℕ}
+use Rattle.std.specs.Prelude.{◌≡◌, Bool, is_some, Option, Some, option_and_then, Result, MatchResult, List, [], ◌∷◌, ℕ}
 use Rattle.iop_snapshot.specs.declared.fault.SnapFault.{SnapFault}
 use Rattle.iop_snapshot.specs.Forms.{Form, tested, read_list}
 use Rattle.iop_snapshot.specs.Reading.{GivesNone}

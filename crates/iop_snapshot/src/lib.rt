@@ -4,6 +4,7 @@
 mod decoder;
 mod encoder;
 mod fault;
+mod flag;
 pub mod laws;
 mod restore;
 mod save;
@@ -12,5 +13,6 @@ pub mod widths;
 pub use decoder::Decoder;
 pub use encoder::Encoder;
 pub use fault::SnapFault;
+pub use flag::flag_of;
 pub use restore::{RestoreItems, restore_items, restore_list};
 pub use save::{SaveItems, save_items, save_list};

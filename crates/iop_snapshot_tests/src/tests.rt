@@ -6,7 +6,7 @@ ghost use Rattle.iop_snapshot.specs.Writing.{place_of, Writes};
 use crate::words::{Words, save_words};
 use iop_base::WriteFault;
 use iop_ports::{MemSink, Sink, TrickleSink};
-use iop_snapshot::{Decoder, Encoder, SnapFault, restore_list};
+use iop_snapshot::{Decoder, Encoder, SnapFault, flag_of, restore_list};
 use std::alloc::{AllocError, Global};
 use std::process::Abort;
 use std::test::Fail;
@@ -146,4 +146,12 @@ fn lists_that_are_none_are_bad(rt: HostRuntime) {
     assert_eq!(rt; restore_words(alloc, &TWO_WORDS[..3]), Err(SnapFault::Bad));
     let four = [4, 0, 0, 0, 1, 0, 0, 0, 2, 0, 0, 0, 3, 0, 0, 0, 4, 0, 0, 0];
     assert_eq!(rt; restore_words(alloc, &four), Err(SnapFault::Bad));
+}
+
+#[test]
+fn truth_values_are_0_or_1(rt: HostRuntime) -> Result<(), Fail> {
+    for (number, flag) in [(0, Some(false)), (1, Some(true)), (2, None), (256, None)] {
+        assert_eq!(rt; flag_of(number), flag);
+    }
+    Ok(())
 }

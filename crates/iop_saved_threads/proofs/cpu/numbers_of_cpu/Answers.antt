@@ -1,13 +1,9 @@
-use mir.Val.{bool_byte}
-use Rattle.std.proofs.Common.{◌≡◌, ◌∙◌, ◌<◌, refl, Bool, true, false, [], ◌∷◌, take, subst, arith}
+use Rattle.std.proofs.Common.{◌≡◌, ◌∙◌, [], ◌∷◌, take, subst, arith}
 use Rattle.iop_base.specs.Numbers.{one_if}
+use Rattle.iop_snapshot.proofs.Flags.{flag_number, flag_small}
 use Rattle.iop_saved_threads.specs.Processors.{pending_register, pending_value}
 use Rattle.iop_saved_threads.proofs.Numbers.{numbers_put, cpu_fits, rest_fits}
 use Rattle.iop_saved_threads.proofs.cpu.numbers_of_cpu.Goals as goal
-
-number_is : (b : Bool) → bool_byte b ≡ one_if b
-number_is true = refl
-number_is false = refl
 
 pub returns-clause-numbers : goal.returns-clause-numbers
 returns-clause-numbers c =
@@ -18,16 +14,12 @@ returns-clause-numbers c =
       c.from-3.ensures,
       c.from-4.ensures,
       c.from-5.ensures,
-      c.from-6.ensures ∙ number_is c.args.cpu.in_slot,
+      c.from-6.ensures ∙ flag_number c.args.cpu.in_slot,
       c.pending_register.ensures.register,
       c.pending_value.ensures.value,
     )
     (numbers_put c.loop-index.numbers c.args.cpu.regs long (omega arith)
     (subst (λ i. take i c.loop-index.numbers ≡ take i c.args.cpu.regs) all same) _ _ _ _ _ _ _)
-
-flag_small : (b : Bool) → one_if b < 256
-flag_small true = omega arith
-flag_small false = omega arith
 
 pub returns-clause-fits : goal.returns-clause-fits
 returns-clause-fits c =

@@ -1,0 +1,10 @@
+pub mod Lists
+pub mod Waiters
+pub mod Semaphores
+pub mod EventFlags
+pub mod Mailboxes
+pub mod VariablePools
+pub mod FixedPools
+pub mod Restored
+pub mod Begins
+pub mod Laws

@@ -1,0 +1,5 @@
+//! Tests of iop_saved_objects: which bytes the lists of objects are, and which bytes are refused.
+#![tactic(auto)]
+
+#[cfg(test)]
+mod tests;

@@ -1,0 +1,4 @@
+pub mod Files
+pub mod Sizes
+pub mod Forms
+pub mod Laws
