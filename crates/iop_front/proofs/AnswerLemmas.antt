@@ -6,7 +6,7 @@ use Rattle.iop_base.specs.Output.{Output}
 use Rattle.iop_machine.specs.Modules.{NamedFile}
 use Rattle.iop_modload.specs.declared.limits.TheConstants.{LONGEST_FILE}
 use Rattle.iop_options.specs.Commands.{Command}
-use Rattle.iop_ports.specs.Sinks.{SinkTold, Sends}
+use Rattle.iop_ports.specs.Sinks.{SinkTold, plain_sink, Sends}
 use Rattle.iop_script.specs.Reading.{BadLine, empty_script, script_of}
 use Rattle.iop_script.specs.Scripts.{Script}
 use Rattle.iop_trace.specs.Outs.{Leaves, output_with}
@@ -21,11 +21,13 @@ use Rattle.iop_front.proofs.OutcomeLemmas.{from_long, from_short, long_outcome}
 use Rattle.iop_front.proofs.SendingLemmas.{sent_leaves}
 use Rattle.iop_front.proofs.TakingLemmas.{files_short, none_too_long}
 
--- the line of a refusal that was sent to the trace
-pub refuses : (whole : Bool) (sent line : List ℕ) (console old new : SinkTold) → sent ≡ line
-    → Sends whole sent old new
-    → Refuses line (output_with console old false []) (output_with console new false [])
-refuses whole sent line console old new same h =
+-- the line of a refusal that was sent to the trace, by what the console tells
+pub refuses : (whole : Bool) (sent line : List ℕ) (taken : Option (List ℕ)) (faults : ℕ)
+    (old new : SinkTold) → sent ≡ line → Sends whole sent old new
+    → Refuses line (output_with (plain_sink taken faults) old false [])
+    (output_with (plain_sink taken faults) new false [])
+refuses whole sent line taken faults old new same h =
+    let console = plain_sink taken faults in
     (not whole, sent_leaves whole line console old new (subst (λ x. Sends whole x old new) same h))
 
 -- what is seen of the files, and of the sinks

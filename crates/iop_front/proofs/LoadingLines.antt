@@ -28,7 +28,7 @@ tell_behind : (front pieces : List Piece) (s : Iop) (m : Module) → TellLoading
 tell_behind front pieces s m h = record {
   loaded = λ l e.
       Contains-append_right front pieces
-      (Traced (line_bytes s.kernel.clock (Load m.number l.base l.len))) (h.loaded l e);
+      (Traced (line_bytes s.kernel.clock (Load m.number l.place.base l.place.len))) (h.loaded l e);
   refused = λ code e.
       Contains-append_right front pieces
       (Traced (line_bytes s.kernel.clock (Refused m.number code))) (h.refused code e);
@@ -44,7 +44,7 @@ first_tells m rest s =
     let entering = λ (r : Result Loaded Code). (enters_or (loads_first rest) placed m r).pieces in
     tell_behind loading.pieces (entering loading.answer) s m (record {
       loaded = λ l e.
-          let line = Traced (line_bytes s.kernel.clock (Load m.number l.base l.len)) in
+          let line = Traced (line_bytes s.kernel.clock (Load m.number l.place.base l.place.len)) in
           subst (λ (r : Result Loaded Code). Contains (entering r) line) (sym e)
           (here line (passes placed (argument_block m.words)).pieces);
       refused = λ code e.
@@ -84,7 +84,7 @@ loads_in_tell w (returning {m = m} {t = t} code value ended turn after begun h) 
     let d = served_by s code in
     let v = (serves s d).state in
     let left =
-    finishes v.kernel.clock v.memory v.blocks v.libraries ended.number ended.loaded value in
+    finishes v.kernel.clock v.memory v.blocks v.libraries ended.number ended.place value in
     let u = behind_end s code ended value in
     subst (λ (x : Transition World). TellLoading x.pieces t m)
     (sym (step_as w (Executes (Serves code)) turn))

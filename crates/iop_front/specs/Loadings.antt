@@ -123,7 +123,7 @@ pub record BindsStub (s : Iop) (m : Module) (stub : Stub) : Type 0 where
 -- refusal
 pub record TellLoading (pieces : List Piece) (s : Iop) (m : Module) : Type 0 where
   pub loaded : (l : Loaded) → answer_to s m ≡ Ok l
-      → Contains pieces (Traced (line_bytes s.kernel.clock (Load m.number l.base l.len)))
+      → Contains pieces (Traced (line_bytes s.kernel.clock (Load m.number l.place.base l.place.len)))
   pub refused : (code : Code) → answer_to s m ≡ Err code
       → Contains pieces (Traced (line_bytes s.kernel.clock (Refused m.number code)))
 
@@ -148,7 +148,7 @@ served_by s code = services (calling s) code
 abbrev pub behind_end : Iop → (code : ℕ) → BegunModule → (value : ℕ) → Iop
 behind_end s code ended value =
     let v = (serves s (served_by s code)).state in
-    (leaves v (finishes v.kernel.clock v.memory v.blocks v.libraries ended.number ended.loaded
+    (leaves v (finishes v.kernel.clock v.memory v.blocks v.libraries ended.number ended.place
     value)).state
 
 -- in the next step this module comes to be loaded, in this state of the core

@@ -5,7 +5,8 @@ use Rattle.std.proofs.Math.ListN.{length-set}
 use Rattle.std.proofs.lemmas.Bool.Decides.{nat_tests}
 use Rattle.std.proofs.lemmas.List.{get_or-set_other, get_or-set_same}
 use Rattle.std.proofs.lemmas.List.Elements.{All-contains_itself, All-filter, All-head, All-tail, filter-append, filter_passes}
-use Rattle.iop_intr.specs.InterruptLines.{IrqLine, idle, line_of, changed, raising, lowering}
+use Rattle.iop_intr.specs.InterruptLines.{idle, line_of, changed, raising, lowering}
+use Rattle.iop_intr.specs.declared.irq_line.IrqLine.{IrqLine}
 use Rattle.iop_script.specs.declared.raise.Raise.{Raise}
 use Rattle.iop_machine.specs.EventLaws.{ChangesLines, EventsChangeTheirLines}
 use Rattle.iop_machine.specs.Events.{is_due, due_events}

@@ -183,7 +183,7 @@ enters_keeps : (next : Iop → Transition Iop)
     (r : Result Loaded Code) → HasBlocks s.memory s.blocks → Keeps s (enters_or next s m r)
 enters_keeps next keeps s m (Ok loaded) h =
     let block = argument_block m.words in
-    told s (Load m.number loaded.base loaded.len) (passes s block) h (passes_keeps s block h)
+    told s (Load m.number loaded.place.base loaded.place.len) (passes s block) h (passes_keeps s block h)
 enters_keeps next keeps s m (Err code) h = told s (Refused m.number code) (next s) h (keeps s h)
 
 pub loads_first_keeps : (modules : List Module) (s : Iop) → HasBlocks s.memory s.blocks
@@ -217,10 +217,10 @@ unfolding ends_module
 returns_keep s None value h = same s.kernel.clock s.memory s.blocks [] h
 returns_keep s (Some m) value h =
     let left = (leaves s
-    (finishes s.kernel.clock s.memory s.blocks s.libraries m.number m.loaded value)).state in
+    (finishes s.kernel.clock s.memory s.blocks s.libraries m.number m.place value)).state in
     let now = (loads_first s.modules left).state in
     let ended = stays_as (finishing_keeps s.kernel.clock s.memory s.blocks s.libraries h m.number
-    m.loaded value) in
+    m.place value) in
     goes_on_keeps now now.begun (stays_then ended (loads_first_keeps s.modules left ended.whole))
 
 -- several stores, one after the other

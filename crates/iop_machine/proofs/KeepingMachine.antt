@@ -31,6 +31,7 @@ use Rattle.iop_machine.specs.Services.{calling}
 use Rattle.iop_machine.specs.Stepping.{step, steps, executed, Turn, Stays as StaysTurn, Boots, turn_of, takes_turn, performs, waits_by}
 use Rattle.iop_machine.specs.World.{World, reset, beginning, zeros}
 use Rattle.iop_machine.proofs.Area.{length-zeros, length-kernel_area}
+use Rattle.iop_machine.proofs.BareRegisters.{turn_bare}
 use Rattle.iop_machine.proofs.EventLemmas.{left_comes}
 use Rattle.iop_machine.proofs.Keeping.{Stays, Keeps, same, loads_first_keeps, starts_keep, performs_keeps, waits_keep}
 use Rattle.iop_machine.proofs.LoadingLands.{events_after, turn_events}
@@ -144,6 +145,7 @@ step_keeps w h =
         places = places_in w.iop.memory (step w).state.iop.memory (step w).state.iop.kernel
             stays.size (step_places w h);
         pools = step_pools w h;
+        bare = turn_bare w h.core h.bare (turn_is w);
       };
     }
 
@@ -250,6 +252,7 @@ module _ (size : ℕ) (modules : List Module) (events : List Raise) (sized : IsR
     core = begins_as_core size modules events;
     places = none_waits (reset size modules events).memory;
     pools = no_pools;
+    bare = record { processor = λ idle. refl; kept = tt };
   }
 
   -- it begins as a machine

@@ -105,6 +105,7 @@ reached size modules events k sized =
         | inr one ↦ one
       ];
       core = h.sound.core;
+      bare = h.sound.bare;
       places = h.sound.places;
       variable_pools = λ id x live. pools_apart.apart MOST_RANGES x (h.sound.pools VariablePool id x live);
       fixed_pools = λ id x live. pools_apart.apart MOST_BLOCKS x (h.sound.pools FixedPool id x live);

@@ -1,4 +1,5 @@
 mod Elements
+mod Forgetting
 mod EventLemmas
 mod DueEvents
 mod LinesAside
@@ -19,6 +20,7 @@ mod Composing
 mod Alike
 pub mod Lasting
 pub mod Advancing
+mod BareRegisters
 mod Bursting
 mod Delivering
 mod Settling

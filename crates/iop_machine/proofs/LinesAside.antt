@@ -1,7 +1,7 @@
 -- Other interrupt lines change nothing of what is to be dispatched.
 use Rattle.std.proofs.Common.{◌≡◌, Bool, true, false, if◌then◌else◌, Option, Some, None, List, refl}
 use Rattle.std.specs.Prelude.{option_map}
-use Rattle.iop_intr.specs.InterruptLines.{IrqLine}
+use Rattle.iop_intr.specs.declared.irq_line.IrqLine.{IrqLine}
 use Rattle.iop_kernel.proofs.Walk.Steps.{dispatches_goes}
 use Rattle.iop_kernel.specs.Dispatching.{Dispatched, dispatched, dispatches}
 use Rattle.iop_kernel.specs.System.{Kernel, Core, may_dispatch, with_irqs}

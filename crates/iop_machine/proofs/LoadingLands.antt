@@ -4,6 +4,7 @@ use Rattle.std.proofs.Common.{◌≡◌, ℕ, Option, Some, None, Result, Ok, Er
 use Rattle.iop_base.specs.declared.code.Code.{Code}
 use Rattle.iop_exec.specs.Laws.{IsSteady}
 use Rattle.iop_exec.specs.Row.{Row, Goes, Serves, Faults}
+use Rattle.iop_exec.specs.declared.cpu.Cpu.{Cpu}
 use Rattle.iop_kernel.specs.System.{Kernel, Served}
 use Rattle.iop_kernel.specs.Serving.{services}
 use Rattle.iop_kernel.specs.declared.after.After.{After}
@@ -16,6 +17,7 @@ use Rattle.iop_thread.specs.ThreadTable.{ThreadTable}
 use Rattle.iop_machine.specs.Iop.{Iop, Transition, with_threads}
 use Rattle.iop_machine.specs.Loading.{loading_of, places, enters_or, loads_first, with_kernel, starts_by, boots}
 use Rattle.iop_machine.specs.Modules.{Module, module_start}
+use Rattle.iop_machine.specs.Registers.{nobodys}
 use Rattle.iop_machine.specs.Services.{leaves, goes_on_by, ends_module, returns_by, calls, calls_by, serves, calling}
 use Rattle.iop_machine.specs.declared.begun_module.BegunModule.{BegunModule}
 use Rattle.iop_machine.specs.Looking.{takes_events}
@@ -62,10 +64,14 @@ leaves_with s t threads lands = record {
   events = lands.events;
 }
 
--- whether the loader's thread begins
-starts_leave : (s t : Iop) (o : Option BegunModule) → Lands s t → LeavesRest s (starts_by t o)
-starts_leave s t None = leaves_with s t t.kernel.threads
-starts_leave s t (Some begun) = leaves_with s t _
+-- whether the loader's thread begins, with any processor
+starts_leave : (s t : Iop) (o : Option BegunModule) (cpu : Cpu) → Lands s t
+    → LeavesRest s (record (starts_by t o) { cpu = cpu })
+starts_leave s t None cpu lands =
+    let left = leaves_with s t t.kernel.threads lands in
+    record { kernel = left.kernel; events = left.events }
+starts_leave s t (Some begun) cpu lands =
+    let left = leaves_with s t _ lands in record { kernel = left.kernel; events = left.events }
 
 -- or ends
 goes_on_leave : (s t : Iop) (o : Option BegunModule) → Lands s t → LeavesRest s (goes_on_by t o)
@@ -77,7 +83,7 @@ pub boots_leave : (s : Iop) → LeavesRest s (boots s).state
 unfolding boots
 boots_leave s =
     let v = (loads_first s.modules (with_kernel s)).state in
-    starts_leave s v v.begun (loads_first_lands s.modules (with_kernel s))
+    starts_leave s v v.begun nobodys (loads_first_lands s.modules (with_kernel s))
 
 -- and so does a module that returns
 pub returns_leave : (s : Iop) (o : Option BegunModule) (value : ℕ)
@@ -86,7 +92,7 @@ unfolding ends_module
 returns_leave s None value = record { kernel = refl; events = refl }
 returns_leave s (Some m) value =
     let left = (leaves s
-    (finishes s.kernel.clock s.memory s.blocks s.libraries m.number m.loaded value)).state in
+    (finishes s.kernel.clock s.memory s.blocks s.libraries m.number m.place value)).state in
     let v = (loads_first left.modules left).state in
     goes_on_leave s v v.begun (loads_first_lands left.modules left)
 

@@ -22,8 +22,9 @@ use Rattle.iop_thread.specs.Operations as threads
 use Rattle.iop_thread.specs.States.{zeroed_at}
 use Rattle.iop_machine.specs.Iop.{Iop, Transition, Takes, Remains, silent, tells, and_then}
 use Rattle.iop_machine.specs.KernelArea.{kernel_area}
-use Rattle.iop_machine.specs.Loading.{with_kernel, boots, loading_of, places, begins, enters, enters_or, loads_first, starts_by}
+use Rattle.iop_machine.specs.Loading.{with_kernel, boots, loading_of, places, begins, enters, enters_or, loads_first, starts_by, starts}
 use Rattle.iop_machine.specs.Modules.{Module, argument_block, module_start}
+use Rattle.iop_machine.specs.Registers.{nobodys}
 use Rattle.iop_machine.specs.Standing.{iop_of, Stands}
 use Rattle.iop_machine.specs.World.{reset, zeros}
 use Rattle.iop_machine.specs.declared.begun_module.BegunModule.{BegunModule}
@@ -67,11 +68,14 @@ reset_stands n m h =
     }
 
 -- a module begins
-pub stands_begun : (m : Program) (begun : BegunModule) (words : ℕ) (cpu : Cpu)
-    → cpu ≡ module_start begun.loaded words → (s : Iop) → Stands m s
-    → Stands (record m { cpu = cpu; begun = Some begun }) (begins s begun words)
-stands_begun m begun words cpu e =
-    carried m (λ s. Stands (record m { cpu = cpu; begun = Some begun }) (begins s begun words))
+pub stands_begun : (m : Program) (number : ℕ) (loaded : Loaded) (words : ℕ) (cpu : Cpu)
+    → cpu ≡ module_start loaded words → (s : Iop) → Stands m s
+    → let begun : BegunModule = record { number = number; place = loaded.place } in
+    Stands (record m { cpu = cpu; begun = Some begun }) (begins s number loaded words)
+stands_begun m number loaded words cpu e =
+    let begun : BegunModule = record { number = number; place = loaded.place } in
+    carried m
+    (λ s. Stands (record m { cpu = cpu; begun = Some begun }) (begins s number loaded words))
     (λ k h. record {
       kernel = h;
       rest = ap (λ x. record (iop_of m k) { cpu = x; begun = Some begun }) (sym e);
@@ -177,13 +181,13 @@ module _ (m : Program) (t : ℕ) (first : Module) where
     pub loaded_takes : {new : Program} {c : Output} (loaded : Loaded) (words : ℕ) (block : List ℕ)
         → answer ≡ Ok loaded → words ≡ length first.words → block ≡ argument_block first.words
         → ((v : Iop) → Stands placed v → Takes Stands
-        (enters v (record { number = first.number; loaded = loaded }) words block) new b c)
+        (enters v first.number loaded words block) new b c)
         → (s : Iop) → Stands m s → Takes Stands (loads_first s.modules s) new a c
     loaded_takes {new} {c} loaded words block is few handed g s stands =
         let v = placed_of s in
-        let begun : BegunModule = record { number = first.number; loaded = loaded } in
         then_by (Ok loaded) is new c s stands (takes_as (g v (h.takes s stands).state)
-        (ap (λ n. enters v begun n block) few ∙ ap (enters v begun (length first.words)) handed))
+        (ap (λ n. enters v first.number loaded n block) few
+        ∙ ap (enters v first.number loaded (length first.words)) handed))
 
     -- it was told to be refused, and the next ones remain
     pub refused_remains : {c : Output} (code : Code) → answer ≡ Err code
@@ -229,14 +233,21 @@ stands_unstarted m none s h =
     subst (λ o. Stands m (starts_by s o))
     (sym (ap (λ (x : Iop). x.begun) h.rest ∙ none_of m.begun none)) h
 
+-- nobody has the processor's registers
+pub stands_unhad : (m : Program) (cpu : Cpu) → cpu ≡ nobodys → (s : Iop) → Stands m s
+    → Stands (record m { cpu = cpu }) (record s { cpu = nobodys })
+stands_unhad m cpu zero =
+    carried m (λ s. Stands (record m { cpu = cpu }) (record s { cpu = nobodys }))
+    (λ k h. record { kernel = h; rest = ap (λ x. record (iop_of m k) { cpu = x }) (sym zero) })
+
 -- the kernel's area was written, and then the first module that loads begins
 pub boots_takes : (m : Program) {a b c : Output} {loaded : Program} (memory : Memory)
     → memory ≡ record m.guest { ram = with_bytes m.guest.ram 0 kernel_area } → Gives a b []
     → ((s : Iop) → Stands (record m { guest = memory }) s
     → Takes Stands (loads_first s.modules s) loaded b c) → (now : Program)
-    → ((s : Iop) → Stands loaded s → Stands now (starts_by s s.begun))
+    → ((s : Iop) → Stands loaded s → Stands now (starts s))
     → (s : Iop) → Stands m s → Takes Stands (boots s) now a c
 unfolding boots
-boots_takes m memory is lines loads now starts s h =
-    silent_then lines (takes_with (loads _ (stands_with_area m memory is s h)) Stands
-    (λ v. starts_by v v.begun) now (starts _))
+boots_takes m memory is lines loads now begun s h =
+    silent_then lines (takes_with (loads _ (stands_with_area m memory is s h)) Stands starts now
+    (begun _))

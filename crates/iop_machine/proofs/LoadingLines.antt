@@ -29,10 +29,10 @@ loads_run_none s m =
 -- nor of the end of a module
 pub finishes_run_none : (s : Iop) (m : BegunModule) (value : ℕ)
     → All IsNoRun
-    (finishes s.kernel.clock s.memory s.blocks s.libraries m.number m.loaded value).pieces
+    (finishes s.kernel.clock s.memory s.blocks s.libraries m.number m.place value).pieces
 finishes_run_none s m value =
     finishes_tell s.kernel.clock s.memory s.blocks s.libraries IsNoRun
-    (λ stub. line s.kernel.clock (lines.Stub stub.at) refl) m.number m.loaded value
+    (λ stub. line s.kernel.clock (lines.Stub stub.at) refl) m.number m.place value
     (line s.kernel.clock (lines.Returned m.number value (kept_of value)) refl)
 
 -- nor of the argument block
@@ -52,7 +52,7 @@ enters_run_none : (next : Iop → Transition Iop)
     → ((v : Iop) → All IsNoRun (next v).pieces) → (s : Iop) (m : Module)
     (r : Result Loaded Code) → All IsNoRun (enters_or next s m r).pieces
 enters_run_none next none s m (Ok loaded) =
-    let told = lines.Load m.number loaded.base loaded.len in
+    let told = lines.Load m.number loaded.place.base loaded.place.len in
     All-cons IsNoRun (Traced (line_bytes s.kernel.clock told))
     (passes s (argument_block m.words)).pieces (line s.kernel.clock told refl)
     (passes_run_none s (argument_block m.words))

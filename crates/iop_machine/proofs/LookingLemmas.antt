@@ -1,7 +1,7 @@
 -- The script's events that are due, once they were taken.
 use Rattle.std.proofs.Common.{◌≡◌, Bool, ℕ, Some, None, List, refl, ap, sym, ◌∙◌, subst}
 use Rattle.std.specs.Prelude.{is_some, option_map}
-use Rattle.iop_intr.specs.InterruptLines.{IrqLine}
+use Rattle.iop_intr.specs.declared.irq_line.IrqLine.{IrqLine}
 use Rattle.iop_kernel.specs.Deliveries.{delivers}
 use Rattle.iop_kernel.specs.Dispatching.{Dispatched, dispatches}
 use Rattle.iop_kernel.specs.System.{Kernel, with_irqs, is_active}

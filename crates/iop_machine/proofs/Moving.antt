@@ -25,10 +25,12 @@ use Rattle.iop_machine.specs.Iop.{Iop, Transition, with_state, later, core_of}
 use Rattle.iop_machine.specs.Loading.{loads_first, with_kernel, starts_by, boots}
 use Rattle.iop_machine.specs.Looking.{takes_events, next_coming}
 use Rattle.iop_machine.specs.Services.{calls, calls_by, serves, calling, leaves, goes_on_by, ends_module, returns_by}
+use Rattle.iop_machine.specs.Registers.{forgotten, ends_call}
 use Rattle.iop_machine.specs.Stepping.{Turn, takes_turn, is_execution, step, executes, stores_it, performs, waits_by}
 use Rattle.iop_machine.specs.World.{World}
 use Rattle.iop_machine.specs.declared.begun_module.BegunModule.{BegunModule}
 use Rattle.iop_machine.proofs.Coming.{IsComing, coming_later}
+use Rattle.iop_machine.proofs.Forgetting.{nobodys_steady, forgets_core}
 use Rattle.iop_machine.proofs.LoadingLands.{Lands, loads_first_lands, boots_leave, returns_leave}
 use Rattle.iop_machine.proofs.LookingLemmas.{taken_irqs, taken_kernel, taken_clock, taken_active, taken_core}
 use Rattle.iop_machine.proofs.Stepping.{IsTurn, stopped, unbooted, delivery, dispatch, execution, waiting, turn_is}
@@ -38,6 +40,10 @@ landed : (s t : Iop) → Lands s t → IsCore (core_of s) → IsCore (core_of t)
 landed s t lands h =
     subst (λ (k : Kernel). IsCore (record { kernel = k; cpu = t.cpu })) (sym lands.kernel)
     ((core_steps h).moves_on s.kernel.clock t.cpu (lands.steady h.steady))
+
+-- another processor, if it is steady
+with_cpu : {c : Core} {cpu : Cpu} → IsCore c → IsSteady cpu → IsCore (record c { cpu = cpu })
+with_cpu {c} {cpu} h steady = (core_steps h).moves_on c.kernel.clock cpu steady
 
 -- it begins, if it is to
 starts_core : (s : Iop) (o : Option BegunModule) → IsCore (core_of s)
@@ -50,8 +56,8 @@ boots_core : (s : Iop) → IsCore (core_of s) → IsCore (core_of (boots s).stat
 unfolding boots
 boots_core s h =
     let left = (loads_first s.modules (with_kernel s)).state in
-    starts_core left left.begun
-    (landed (with_kernel s) left (loads_first_lands s.modules (with_kernel s)) h)
+    with_cpu (starts_core left left.begun
+    (landed (with_kernel s) left (loads_first_lands s.modules (with_kernel s)) h)) nobodys_steady
 
 -- the loader's thread goes on or ends, where another may run
 goes_on_core : (s : Iop) (o : Option BegunModule) → may_switch s.kernel ≡ true → IsCore (core_of s)
@@ -66,7 +72,7 @@ unfolding ends_module
 returns_core s None value may h = goes_on_core s None may h
 returns_core s (Some m) value may h =
     let left = (leaves s
-    (finishes s.kernel.clock s.memory s.blocks s.libraries m.number m.loaded value)).state in
+    (finishes s.kernel.clock s.memory s.blocks s.libraries m.number m.place value)).state in
     let lands = loads_first_lands s.modules left in
     let now = (loads_first s.modules left).state in
     goes_on_core now now.begun (ap may_switch lands.kernel ∙ may) (landed left now lands h)
@@ -123,6 +129,13 @@ module _ {comes : Type 0} where
     latest = λ come. omega (arith, clock);
   }
 
+  -- the same, and then the registers that nobody has are forgotten
+  moves_called : (s : Iop) (t : Transition Iop) → t.state.kernel.clock ≡ s.kernel.clock
+      → t.state.kernel.timers.next ≤ s.kernel.timers.next + 1 → IsCore (core_of t.state)
+      → Moves comes 1 s (with_state ends_call t).state
+  moves_called s t clock numbers core =
+      moves_later s (with_state forgotten t) clock numbers (forgets_core core)
+
   -- by what becomes of the caller
   calls_by_move : (s : Iop) (d : Served) → IsCore (core_of s)
       → d.left.state.core.kernel.clock ≡ s.kernel.clock
@@ -131,14 +144,14 @@ module _ {comes : Type 0} where
       → ((value : ℕ) → after ≡ ModuleReturned value → may_switch d.left.state.core.kernel ≡ true)
       → Moves comes 1 s (calls_by s d after).state
   calls_by_move s d h clock numbers core Resume opens =
-      moves_later s (serves s d) clock numbers core
+      moves_called s (serves s d) clock numbers core
   calls_by_move s d h clock numbers core Switch opens =
-      moves_later s (serves s d) clock numbers core
+      moves_called s (serves s d) clock numbers core
   calls_by_move s d h clock numbers core (ModuleReturned value) opens =
       let now = (serves s d).state in
       let kernel = (returns_leave now now.begun value).kernel in
       let next = ap (λ (k : Kernel). k.timers.next) kernel in
-      moves_later s (returns_by now now.begun value) (ap (λ (k : Kernel). k.clock) kernel ∙ clock)
+      moves_called s (returns_by now now.begun value) (ap (λ (k : Kernel). k.clock) kernel ∙ clock)
       (omega (arith, numbers, next)) (returns_core now now.begun value (opens value refl) core)
   calls_by_move s d h clock numbers core (Fault kind) opens =
       at_once 1 (core_of s) (core_of s) h refl refl

@@ -35,19 +35,19 @@ use Rattle.iop_machine.proofs.StandingLemmas.{IsMoment, carried, takes_as, takes
 -- what a module leaves that was ended at a moment
 module _ (m : Program) (t : ℕ) (moment : IsMoment m t) (begun : BegunModule) (value : ℕ) where
   pub ended_takes : {a b : Output} {memory : Memory} {blocks : BlockMap} {libraries : List Library}
-      → let l = finishes t m.guest m.blocks m.registry begun.number begun.loaded value in
+      → let l = finishes t m.guest m.blocks m.registry begun.number begun.place value in
       memory ≡ l.memory → blocks ≡ l.blocks → libraries ≡ l.libraries → Gives a b l.pieces
       → (s : Iop) → Stands m s
       → Takes Stands (leaves s
-      (finishes s.kernel.clock s.memory s.blocks s.libraries begun.number begun.loaded value))
+      (finishes s.kernel.clock s.memory s.blocks s.libraries begun.number begun.place value))
       (record m { guest = memory; blocks = blocks; registry = libraries }) a b
   ended_takes {a} {b} {memory} {blocks} {libraries} d e f lines =
-      let l = finishes t m.guest m.blocks m.registry begun.number begun.loaded value in
+      let l = finishes t m.guest m.blocks m.registry begun.number begun.place value in
       let now = record m { guest = memory; blocks = blocks; registry = libraries } in
       carried m (λ s. Takes Stands (leaves s (finishes s.kernel.clock s.memory s.blocks s.libraries
-      begun.number begun.loaded value)) now a b)
+      begun.number begun.place value)) now a b)
       (λ k h. subst (λ u. Takes Stands (leaves (iop_of m k) (finishes u m.guest m.blocks m.registry
-      begun.number begun.loaded value)) now a b) (moment k h) (record {
+      begun.number begun.place value)) now a b) (moment k h) (record {
         state = record {
           kernel = h;
           rest = rw (d, e, f) refl;
@@ -81,7 +81,7 @@ module _ (m : Program) (new : Kernels KernelReady)
 -- a module was ended, and then the next one was loaded
 pub ends_module_takes : {m left loaded : Program} {a b c : Output} (begun : BegunModule) (value : ℕ)
     → ((s : Iop) → Stands m s → Takes Stands (leaves s (finishes s.kernel.clock s.memory s.blocks
-    s.libraries begun.number begun.loaded value)) left a b)
+    s.libraries begun.number begun.place value)) left a b)
     → ((s : Iop) → Stands left s → Takes Stands (loads_first s.modules s) loaded b c)
     → (now : Program) → ((s : Iop) → Stands loaded s → Stands now (goes_on_by s s.begun))
     → (s : Iop) → Stands m s → Takes Stands (ends_module s begun value) now a c

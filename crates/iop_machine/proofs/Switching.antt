@@ -101,7 +101,7 @@ unfolding ends_module
 returns_run s None value placed = goes_on_run s None placed
 returns_run s (Some m) value placed =
     let ended =
-    finishes s.kernel.clock s.memory s.blocks s.libraries m.number m.loaded value in
+    finishes s.kernel.clock s.memory s.blocks s.libraries m.number m.place value in
     let left = (leaves s ended).state in
     let now = (loads_first s.modules left).state in
     let threads = ap (λ (k : Kernel). k.threads) (loads_first_lands s.modules left).kernel in

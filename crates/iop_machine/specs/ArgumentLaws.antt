@@ -18,8 +18,8 @@ use Rattle.iop_machine.specs.Modules.{argument_block, strings, module_start}
 abbrev pub ModulesBeginWith : Type 0
 ModulesBeginWith =
     (m : Loaded) (words : ℕ)
-    → BeginsWith (module_start m words) (wrapped (m.base + m.entry)) words ARGUMENTS
-    (wrapped (m.base + m.gp)) LOADER_STACK_TOP MODULE_RETURN
+    → BeginsWith (module_start m words) (wrapped (m.place.base + m.entry)) words ARGUMENTS
+    (wrapped (m.place.base + m.gp)) LOADER_STACK_TOP MODULE_RETURN
 
 -- a word and the zero byte that ends it stand at an address of the argument block
 pub record HasString (ram : List ℕ) (at : ℕ) (word : List ℕ) : Type 0 where

@@ -13,6 +13,7 @@ use Rattle.iop_pools.specs.Pools.{Pool}
 use Rattle.iop_machine.specs.Histories.{calls_in}
 use Rattle.iop_machine.specs.Events.{CanCome}
 use Rattle.iop_machine.specs.Looking.{takes_events, next_coming, at_moment}
+use Rattle.iop_machine.specs.Registers.{IsBare}
 use Rattle.iop_machine.specs.Running.{Ends}
 use Rattle.iop_machine.specs.Stepping.{step, steps, executes, most_steps, run_of}
 use Rattle.iop_machine.specs.World.{World, booted, beginning}
@@ -68,6 +69,8 @@ pub record IsSoundWorld (w : World) : Type 0 where
   pub places : HavePlaces w.iop.memory w.iop.kernel
   -- what is out of each pool is apart and inside of it
   pub pools : PoolsAreSound w.iop.kernel
+  -- registers that nobody has are zero
+  pub bare : IsBare (core_of w.iop)
 
 -- what holds of every machine
 pub record IsMachine (w : World) : Type 0 where
@@ -112,6 +115,8 @@ pub record StaysSound (stubs : List Stub) (s : Iop) : Type 0 where
   -- next instruction of each is the one behind; what is pending of a load is for a register but 0,
   -- and nothing is pending where a thread waits
   pub core : IsCore (core_of s)
+  -- registers that nobody has are zero
+  pub bare : IsBare (core_of s)
   -- each thread that waits has a place for what it is told
   pub places : HavePlaces s.memory s.kernel
   -- no two ranges of memory that are out of a pool meet, and all are inside of it

@@ -1,6 +1,7 @@
 pub mod KernelArea
 pub mod Modules
 pub mod Iop
+pub mod Registers
 pub mod Events
 pub mod Looking
 pub mod World

@@ -11,6 +11,7 @@ use Rattle.iop_thread.specs.Operations as threads
 use Rattle.iop_machine.specs.declared.begun_module.BegunModule.{BegunModule}
 use Rattle.iop_machine.specs.KernelArea.{kernel_area}
 use Rattle.iop_machine.specs.Modules.{Module, argument_block, module_start}
+use Rattle.iop_machine.specs.Registers.{nobodys}
 use Rattle.iop_machine.specs.Storing.{stores_bytes, fills}
 use Rattle.iop_machine.specs.Iop.{Iop, Transition, silent, tells, and_then, with_state, with_threads}
 
@@ -40,24 +41,23 @@ passes s block =
     and_then (fills s ARGUMENTS ARGUMENTS_LEN) (λ v. stores_bytes v ARGUMENTS block)
 
 -- the registers are those with which a module begins that is handed so many words
-abbrev pub begins : Iop → BegunModule → (words : ℕ) → Iop
-begins s begun words = record s {
-  begun = Some begun;
-  cpu = module_start begun.loaded words;
+abbrev pub begins : Iop → (number : ℕ) → Loaded → (words : ℕ) → Iop
+begins s number loaded words = record s {
+  begun = Some (record { number = number; place = loaded.place });
+  cpu = module_start loaded words;
 }
 
 -- a module that was loaded is told, handed its argument block, and begins
-abbrev pub enters : Iop → BegunModule → (words : ℕ) → (block : List ℕ) → Transition Iop
-enters s begun words block =
-    and_then (tells s (Load begun.number begun.loaded.base begun.loaded.len))
-    (λ v. with_state (λ u. begins u begun words) (passes v block))
+abbrev pub enters : Iop → (number : ℕ) → Loaded → (words : ℕ) → (block : List ℕ) → Transition Iop
+enters s number loaded words block =
+    and_then (tells s (Load number loaded.place.base loaded.place.len))
+    (λ v. with_state (λ u. begins u number loaded words) (passes v block))
 
 -- by what its loading came to: it begins, or is told to be refused, and then the next one follows
 abbrev pub enters_or : (next : Iop → Transition Iop) → Iop → Module → Result Loaded Code
     → Transition Iop
 enters_or next s m (Ok loaded) =
-    enters s (record { number = m.number; loaded = loaded }) (length m.words)
-    (argument_block m.words)
+    enters s m.number loaded (length m.words) (argument_block m.words)
 enters_or next s m (Err code) = and_then (tells s (Refused m.number code)) next
 
 -- the first of these modules that loads begins, if one does
@@ -72,6 +72,10 @@ abbrev pub starts_by : Iop → Option BegunModule → Iop
 starts_by s None = s
 starts_by s (Some begun) = with_threads s (threads.begins s.kernel.threads s.cpu)
 
+-- and nobody has those of the processor any more
+abbrev pub starts : Iop → Iop
+starts s = record (starts_by s s.begun) { cpu = nobodys }
+
 -- the kernel's area is written, and the first module that loads begins
 unfoldable pub boots : Iop → Transition Iop
-boots s = with_state (λ v. starts_by v v.begun) (loads_first s.modules (with_kernel s))
+boots s = with_state starts (loads_first s.modules (with_kernel s))

@@ -2,7 +2,8 @@
 -- where nothing is to be executed. It is this project's own profile.
 use Rattle.std.specs.Prelude.{ℕ, ◌+◌, ◌<◌, ◌≤◌, if◌then◌else◌, Option, IfSome, List, fold}
 use Rattle.iop_exec.specs.declared.cpu.Cpu.{Cpu}
-use Rattle.iop_intr.specs.InterruptLines.{IrqLine, raising, lowering}
+use Rattle.iop_intr.specs.InterruptLines.{raising, lowering}
+use Rattle.iop_intr.specs.declared.irq_line.IrqLine.{IrqLine}
 use Rattle.iop_kernel.specs.System.{Kernel}
 use Rattle.iop_script.specs.declared.raise.Raise.{Raise}
 use Rattle.iop_time.specs.Turns.{next_moment}

@@ -8,14 +8,8 @@ use Rattle.iop_thread.specs.States.{zeroed_at}
 use Rattle.iop_modload.specs.declared.limits.TheConstants.{LONGEST_FILE}
 use Rattle.iop_modload.specs.declared.loaded.Loaded.{Loaded}
 use Rattle.iop_script.specs.Scripts.{Args, Named, words_for}
+pub use Rattle.iop_saved_script.specs.Files.{NamedFile}
 use Rattle.iop_machine.specs.declared.arguments.TheConstants.{ARGUMENTS, LOADER_STACK_TOP, MODULE_RETURN, MOST_WORDS, MOST_WORD_BYTES}
-
--- a module as the command names it
-pub record NamedFile : Type 0 where
-  -- its word of the command line
-  pub name : List ℕ
-  -- the bytes of its file
-  pub file : List ℕ
 
 -- a module that was not loaded yet
 pub record Module : Type 0 where
@@ -64,5 +58,5 @@ pub record HasRoom (m : Module) : Type 0 where
 unfoldable pub module_start : Loaded → (words : ℕ) → Cpu
 module_start m words =
     with_reg (with_reg (with_reg
-    (with_reg (with_reg (zeroed_at (wrapped (m.base + m.entry))) 4 words) 5 ARGUMENTS) 28
-    (wrapped (m.base + m.gp))) 29 LOADER_STACK_TOP) 31 MODULE_RETURN
+    (with_reg (with_reg (zeroed_at (wrapped (m.place.base + m.entry))) 4 words) 5 ARGUMENTS) 28
+    (wrapped (m.place.base + m.gp))) 29 LOADER_STACK_TOP) 31 MODULE_RETURN

@@ -15,7 +15,8 @@ use Rattle.iop_modload.specs.Finishing.{Leaves, finishes}
 use Rattle.iop_thread.specs.Operations as threads
 use Rattle.iop_machine.specs.declared.begun_module.BegunModule.{BegunModule}
 use Rattle.iop_machine.specs.Loading.{loads_first}
-use Rattle.iop_machine.specs.Iop.{Iop, Transition, silent, and_then, with_state, later, with_threads, system_of, with_system}
+use Rattle.iop_machine.specs.Registers.{ends_call}
+use Rattle.iop_machine.specs.Iop.{Iop, Transition, silent, and_then, with_state, with_threads, system_of, with_system}
 
 -- the instruction at pc faults: the machine is stopped, and nothing else changes
 abbrev pub faults_with : Iop → GuestFault → Iop
@@ -40,7 +41,7 @@ goes_on_by s (Some begun) = s
 unfoldable pub ends_module : Iop → BegunModule → ℕ → Transition Iop
 ends_module s m value =
     and_then
-    (leaves s (finishes s.kernel.clock s.memory s.blocks s.libraries m.number m.loaded value))
+    (leaves s (finishes s.kernel.clock s.memory s.blocks s.libraries m.number m.place value))
     (λ v. with_state (λ u. goes_on_by u u.begun) (loads_first v.modules v))
 
 -- the loader's thread returned
@@ -54,10 +55,10 @@ serves s d = record { state = with_system s d.left.state; pieces = d.pieces; bou
 
 -- by what becomes of its caller, a call takes its instruction, or the instruction faults
 abbrev pub calls_by : Iop → Served → After → Transition Iop
-calls_by s d Resume = with_state later (serves s d)
-calls_by s d Switch = with_state later (serves s d)
+calls_by s d Resume = with_state ends_call (serves s d)
+calls_by s d Switch = with_state ends_call (serves s d)
 calls_by s d (ModuleReturned value) =
-    with_state later (and_then (serves s d) (λ v. returns_by v v.begun value))
+    with_state ends_call (and_then (serves s d) (λ v. returns_by v v.begun value))
 calls_by s d (Fault kind) = silent (faults_with s kind)
 
 -- the system that a `syscall` calls, at which the processor stands: it has moved on from there

@@ -88,10 +88,10 @@ pub(crate) fn argument_block(name: &[u8], words: &[Word]) -> ArrayVec<u8, ARGUME
 pub(crate) fn module_start(loaded: &Loaded, words: u32) -> Cpu
     ensures { result ≡ module_start loaded.now words }
 {
-    let mut cpu = registers_at(loaded.base.wrapping_add(loaded.entry));
+    let mut cpu = registers_at(loaded.place.base.wrapping_add(loaded.entry));
     cpu.regs[4] = words;
     cpu.regs[5] = ARGUMENTS;
-    cpu.regs[28] = loaded.base.wrapping_add(loaded.gp);
+    cpu.regs[28] = loaded.place.base.wrapping_add(loaded.gp);
     cpu.regs[29] = LOADER_STACK_TOP;
     cpu.regs[31] = MODULE_RETURN;
     cpu

@@ -1,10 +1,10 @@
-use iop_modload::Loaded;
+use iop_modload::ImagePlace;
 
 /// A module that the loader's thread begins or runs.
 #[derive(Clone, Copy, Debug, PartialEq, Eq)]
 pub(crate) struct BegunModule {
     /// Its number, from 1 on.
     pub number: u32,
-    /// Where it was loaded.
-    pub loaded: Loaded,
+    /// Where its image stands.
+    pub place: ImagePlace,
 }

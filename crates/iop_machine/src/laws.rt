@@ -7,6 +7,7 @@ ghost use Rattle.iop_machine.specs.EventLaws.{StepsTakeTheirEvents, EventsChange
 ghost use Rattle.iop_machine.specs.ObjectLaws.{StepsKeepObjects};
 ghost use Rattle.iop_machine.specs.SwitchLaws.{RunsSwitchByDispatch, RunningThreadsWereTaken};
 ghost use Rattle.iop_machine.specs.Laws.{StepsCompose, RunsCompose, RunsAreDetermined, OverStays, RunsBeginAsMachines, RunsStayMachines, RunsEnd, RunsAreComputed, RunsStaySound, RunsAreStrict, RunsAreOnTime, RunsAreAwake, RunsKeepEvents, RunsAreCounted, RunsAreDelivered};
+ghost use Rattle.iop_machine.specs.Registers.{RegistersAreForgotten};
 ghost use Rattle.iop_machine.specs.StubLaws.{StubsReachTheirFunctions, StubsLeaveWithTheirLine, RunsKeepStubs, RunsTellStubs, StubsAreFollowed};
 
 /// The steps of a run are those of its first part, and then those of the rest.
@@ -82,6 +83,12 @@ pub fn arguments_are_read()
 /// else those of its name, else none.
 pub fn words_are_of_modules()
     ensures { WordsAreOfModules }
+{}
+
+/// A call forgets the registers that nobody has, and no others: where a thread runs it forgets
+/// nothing, and where a handler is active nothing of the processor.
+pub fn registers_are_forgotten()
+    ensures { RegistersAreForgotten }
 {}
 
 /// A module begins at its entry with the number of its words in `$a0`, where their addresses stand

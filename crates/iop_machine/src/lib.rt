@@ -12,11 +12,11 @@ pub mod laws;
 mod loading;
 mod looking;
 mod machine;
-mod module;
 mod modules_left;
 mod progress;
+mod registers;
 mod services;
 
 pub use arguments::{MOST_WORD_BYTES, MOST_WORDS};
+pub use iop_saved_script::Module;
 pub use machine::Machine;
-pub use module::Module;

@@ -3,7 +3,7 @@
 ghost use Rattle.std.specs.Prelude.{◌≡◌, ◌<◌, [], MatchBool, length};
 ghost use Rattle.std.specs.Bool.{OnTrue};
 ghost use Rattle.iop_machine.specs.Iop.{Iop as State, Takes, Remains};
-ghost use Rattle.iop_machine.specs.Loading.{passes, enters, loads_first, boots};
+ghost use Rattle.iop_machine.specs.Loading.{passes, enters, loads_first, starts_by, boots};
 ghost use Rattle.iop_machine.specs.Standing.{Stands, IsSound};
 
 use crate::arguments::{ARGUMENTS, ARGUMENTS_LEN, argument_block, module_start};
@@ -11,7 +11,8 @@ use crate::begun_module::BegunModule;
 use crate::iop::Iop;
 use crate::kernel_area::write_kernel_area;
 use iop_base::{Line, Lines};
-use iop_modload::load;
+use iop_modload::{Loaded, load};
+use iop_thread::registers_at;
 
 impl Iop {
     /// Writes the argument block.
@@ -27,23 +28,30 @@ impl Iop {
     }
 
     /// Tells that a module was loaded, and lets it begin with so many words in its argument block.
-    fn enter<L: Lines>(&mut self, begun: BegunModule, words: u32, block: &[u8], lines: &mut L)
+    fn enter<L: Lines>(
+        &mut self,
+        number: u32,
+        loaded: &Loaded,
+        words: u32,
+        block: &[u8],
+        lines: &mut L,
+    )
         ensures { (s : State) → Stands self.old s
-            → Takes Stands (enters s begun words block.now) self.new
+            → Takes Stands (enters s number loaded.now words block.now) self.new
             (L.output lines.old) (L.output lines.new) }
     {
-        let BegunModule { number, loaded } = begun;
+        let place = loaded.place;
         lines.line(
             self.kernel.now(),
             Line::Load {
                 k: number,
-                base: loaded.base,
-                len: loaded.len,
+                base: place.base,
+                len: place.len,
             },
         );
         self.pass_arguments(block, lines);
-        self.cpu = module_start(&loaded, words);
-        self.begun = Some(begun);
+        self.cpu = module_start(loaded, words);
+        self.begun = Some(BegunModule { number, place });
     }
 
     /// Loads the next module, if there is one, and takes it out. A module that loads begins; one
@@ -76,7 +84,7 @@ impl Iop {
                 let block = argument_block(next.name.as_bytes(), next.words);
                 let words = next.words.len() as u32 + 1;
                 self.modules.take_first();
-                self.enter(BegunModule { number, loaded }, words, &block, lines);
+                self.enter(number, &loaded, words, &block, lines);
                 false
             }
             Err(code) => {
@@ -97,8 +105,18 @@ impl Iop {
         while self.load_next(lines) {}
     }
 
+    /// Makes the loader's thread ready with the registers of the module that begins, if one does.
+    fn begin_loader(&mut self)
+        requires sound { IsSound self.old }
+        ensures { (s : State) → Stands self.old s → Stands self.new (starts_by s s.begun) }
+    {
+        if self.begun.is_some() {
+            self.kernel.begin(&self.cpu);
+        }
+    }
+
     /// Writes the kernel's area and loads the first module that loads, for which the loader's
-    /// thread is then ready.
+    /// thread is then ready. Nobody has the processor's registers then.
     #[inline(never)]
     pub(crate) fn boot<L: Lines>(&mut self, lines: &mut L)
         requires sound { IsSound self.old }
@@ -109,8 +127,7 @@ impl Iop {
     {
         write_kernel_area(&mut self.guest, lines);
         self.load_first(lines);
-        if self.begun.is_some() {
-            self.kernel.begin(&self.cpu);
-        }
+        self.begin_loader();
+        self.cpu = registers_at(0);
     }
 }

@@ -16,12 +16,12 @@ ghost use Rattle.iop_machine.specs.World.{World, beginning};
 
 use crate::events::Events;
 use crate::iop::Iop;
-use crate::module::Module;
 use crate::modules_left::ModulesLeft;
 use crate::progress::Progress;
 use iop_base::{Stop, WriteFault};
 use iop_ports::Sink;
 use iop_ready::KernelReady;
+use iop_saved_script::Module;
 use iop_script::Script;
 use iop_trace::Out;
 use std::alloc::{AllocError, Global};

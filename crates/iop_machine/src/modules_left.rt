@@ -7,7 +7,7 @@ ghost use Rattle.iop_machine.specs.Modules.{modules_from, HasRoom};
 ghost use Rattle.iop_machine.specs.ModulesLeft.{module_of};
 ghost use Rattle.iop_script.specs.declared.statements.TheConstants.{MOST_MODULES};
 
-use crate::module::Module;
+use iop_saved_script::Module;
 use iop_script::{Args, Named, Word};
 use std::marker::Model;
 

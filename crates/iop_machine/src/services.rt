@@ -2,7 +2,7 @@
 
 ghost use Rattle.std.specs.Prelude.{◌≡◌, ◌+◌, ◌^◌, ◌<◌, true, length};
 ghost use Rattle.iop_exec.specs.Row.{behind_syscall};
-ghost use Rattle.iop_machine.specs.Iop.{Iop as State, Takes, later};
+ghost use Rattle.iop_machine.specs.Iop.{Iop as State, Takes};
 ghost use Rattle.iop_kernel.specs.Standing.{HasNumber};
 ghost use Rattle.iop_kernel.specs.System.{is_active};
 ghost use Rattle.iop_machine.specs.Services.{faults_with, returns_by, ends_module, calls, concludes};
@@ -23,16 +23,6 @@ impl Iop {
         self.over = Some(Stop::Fault(kind, self.cpu.pc));
     }
 
-    /// Goes on to the next moment.
-    fn tick(&mut self)
-        requires sound { IsSound self.old }
-        requires time { self.old.kernel.clock + 1 < 2 ^ 64 }
-        ensures { (s : State) → Stands self.old s → Stands self.new (later s) }
-    {
-        let now = self.kernel.now();
-        self.kernel.advance(now + 1);
-    }
-
     /// Ends a module, which returned a value, and lets the next one that loads begin. Where none
     /// does, the loader's thread, which runs, ends.
     fn end_module<L: Lines>(&mut self, begun: BegunModule, value: u32, lines: &mut L)
@@ -44,7 +34,7 @@ impl Iop {
     {
         finish(
             begun.number,
-            &begun.loaded,
+            &begun.place,
             value,
             &mut self.guest,
             &mut self.blocks,
@@ -95,10 +85,10 @@ impl Iop {
             lines,
         );
         match after {
-            After::Resume | After::Switch => self.tick(),
+            After::Resume | After::Switch => self.end_call(),
             After::ModuleReturned(value) => {
                 self.return_module(value, lines);
-                self.tick();
+                self.end_call();
             }
             After::Fault(kind) => {
                 self.cpu = before;

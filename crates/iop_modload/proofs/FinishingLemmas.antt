@@ -15,7 +15,7 @@ use Rattle.iop_stubs.specs.Stubs.{Memory, after_store, stub_line, stub_lines}
 use Rattle.iop_stubs.specs.declared.live_stub.Stub.{Stub}
 use Rattle.iop_modload.specs.Finishing.{Leaves, has_block, stays, removes, keeps, finishes}
 use Rattle.iop_modload.specs.Laws.{IsLiveOrTold, HasBlocks, Keeps}
-use Rattle.iop_modload.specs.declared.loaded.Loaded.{Loaded}
+use Rattle.iop_modload.specs.declared.image_place.ImagePlace.{ImagePlace}
 use Rattle.iop_modload.proofs.Blocks.{still-freeing}
 use Rattle.iop_modload.proofs.Keeping.{in_tail, keeps-nothing, keeps-store}
 use Rattle.iop_modload.proofs.Standing.{StandsAt, tells-has_block, stands-behind, stands-inside}
@@ -68,13 +68,13 @@ module _ (t : ℕ) (memory : Memory) (blocks : BlockMap) (libraries : List Entry
       removes-keeps base size ((tells-has_block blocks base size).0 e)
   keeps_by base size false e = keeps-nothing t memory blocks h
 
-  pub keeps-keeps : (m : Loaded) (kept : Kept) → KeepsBy (keeps t memory blocks libraries m kept)
+  pub keeps-keeps : (m : ImagePlace) (kept : Kept) → KeepsBy (keeps t memory blocks libraries m kept)
   keeps-keeps m Resident = keeps-nothing t memory blocks h
   keeps-keeps m Removable = keeps-nothing t memory blocks h
   keeps-keeps m Removed =
       keeps_by m.base (block_len m.len) (has_block blocks m.base (block_len m.len)) refl
 
-  pub finishing_keeps : (k : ℕ) (m : Loaded) (value : ℕ)
+  pub finishing_keeps : (k : ℕ) (m : ImagePlace) (value : ℕ)
       → KeepsBy (finishes t memory blocks libraries k m value)
   unfolding finishes
   finishing_keeps k m value =

@@ -21,7 +21,7 @@ use Rattle.iop_linker.specs.declared.link_fault.LinkFault.{LinkFault}
 use Rattle.iop_modload.specs.Finishing.{Leaves, has_block, keeps, finishes}
 use Rattle.iop_modload.specs.Loading.{links_it, loads_at, loads_parts, loads}
 use Rattle.iop_modload.specs.Modules.{module_of_file}
-use Rattle.iop_modload.specs.declared.loaded.Loaded.{Loaded}
+use Rattle.iop_modload.specs.declared.image_place.ImagePlace.{ImagePlace}
 
 -- what holds of the line of each stub
 module _ (t : ℕ) (memory : Memory) (blocks : BlockMap) (libraries : List Entry)
@@ -52,7 +52,7 @@ module _ (t : ℕ) (memory : Memory) (blocks : BlockMap) (libraries : List Entry
   unfolding loads
   loads_tell file = parts_tell (module_of_file file)
 
-  keeps_tell : (m : Loaded) (kept : Kept) → All P (keeps t memory blocks libraries m kept).pieces
+  keeps_tell : (m : ImagePlace) (kept : Kept) → All P (keeps t memory blocks libraries m kept).pieces
   keeps_tell m Resident = All-nil P
   keeps_tell m Removable = All-nil P
   keeps_tell m Removed =
@@ -61,7 +61,7 @@ module _ (t : ℕ) (memory : Memory) (blocks : BlockMap) (libraries : List Entry
       (λ found. stubs_tell m.base size) (λ gone. All-nil P)
 
   -- and of those of the end of a module, if it holds of the line of its return
-  pub finishes_tell : (k : ℕ) (m : Loaded) (value : ℕ)
+  pub finishes_tell : (k : ℕ) (m : ImagePlace) (value : ℕ)
       → P (Traced (line_bytes t (Returned k value (kept_of value))))
       → All P (finishes t memory blocks libraries k m value).pieces
   unfolding finishes

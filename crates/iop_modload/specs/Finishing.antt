@@ -13,7 +13,7 @@ use Rattle.iop_registry.specs.Entries.{drop_range}
 use Rattle.iop_registry.specs.declared.registry.Entry.{Entry}
 use Rattle.iop_sysmem.specs.BlockMap.{BlockMap, freeing}
 use Rattle.iop_stubs.specs.Stubs.{Memory, after_store, stub_lines}
-use Rattle.iop_modload.specs.declared.loaded.Loaded.{Loaded}
+use Rattle.iop_modload.specs.declared.image_place.ImagePlace.{ImagePlace}
 
 -- what the return of a module leaves
 pub record Leaves : Type 0 where
@@ -43,15 +43,17 @@ module _ (t : ℕ) (memory : Memory) (blocks : BlockMap) (libraries : List Entry
   }
 
   -- a module that is not kept is removed, if its block still stands
-  abbrev pub keeps : Loaded → Kept → Leaves
-  keeps m Resident = stays
-  keeps m Removable = stays
-  keeps m Removed =
-      if has_block blocks m.base (block_len m.len) then removes m.base (block_len m.len) else stays
+  abbrev pub keeps : ImagePlace → Kept → Leaves
+  keeps place Resident = stays
+  keeps place Removable = stays
+  keeps place Removed =
+      if has_block blocks place.base (block_len place.len)
+      then removes place.base (block_len place.len)
+      else stays
 
-  -- module `k` returned a value
-  unfoldable pub finishes : (k : ℕ) → Loaded → (value : ℕ) → Leaves
-  finishes k m value =
+  -- module `k`, whose image stands there, returned a value
+  unfoldable pub finishes : (k : ℕ) → ImagePlace → (value : ℕ) → Leaves
+  finishes k place value =
       let kept = kept_of value in
-      let after = keeps m kept in
+      let after = keeps place kept in
       record after { pieces = Traced (line_bytes t (Returned k value kept)) ∷ after.pieces }

@@ -9,7 +9,7 @@ use Rattle.iop_stubs.specs.Binding.{IsSound}
 use Rattle.iop_stubs.specs.declared.live_stub.Stub.{Stub}
 use Rattle.iop_modload.specs.Loading.{loads}
 use Rattle.iop_modload.specs.Finishing.{finishes}
-use Rattle.iop_modload.specs.declared.loaded.Loaded.{Loaded}
+use Rattle.iop_modload.specs.declared.image_place.ImagePlace.{ImagePlace}
 
 -- a stub lives, or the line of its end at moment `t` is one of these
 abbrev pub IsLiveOrTold : (t : ℕ) → Memory → List Piece → Stub → Type 0
@@ -44,8 +44,8 @@ LoadingKeepsMemory =
 
 abbrev pub FinishingKeepsMemory : Type 0
 FinishingKeepsMemory =
-    (t : ℕ) (memory : Memory) (blocks : BlockMap) (libraries : List Entry) (k : ℕ) (loaded : Loaded)
-    (value : ℕ)
+    (t : ℕ) (memory : Memory) (blocks : BlockMap) (libraries : List Entry) (k : ℕ)
+    (place : ImagePlace) (value : ℕ)
     → HasBlocks memory blocks
-    → let l = finishes t memory blocks libraries k loaded value in
+    → let l = finishes t memory blocks libraries k place value in
     Keeps t memory l.memory l.blocks [] l.pieces

@@ -32,8 +32,7 @@ pub record Loads : Type 0 where
 -- the module stands at a base
 abbrev pub loaded_at : Parts → (base : ℕ) → Loaded
 loaded_at parts base = record {
-  base = base;
-  len = parts.length;
+  place = record { base = base; len = parts.length };
   entry = parts.info.entry;
   gp = parts.info.gp;
 }

@@ -3,6 +3,7 @@
 
 mod finishing;
 mod image;
+mod image_place;
 pub mod laws;
 mod limits;
 mod loaded;
@@ -10,6 +11,7 @@ mod loading;
 mod module_file;
 
 pub use finishing::finish;
+pub use image_place::ImagePlace;
 pub use limits::LONGEST_FILE;
 pub use loaded::Loaded;
 pub use loading::load;

@@ -10,6 +10,7 @@ ghost use Rattle.iop_modload.specs.Loading.{loads, loads_parts, loaded_at, Leave
 ghost use Rattle.iop_modload.specs.Modules.{image_at};
 
 use crate::image::Image;
+use crate::image_place::ImagePlace;
 use crate::loaded::Loaded;
 use crate::module_file::ModuleFile;
 use iop_base::{Code, Lines};
@@ -156,8 +157,10 @@ fn loaded_at(irx: &ModuleFile<'_>, base: u32) -> Loaded
 {
     let info = irx.info();
     Loaded {
-        base,
-        len: irx.length(),
+        place: ImagePlace {
+            base,
+            len: irx.length(),
+        },
         entry: info.entry,
         gp: info.gp,
     }

@@ -2,7 +2,7 @@ ghost use Rattle.std.specs.Prelude.{◌≡◌, length};
 
 use crate::plain::PLAIN;
 use iop_base::{Code, Kept, Line, Lines};
-use iop_modload::{Loaded, finish, load};
+use iop_modload::{ImagePlace, Loaded, finish, load};
 use iop_registry::Registry;
 use iop_stubs::Guest;
 use iop_sysmem::{Blocks, NOWHERE};
@@ -30,11 +30,15 @@ impl Lines for Silent {
     fn text(&mut self, _bytes: &[u8]) {}
 }
 
+/// Gives where the image of the plain module stands at this place.
+const fn place_at(base: u32) -> ImagePlace {
+    ImagePlace { base, len: 8 }
+}
+
 /// Gives the plain module as it is loaded at this place.
 const fn plain_at(base: u32) -> Loaded {
     Loaded {
-        base,
-        len: 8,
+        place: place_at(base),
         entry: 0,
         gp: 0,
     }
@@ -89,9 +93,9 @@ fn finishes(
     ensures { blocks.new.size ≡ length guest.new.ram }
 {
     let (value, kept, start, word) = row;
-    let plain = plain_at(0x1_0000);
+    let place = place_at(0x1_0000);
     assert_eq!(rt;
-        finish(1, &plain, value, guest, blocks, registry, 5, &mut Silent),
+        finish(1, &place, value, guest, blocks, registry, 5, &mut Silent),
         kept
     );
     assert_eq!(rt; blocks.top(0x1_0000), start);

@@ -14,7 +14,7 @@ returns-in-Err-Bad-clause-answers g c =
     (seen c.args.files.now c.args.console.now c.args.trace.now)
     (seen c.args.files.now c.args.console.now c.refuse.new.trace)
     none c.refuse.ensures.status
-    (record { told = refl; faults = refl; line = refuses sent.0 _ _ _ _ _ refl sent.1 })
+    (record { told = refl; faults = refl; line = refuses sent.0 _ _ _ _ _ _ refl sent.1 })
 
 pub returns-in-Err-Memory-clause-answers : goal.returns-in-Err-Memory-clause-answers
 returns-in-Err-Memory-clause-answers g c =

@@ -14,7 +14,7 @@ returns-in-Err-Unreadable g c =
     let refusal = c.refuse_unread.ensures in
     let line = ap (λ (n : Bor (List ℕ)). cannot_read_line n.now) c.in-Err-Unreadable.name-is in
     answers_unread c.in-Err-Unreadable.name.now stopped refusal.status
-    (refuses refusal.sent.0 _ _ _ _ _ line refusal.sent.1)
+    (refuses refusal.sent.0 _ _ _ _ _ _ line refusal.sent.1)
 
 pub returns-in-Err-TooLong : goal.returns-in-Err-TooLong
 returns-in-Err-TooLong g c =
@@ -22,7 +22,7 @@ returns-in-Err-TooLong g c =
     let refusal = c.refuse_too_long.ensures in
     let line = ap (λ (n : Bor (List ℕ)). too_long_line n.now) c.in-Err-TooLong.name-is in
     answers_too_long c.in-Err-TooLong.name.now stopped refusal.status
-    (refuses refusal.sent.0 _ _ _ _ _ line refusal.sent.1)
+    (refuses refusal.sent.0 _ _ _ _ _ _ line refusal.sent.1)
 
 pub returns-in-Err-BadScript : goal.returns-in-Err-BadScript
 returns-in-Err-BadScript g c =
@@ -30,7 +30,7 @@ returns-in-Err-BadScript g c =
     let refusal = c.refuse_bad_script.ensures in
     let line = ap bad_script_line c.in-Err-BadScript.number-is in
     answers_bad c.in-Err-BadScript.number stopped refusal.status
-    (refuses refusal.sent.0 _ _ _ _ _ line refusal.sent.1)
+    (refuses refusal.sent.0 _ _ _ _ _ _ line refusal.sent.1)
 
 pub returns-in-Err-NoMemory : goal.returns-in-Err-NoMemory
 returns-in-Err-NoMemory g c =

@@ -18,7 +18,8 @@ returns-else-send g c = λ w stands.
       | else-send-via-then-send+else-write_dump v ↦ (
         false,
         refl,
-        ending_leaves false _ dump _ _ _
+        ending_leaves false _ dump (told c.args.trace.now) (told c.send.new.sink)
+            (told c.else-send.trace)
             (sent_as _ true _ _ _ _ v.if-send.true line c.send.ensures)
             (subst (λ trace. TraceLeaves false (told c.send.new.sink) (told trace) dump)
             (sym v.trace-is) (v.if-write_dump.ensures w stands)),
@@ -26,7 +27,7 @@ returns-else-send g c = λ w stands.
       | else-send-via-else-send v ↦ (
         false,
         refl,
-        ending_cut _ dump _ _ (sent_as _ false _ _ _ _ v.if-send.false line
+        ending_cut _ dump (told c.args.trace.now) (told c.else-send.trace) (sent_as _ false _ _ _ _ v.if-send.false line
             (subst (λ trace. Sends c.send.result c.deref.result.now (told c.args.trace.now)
             (told trace)) (sym v.trace-is) c.send.ensures)),
       )

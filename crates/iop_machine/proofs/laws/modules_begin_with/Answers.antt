@@ -8,5 +8,5 @@ use Rattle.iop_machine.proofs.laws.modules_begin_with.Goals as goal
 pub returns : goal.returns
 unfolding module_start
 returns c = λ m words.
-    begins_with (wrapped (m.base + m.entry)) words ARGUMENTS (wrapped (m.base + m.gp))
+    begins_with (wrapped (m.place.base + m.entry)) words ARGUMENTS (wrapped (m.place.base + m.gp))
     LOADER_STACK_TOP MODULE_RETURN

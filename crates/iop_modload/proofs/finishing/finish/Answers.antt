@@ -13,7 +13,7 @@ whole g c =
       sound = c.ram.ensures.sound;
       are_blocks = c.size-2.ensures.blocks;
       same_size = c.requires.same_size;
-    }) c.args.loaded.now c.of_value-kept.result).whole
+    }) c.args.place.now c.of_value-kept.result).whole
     c.leave.ensures.memory c.leave.ensures.blocks
 
 pub returns-clause-lines : goal.returns-clause-lines

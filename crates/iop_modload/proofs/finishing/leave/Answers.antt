@@ -6,8 +6,8 @@ use Rattle.iop_modload.proofs.finishing.leave.Goals as goal
 pub block_len-requires : goal.block_len-requires
 block_len-requires g c =
     let map = c.args.blocks.now in
-    let base = c.args.loaded.now.base in
-    let size = block_len c.args.loaded.now.len in
+    let base = c.args.place.now.base in
+    let size = block_len c.args.place.now.len in
     let stands = (tells-has_block map base size).0
     (sym c.still_stands.ensures.stands ∙ c.if-still_stands.true) in
     omega (arith, stands-inside map base size c.still_stands.ensures.blocks stands)
@@ -15,8 +15,8 @@ block_len-requires g c =
 pub remove-requires-clause-some : goal.remove-requires-clause-some
 remove-requires-clause-some g c =
     let map = c.args.blocks.now in
-    let base = c.args.loaded.now.base in
-    let size = block_len c.args.loaded.now.len in
+    let base = c.args.place.now.base in
+    let size = block_len c.args.place.now.len in
     let stands = (tells-has_block map base size).0
     (sym c.still_stands.ensures.stands ∙ c.if-still_stands.true) in
     omega (arith, stands-some map base size c.still_stands.ensures.blocks stands)
@@ -24,8 +24,8 @@ remove-requires-clause-some g c =
 pub remove-requires-clause-inside : goal.remove-requires-clause-inside
 remove-requires-clause-inside g c =
     let map = c.args.blocks.now in
-    let base = c.args.loaded.now.base in
-    let size = block_len c.args.loaded.now.len in
+    let base = c.args.place.now.base in
+    let size = block_len c.args.place.now.len in
     let stands = (tells-has_block map base size).0
     (sym c.still_stands.ensures.stands ∙ c.if-still_stands.true) in
     omega (arith, stands-inside map base size c.still_stands.ensures.blocks stands)

@@ -1,6 +1,6 @@
 use Rattle.std.proofs.Common.{inl, inr, arith}
 use Rattle.iop_kernel.specs.declared.after.After.TheVariants.{Resume, Switch, ModuleReturned}
-use Rattle.iop_machine.specs.Iop.{later}
+use Rattle.iop_machine.specs.Registers.{ends_call}
 use Rattle.iop_machine.specs.Services.{returns_by}
 use Rattle.iop_machine.specs.Standing.{Stands}
 use Rattle.iop_machine.proofs.ServiceLemmas.{served, serves_takes, calls_takes, faults_takes, clock_left, size_left, clock_returned}
@@ -14,8 +14,8 @@ service-after-requires g c = record {
   same_size = c.requires.same_size;
 }
 
-pub tick-requires : goal.tick-requires
-tick-requires g c =
+pub end_call-requires : goal.end_call-requires
+end_call-requires g c =
     let h = served c.args.self.now _ c.args.code c.move_on.ensures c.service-after.ensures in
     let clock = clock_left h _ c.requires.runs.1 c.requires.runs.2 in
     record {
@@ -31,8 +31,8 @@ return_module-requires g c =
       same_size = size_left h _ c.requires.runs.1 c.requires.runs.2 c.requires.same_size;
     }
 
-pub tick-requires-in-ModuleReturned : goal.tick-requires-in-ModuleReturned
-tick-requires-in-ModuleReturned g c =
+pub end_call-requires-in-ModuleReturned : goal.end_call-requires-in-ModuleReturned
+end_call-requires-in-ModuleReturned g c =
     let h = served c.args.self.now _ c.args.code c.move_on.ensures c.service-after.ensures in
     let left = (serves_takes h _ c.requires.runs.1).state in
     let returned = c.return_module.ensures _ left in
@@ -46,7 +46,7 @@ tick-requires-in-ModuleReturned g c =
 pub returns-in-Resume : goal.returns-in-Resume
 returns-in-Resume g c s stands =
     let h = served c.args.self.now _ c.args.code c.move_on.ensures c.service-after.ensures in
-    let taken = takes_with (serves_takes h s stands) Stands later _ (c.tick.ensures _) in
+    let taken = takes_with (serves_takes h s stands) Stands ends_call _ (c.end_call.ensures _) in
     elim c.in-Resume.is [
       | inl resumes ↦ calls_takes h Resume resumes s stands taken
       | inr switches ↦ calls_takes h Switch switches s stands taken
@@ -59,7 +59,7 @@ returns-in-ModuleReturned g c s stands =
     let taken = serves_takes h s stands in
     calls_takes h (ModuleReturned value) c.in-ModuleReturned.is s stands
     (takes_with (takes_then taken (λ v. returns_by v v.begun value)
-    (c.return_module.ensures _ taken.state)) Stands later _ (c.tick-in-ModuleReturned.ensures _))
+    (c.return_module.ensures _ taken.state)) Stands ends_call _ (c.end_call-in-ModuleReturned.ensures _))
 
 pub returns-in-Fault : goal.returns-in-Fault
 returns-in-Fault g c =

@@ -8,10 +8,11 @@ use Rattle.iop_machine.proofs.iop.Iop.enter.Goals as goal
 
 pub returns : goal.returns
 returns g c s h =
-    let begun = c.args.begun in
+    let number = c.args.number in
+    let loaded = c.args.loaded.now in
     let words = c.args.words in
     let told = tells_takes c.args.self.now c.now.result c.now.ensures.moment
-    (Load begun.number begun.loaded.base begun.loaded.len) c.line.ensures s h in
-    takes_then told (λ v. with_state (λ u. begins u begun words) (passes v c.args.block.now))
-    (takes_with (c.pass_arguments.ensures s h) Stands (λ u. begins u begun words) _
-    (stands_begun _ begun words _ c.module_start-self.ensures _))
+    (Load number loaded.place.base loaded.place.len) c.line.ensures s h in
+    takes_then told (λ v. with_state (λ u. begins u number loaded words) (passes v c.args.block.now))
+    (takes_with (c.pass_arguments.ensures s h) Stands (λ u. begins u number loaded words) _
+    (stands_begun _ number loaded words _ c.module_start-self.ensures _))

@@ -44,7 +44,12 @@ returns-in-Stopped-clause-whole g c = λ w h machine.
     finished
     (same_sinks (sym (ap g.C.Sink.told c.new-out.ensures.console))
     (sym (ap g.T.Sink.told c.new-out.ensures.trace)))
-    (same_sinks (search (rules, console)) (search (rules, trace)))
+    (record {
+      console = search (rules, console);
+      trace = search (rules, trace);
+      console_faults = search (rules, console);
+      trace_faults = search (rules, trace);
+    })
     all.1 c.new-out.ensures.failed
 
 pub returns-in-Advanced-clause-sound : goal.returns-in-Advanced-clause-sound
@@ -68,7 +73,12 @@ returns-in-Advanced-clause-fault g c = λ w h machine.
     faulted
     (same_sinks (sym (ap g.C.Sink.told c.new-out.ensures.console))
     (sym (ap g.T.Sink.told c.new-out.ensures.trace)))
-    (same_sinks (search (rules, console)) (search (rules, trace)))
+    (record {
+      console = search (rules, console);
+      trace = search (rules, trace);
+      console_faults = search (rules, console);
+      trace_faults = search (rules, trace);
+    })
     all.1 c.new-out.ensures.failed (sym c.failed.ensures ∙ c.if-failed.true)
 
 pub steps-preserved : goal.steps-preserved
