@@ -1,4 +1,4 @@
-"""What tools/when is made of.
+"""What tools/when is made of; tools/timeline uses places.py, too.
 
     runs.py        the words of ./iop, and its runs, which end at any moment
     scripts.py     the script of a run, as it is for a run with a watcher

@@ -24,7 +24,8 @@ LISTED_AT = 0x10000
 
 
 class Module(NamedTuple):
-    """A module in memory: its number and name in the command, and where its image is."""
+    """A module in memory: its number and name in the command, the latter empty where the command is not known, and
+    where its image is."""
     number: int
     name: str
     base: int
@@ -35,31 +36,44 @@ class Module(NamedTuple):
         return self.base + self.length
 
 
-def loaded_by(line, command):
-    """The module that a line of the trace tells to be loaded, if it does."""
+def loaded_by(line, command=None):
+    """The module that a line of the trace tells to be loaded, if it does. Where the command is known it has a name."""
     found = re.match(r"\d+ load (\d+) ok ([0-9a-f]+) ([0-9a-f]+)", line)
     if not found:
         return None
     number = int(found[1])
-    name = command.modules[number - 1] if command.modules else "generated"
+    name = command.name_of(number) if command else ""
     return Module(number, name, int(found[2], 16), int(found[3], 16))
+
+
+def take_line(modules, line, command=None):
+    """Adds the module that a line of the trace tells to be loaded to those in memory, by their numbers, or takes away
+    the one that it tells to be removed."""
+    module = loaded_by(line, command)
+    if module:
+        modules[module.number] = module
+    removed = re.match(r"\d+ result (\d+) \S+ removed", line)
+    if removed:
+        modules.pop(int(removed[1]), None)
 
 
 def modules_in_memory(lines, command):
     """The modules that are in memory behind these lines."""
     modules = {}
     for line in lines:
-        module = loaded_by(line, command)
-        if module:
-            modules[module.number] = module
-        removed = re.match(r"\d+ result (\d+) \S+ removed", line)
-        if removed:
-            modules.pop(int(removed[1]), None)
+        take_line(modules, line, command)
     return list(modules.values())
 
 
+@cache
+def function_and_line(file, place):
+    """What a linked file tells of a place."""
+    return output_of(ADDR2LINE, "-f", "-s", "-e", file, f"{place:x}").splitlines()[:2]
+
+
 class Symbols:
-    """The functions and lines of modules, by their linked files: [NAME=]ELF."""
+    """The functions and lines of modules, by their linked files: [NAME=]ELF. A module whose name is not known is called
+    by its number."""
 
     def __init__(self, words):
         self.by_name = dict(word.split("=", 1) for word in words if "=" in word)
@@ -68,8 +82,9 @@ class Symbols:
             output_of(ADDR2LINE, "-e", file)
 
     def file_of(self, module):
-        stem = os.path.basename(module.name).removesuffix(".irx")
-        named = self.by_name.get(module.name) or self.by_name.get(stem)
+        name = module.name or str(module.number)
+        stem = os.path.basename(name).removesuffix(".irx")
+        named = self.by_name.get(name) or self.by_name.get(stem)
         in_order = self.by_order[module.number - 1] if module.number <= len(self.by_order) else None
         return named or in_order
 
@@ -78,7 +93,7 @@ class Symbols:
         file = self.file_of(module)
         if not file:
             return ""
-        name, line = output_of(ADDR2LINE, "-f", "-s", "-e", file, f"{place:x}").splitlines()[:2]
+        name, line = function_and_line(file, place)
         return f": {name}" if line.startswith("??") else f": {name}, {line.split(' ')[0]}"
 
 
@@ -121,7 +136,8 @@ def place_text(address, modules, symbols):
     if not module:
         return None
     place -= module.base
-    return f"module {module.number}, {module.name}, at {place:08x}{symbols.text(module, place)}"
+    name = f", {module.name}," if module.name else ""
+    return f"module {module.number}{name} at {place:08x}{symbols.text(module, place)}"
 
 
 def instruction_text(irx, word, address, work):

@@ -25,7 +25,7 @@ class Moment(NamedTuple):
 
 
 def fail(text):
-    sys.exit(f"when: {text}")
+    sys.exit(f"{os.path.basename(sys.argv[0])}: {text}")
 
 
 def made_by(program, words, stderr=None):
@@ -88,6 +88,10 @@ class Command:
                 fail(f"{name} stands twice")
             else:
                 self.given[name] = value if is_joined else words.pop(0)
+
+    def name_of(self, number):
+        """The name of a module, by its number."""
+        return self.modules[number - 1] if self.modules else "generated"
 
     @property
     def ram(self):
