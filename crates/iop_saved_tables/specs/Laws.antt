@@ -9,14 +9,15 @@ use Rattle.iop_stubs.specs.declared.live_stub.Stub.{Stub}
 use Rattle.iop_sysmem.specs.BlockMap.{BlockMap}
 use Rattle.iop_sysmem.specs.Restoring as blocks
 use Rattle.iop_sysmem.specs.declared.block.Block.{Block}
+use Rattle.iop_sysmem.specs.declared.blocks.TheConstants.{KERNEL}
 use Rattle.iop_time.specs.Restoring.{alarms_put_back, delays_put_back}
 use Rattle.iop_time.specs.Timers.{Timers}
 use Rattle.iop_time.specs.declared.alarm.Alarm.{Alarm}
 use Rattle.iop_time.specs.declared.delay.Delay.{Delay}
-use Rattle.std.specs.Prelude.{◌≡◌, List}
+use Rattle.std.specs.Prelude.{◌≡◌, ◌<◌, ℕ, Some, List, [], ◌∷◌, ◌++◌, length}
 use Rattle.iop_saved_tables.specs.Lines.{lines_form}
 use Rattle.iop_saved_tables.specs.Records.{alarm_form, delay_form, library_form, stub_form, next_stub}
-use Rattle.iop_saved_tables.specs.Tables.{put_alarm, put_delay, put_block, put_library, put_stub, used_form}
+use Rattle.iop_saved_tables.specs.Tables.{Opened, put_alarm, put_delay, put_block, put_library, put_stub, put_used, unopened, used_form}
 
 -- what was spelled is read, whatever follows, and what was read is what is spelled
 pub record FormsAreLawful : Type 0 where
@@ -43,3 +44,29 @@ pub record TablesArePutBack : Type 0 where
       → put_all put_library old new ≡ registry.with_all old new
   pub stubs : (memory : Memory) (stubs : List Stub)
       → put_all put_stub memory stubs ≡ stubs_put_back memory stubs
+
+-- these alarms stand behind those that stood, and the delays are as they were
+pub record AlarmsStandBehind (old : Timers) (put : List Alarm) (new : Timers) : Type 0 where
+  pub alarms : new.alarms ≡ old.alarms ++ put
+  pub delays : new.delays ≡ old.delays
+
+-- these delays stand behind those that stood, and the alarms are as they were
+pub record DelaysStandBehind (old : Timers) (put : List Delay) (new : Timers) : Type 0 where
+  pub delays : new.delays ≡ old.delays ++ put
+  pub alarms : new.alarms ≡ old.alarms
+
+-- what was put back one after the other is what stands behind that which stood there: so a file
+-- that was read is the file that the restored machine would write
+pub record TablesTellWhatWasPut : Type 0 where
+  pub alarms : (old new : Timers) (alarms : List Alarm) → put_all put_alarm old alarms ≡ Some new
+      → AlarmsStandBehind old alarms new
+  pub delays : (old new : Timers) (delays : List Delay) → put_all put_delay old delays ≡ Some new
+      → DelaysStandBehind old delays new
+  -- into a map of the kernel's block alone, which comes first of those that are put back
+  pub blocks : (size : ℕ) (used : List Block) (opened : Opened)
+      → put_all put_used (unopened (record { size = size; used = KERNEL ∷ [] })) used ≡ Some opened
+      → 0 < length used → opened.map ≡ record { size = size; used = used }
+  pub libraries : (old new libraries : List Entry)
+      → put_all put_library old libraries ≡ Some new → new ≡ old ++ libraries
+  pub stubs : (old new : Memory) (stubs : List Stub) → put_all put_stub old stubs ≡ Some new
+      → new ≡ record old { live = old.live ++ stubs }

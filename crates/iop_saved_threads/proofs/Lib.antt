@@ -4,3 +4,4 @@ pub mod ThreadLaws
 pub mod ReadyBack
 pub mod ReadyInOrder
 pub mod ThreadsInOrder
+pub mod Telling
