@@ -5,3 +5,5 @@ pub mod Places
 pub mod Counts
 pub mod ComingBack
 pub mod Lawful
+pub mod LastObject
+pub mod TellingBack

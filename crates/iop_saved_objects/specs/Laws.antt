@@ -50,6 +50,14 @@ module _ {A W X : Type 0} where
   ComesBack put saved s =
       option_and_then (λ t. with_next_back t s.next) (put_all put no_objects (saved s)) ≡ Some s
 
+  -- what was put back into a table of none is what would be saved of it, and all that waits in it
+  -- waits with the priority of its thread
+  abbrev pub TellsWhatWasPut : (put : Objects A W → X → Option (Objects A W))
+      → (saved : Objects A W → List X) → (priorities : ℕ → Option ℕ) → Type 0
+  TellsWhatWasPut put saved priorities =
+      (xs : List X) (s : Objects A W) → put_all put no_objects xs ≡ Some s
+      → (saved s ≡ xs) × AllHavePriorities priorities s
+
 -- a table as it can stand comes back from what was saved of it
 pub record TablesComeBack (priorities : ℕ → Option ℕ) : Type 0 where
   pub semaphores : (s : Semaphores) → semaphores.CanBeRestored s → AllHavePriorities priorities s
@@ -63,3 +71,12 @@ pub record TablesComeBack (priorities : ℕ → Option ℕ) : Type 0 where
       → ComesBack (put_variable_pool priorities) variable.saved_pools s
   pub fixed_pools : (s : FixedPools) → fixed_pools.AreRegular s → AllHavePriorities priorities s
       → ComesBack (put_fixed_pool priorities) fixed.saved_pools s
+
+-- a table of none into which objects were put back tells them again
+pub record TablesTellWhatWasPut (priorities : ℕ → Option ℕ) : Type 0 where
+  pub semaphores : TellsWhatWasPut (put_semaphore priorities) saved_semaphores priorities
+  pub event_flags : TellsWhatWasPut (put_event_flag priorities) saved_flags priorities
+  pub mailboxes : TellsWhatWasPut (put_mailbox priorities) saved_mailboxes priorities
+  pub variable_pools : TellsWhatWasPut (put_variable_pool priorities) variable.saved_pools
+      priorities
+  pub fixed_pools : TellsWhatWasPut (put_fixed_pool priorities) fixed.saved_pools priorities
