@@ -10,7 +10,7 @@ use Rattle.iop_snapshot.specs.Reading.{GivesNone}
 use Rattle.iop_snapshot.proofs.Combining.{then_some}
 use Rattle.iop_snapshot.proofs.Putting.{puts_more}
 use Rattle.iop_saved_objects.specs.Lists.{list_of, with_list, put_with_list}
-use Rattle.iop_saved_objects.specs.Restored.{IsPut, HasPut}
+use Rattle.iop_saved_objects.specs.Restored.{IsPut, HasPut, PartIsPut, PutsPart}
 use Rattle.iop_saved_objects.specs.declared.putting.Restored.{Restored}
 use Rattle.iop_saved_objects.proofs.OneByOne.{may_put_all, list_one_by_one}
 
@@ -105,57 +105,6 @@ pub puts_one : {T X : Type 0} (put : T → X → Option T) (form : Form X) (old 
     → (tested form (may_put put old)).read before ≡ Some (x, rest)
 puts_one put form old new x before rest h = rw (h.is_read, h.is_put) refl
 
--- where a fault returns, which said that none can be
-pub exits_by : {T X : Type 0} (put : T → X → Option T) (form : Form X) (old new : T)
-    (before rest : List ℕ) (result : Result Unit SnapFault) (given fault : SnapFault)
-    → given ≡ fault → result ≡ Err given
-    → GivesNone ((tested form (may_put put old)).read before) fault
-    → PutsOne put form old new result before rest
-exits_by put form old new before rest result given fault same is none =
-    rw is (subst (GivesNone ((tested form (may_put put old)).read before)) (sym same) none)
-
--- a value with a list behind it, from what was put of each
-pub with_list_put : {T H X P : Type 0} (put : T → H → Option T) (put_item : H → T → X → Option T)
-    (form : Form H) (item : Form X) (old : T) (base now : Restored T P) (value : H)
-    (before between rest : List ℕ) (result : Result Unit SnapFault)
-    → IsPut put form old base.table value before between
-    → PutsList (put_item value) item base now result between rest
-    → PutsOne (put_with_list put put_item) (with_list form item) old now.table result before rest
-with_list_put put put_item form item old base now value before between rest (Ok u) first list =
-    let both = behind put put_item form item old base.table value before between first now.table
-    list.0 rest list.1.all list.2 in (
-      (value, list.0),
-      both.is_put,
-      puts_one (put_with_list put put_item) (with_list form item) old now.table (value, list.0)
-          before rest both,
-    )
-with_list_put put put_item form item old base now value before between rest (Err Bad) first list =
-    none_behind put put_item form item old base.table value before between first list
-with_list_put put put_item form item old base now value before between rest (Err Memory) first
-    list = tt
-
--- the same where more lists follow
-pub list_is_put : {T H X P : Type 0} (put : T → H → Option T) (put_item : H → T → X → Option T)
-    (form : Form H) (item : Form X) (old : T) (base now : Restored T P) (value : H)
-    (before between rest : List ℕ) → IsPut put form old base.table value before between
-    → (list : (xs : List X) × HasPut (put_item value) base now xs
-    × (read_list (next_form (put_item value) item base.table) between ≡ Some (xs, rest)))
-    → IsPut (put_with_list put put_item) (with_list form item) old now.table (value, list.0) before
-    rest
-list_is_put put put_item form item old base now value before between rest first list =
-    behind put put_item form item old base.table value before between first now.table list.0 rest
-    list.1.all list.2
-
-pub list_fails : {T H X : Type 0} (put : T → H → Option T) (put_item : H → T → X → Option T)
-    (form : Form H) (item : Form X) (old middle : T) (value : H) (before between : List ℕ)
-    (fault : SnapFault) → IsPut put form old middle value before between
-    → GivesNone (read_list (next_form (put_item value) item middle) between) fault
-    → GivesNone ((tested (with_list form item) (may_put (put_with_list put put_item) old)).read
-    before) fault
-list_fails put put_item form item old middle value before between Bad first none =
-    none_behind put put_item form item old middle value before between first none
-list_fails put put_item form item old middle value before between Memory first u = tt
-
 -- a list that was put with the id and the priorities that a table has, which are these
 pub list_moved : {T X P : Type 0} (of : P → ℕ → Option ℕ)
     (put : (ℕ → Option ℕ) → ℕ → T → X → Option T) (form : Form X) (old base now : Restored T P)
@@ -168,12 +117,66 @@ list_moved of put form old base now id before rest result same_id same h =
     (subst (λ n. PutsList (put (of base.priorities.now) n) form base now result before rest)
     same_id h)
 
--- where a list was put the priorities stay
-pub same_priorities : {T P X : Type 0} (put : T → X → Option T) (form : Form X)
-    (old new : Restored T P) (before rest : List ℕ) (result : Result Unit SnapFault)
-    → PutsList put form old new result before rest → OnOk result (new.priorities ≡ old.priorities)
-same_priorities put form old new before rest (Ok u) list = list.1.priorities
-same_priorities put form old new before rest (Err fault) list = tt
+-- what was put of an object
+module _ {T P X : Type 0} (put : T → X → Option T) (form : Form X) (id : X → ℕ)
+    (old new : Restored T P) (before rest : List ℕ) where
+  -- it is what one form reads that the table takes
+  pub part_one : (result : Result Unit SnapFault)
+      → PutsPart put form id old new result before rest
+      → PutsOne put form old.table new.table result before rest
+  part_one (Ok u) h = (
+    h.part,
+    h.put_so.is_put,
+    puts_one put form old.table new.table h.part before rest h.put_so,
+  )
+  part_one (Err fault) none = none
+
+  -- and the priorities stay
+  pub part_priorities : (result : Result Unit SnapFault)
+      → PutsPart put form id old new result before rest
+      → OnOk result (new.priorities ≡ old.priorities)
+  part_priorities (Ok u) h = h.priorities
+  part_priorities (Err fault) none = tt
+
+  -- where a fault returns, which said that none can be
+  pub part_exits : (result : Result Unit SnapFault) (given fault : SnapFault) → given ≡ fault
+      → result ≡ Err given → GivesNone ((tested form (may_put put old.table)).read before) fault
+      → PutsPart put form id old new result before rest
+  part_exits result given fault same is none =
+      rw is
+      (subst (GivesNone ((tested form (may_put put old.table)).read before)) (sym same) none)
+
+-- a part with a list behind it, from what was put of each
+pub with_list_put : {T H X P : Type 0} (of : P → ℕ → Option ℕ) (put : T → H → Option T)
+    (put_item : (ℕ → Option ℕ) → ℕ → T → X → Option T) (form : Form H) (item : Form X)
+    (id : H → ℕ) (old middle new : Restored T P) (before between rest : List ℕ)
+    (result : Result Unit SnapFault) → PartIsPut put form id old middle before between
+    → PutsList (put_item (of middle.priorities.now) middle.id) item middle new result between rest
+    → PutsPart (put_with_list put (λ head. put_item (of old.priorities.now) (id head)))
+    (with_list form item) (λ value. id value.0) old new result before rest
+with_list_put {T} {H} {X} of put put_item form item id old middle new before between rest result
+    first list =
+    by result
+    (list_moved of put_item item old middle new (id first.part) between rest result first.id_so
+    first.priorities list)
+  where
+    own : H → T → X → Option T
+    own head = put_item (of old.priorities.now) (id head)
+
+    by : (r : Result Unit SnapFault) → PutsList (own first.part) item middle new r between rest
+        → PutsPart (put_with_list put own) (with_list form item) (λ value. id value.0) old new r
+        before rest
+    by (Ok u) xs = record {
+      part = (first.part, xs.0);
+      put_so = behind put own form item old.table middle.table first.part before between
+          first.put_so new.table xs.0 rest xs.1.all xs.2;
+      id_so = xs.1.id ∙ first.id_so;
+      priorities = xs.1.priorities ∙ first.priorities;
+    }
+    by (Err Bad) none =
+        none_behind put own form item old.table middle.table first.part before between first.put_so
+        none
+    by (Err Memory) u = tt
 
 module _ {T X P : Type 0} (of : P → ℕ → Option ℕ) (form : Form X) (base old new : Restored T P)
     (xs : List X) (before rest : List ℕ) where

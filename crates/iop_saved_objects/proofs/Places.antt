@@ -5,13 +5,11 @@ use Rattle.std.proofs.lemmas.Bool.{eq-eqb, ne_eqb}
 use Rattle.std.proofs.lemmas.List.{length-map}
 use Rattle.std.proofs.lemmas.Option.{same_Some, slice_get-map, slice_get_within, get_or_from_slice_get}
 use Rattle.iop_base.proofs.Searching.{AllPairs-tail}
-use Rattle.iop_snapshot.proofs.Combining.{map_some}
-use Rattle.iop_objects.specs.Objects.{Object, Objects, AreObjects, object_of, state_of, waiters_in, waiters_of}
+use Rattle.iop_objects.specs.Objects.{Object, Objects, AreObjects, object_of, waiters_in, waiters_of}
 use Rattle.iop_objects.specs.declared.waiter.Waiter.{Waiter}
 use Rattle.iop_queues.specs.declared.queued.Queued.{Queued}
 use Rattle.iop_saved_objects.specs.Lists.{ahead_in}
 use Rattle.iop_saved_objects.specs.Waiters.{saved_waiters}
-use Rattle.iop_saved_objects.specs.declared.head.Head.{Head}
 
 module _ {A W : Type 0} where
   -- where ids rise, the object at a place is the one of its id
@@ -29,45 +27,23 @@ module _ {A W : Type 0} where
       rw (ne_eqb q.id o.id (λ e. omega (arith, less, there, e)))
       (found_at live k o (AllPairs-tail (λ a b. a.id < b.id) q live rise) is)
 
-  -- what was written of the object at a place of which so much is known
-  pub record IsAt {X B : Type 0} (saved : Object A W → X) (known : A → B) (s : Objects A W)
-      (id : ℕ) (state : B) (x : X) : Type 0 where
-    pub object : Object A W
-    pub is : x ≡ saved object
-    pub same_id : object.id ≡ id
-    pub same_state : known object.state ≡ state
-    pub found : AreObjects s → object_of s.live id ≡ Some object
-
-  -- what stands in front of its lists
-  pub head_at : {X B : Type 0} {saved : Object A W → X} {known : A → B} {s : Objects A W}
-      {id : ℕ} {state : B} {x : X} (at : IsAt saved known s id state x)
-      → (let there : Head B = record { id = at.object.id; state = known at.object.state } in
-      there ≡ record { id = id; state = state })
-  head_at {B = B} {known = known} {id = id} at =
-      ap (λ (n : ℕ). let head : Head B = record { id = n; state = known at.object.state } in head)
-      at.same_id
-      ∙ ap (λ (y : B). let head : Head B = record { id = id; state = y } in head) at.same_state
-
-  pub at_place : {X B : Type 0} (saved : Object A W → X) (known : A → B) (s : Objects A W)
-      (place id : ℕ) (state : B) (x : X)
-      → (let told : Object A W → ℕ × B = λ o. (o.id, known o.state) in
-      let is : Option (ℕ × B) = Some (id, state) in
-      is ≡ option_map told (slice_get s.live place))
-      → slice_get (map saved s.live) place ≡ Some x → IsAt saved known s id state x
-  at_place {X} {B} saved known s place id state x nth there =
-      let told : Object A W → ℕ × B = λ o. (o.id, known o.state) in
-      let one = map_some (slice_get s.live place) told (id, state) (sym nth) in
-      let is : saved one.0 ≡ x = same_Some (saved one.0) x
-      (sym (slice_get-map saved s.live place ∙ ap (option_map saved) one.1) ∙ there) in
-      let same_id : one.0.id ≡ id = ap (λ (p : ℕ × B). p.0) one.2 in
-      record {
-        object = one.0;
-        is = sym is;
-        same_id = same_id;
-        same_state = ap (λ (p : ℕ × B). p.1) one.2;
-        found = λ are.
-            ap (object_of s.live) (sym same_id) ∙ found_at s.live place one.0 are.ids one.1;
-      }
+  -- what is written of the object at a place, from what is known of it
+  pub told_at : {X B : Type 0} (saved : Object A W → X) (known : A → B) (by : ℕ → B → X)
+      (s : Objects A W) → AreObjects s
+      → ((o : Object A W) → object_of s.live o.id ≡ Some o → saved o ≡ by o.id (known o.state))
+      → (place : ℕ) (result : Option (ℕ × B))
+      → result ≡ option_map (λ o. (o.id, known o.state)) (slice_get s.live place)
+      → slice_get (map saved s.live) place ≡ option_map (λ told. by told.0 told.1) result
+  told_at {B = B} saved known by s are same place result e =
+      slice_get-map saved s.live place ∙ each (slice_get s.live place) refl
+      ∙ sym (ap (option_map (λ (told : ℕ × B). by told.0 told.1)) e)
+    where
+      each : (o : Option (Object A W)) → slice_get s.live place ≡ o
+          → option_map saved o
+          ≡ option_map (λ (told : ℕ × B). by told.0 told.1)
+          (option_map (λ p. (p.id, known p.state)) o)
+      each None is = refl
+      each (Some o) is = ap Some (same o (found_at s.live place o are.ids is))
 
   -- those that wait for an object, if there is one, as they are ahead of a walk over them
   pub waiters_ahead : (o : Option (Object A W)) (walk : Option (List (Queued (Waiter W))))
@@ -85,26 +61,20 @@ module _ {A W : Type 0} where
       counted ∙ sym (ap length (waiters_ahead (object_of s.live id) walk e)
       ∙ length-map (waiters_of s id) (λ queued. queued.item))
 
-  -- those that wait for the object at a place
-  pub waiters_at : {X B : Type 0} {saved : Object A W → X} {known : A → B} {s : Objects A W}
-      {id : ℕ} {state : B} {x : X} (at : IsAt saved known s id state x) → AreObjects s
-      → (walk : Option (List (Queued (Waiter W))))
-      → walk ≡ option_map (λ p. p.waiters) (object_of s.live id)
-      → saved_waiters at.object.waiters ≡ ahead_in saved_waiters walk
-  waiters_at {s = s} {id = id} at are walk e =
-      sym (waiters_ahead (object_of s.live id) walk e
-      ∙ ap (λ o. saved_waiters (waiters_in o)) (at.found are))
+-- what stands with an object, if there is one, as it is ahead of a walk over it
+pub content_ahead : {A Y : Type 0} (content : A → List Y) (o : Option A)
+    (walk : Option (List Y)) → walk ≡ option_map content o
+    → ahead_in (λ ys. ys) walk ≡ ahead_in content o
+content_ahead {Y = Y} content o walk e =
+    ap (λ (ys : Option (List Y)). unwrap_or ys []) (all walk ∙ e)
+  where
+    all : (ys : Option (List Y)) → option_map (λ zs. zs) ys ≡ ys
+    all None = refl
+    all (Some ys) = refl
 
-  -- what stands with the object at a place, as it is ahead of a walk over it
-  pub content_at : {X B Y : Type 0} {saved : Object A W → X} {known : A → B} {s : Objects A W}
-      {id : ℕ} {state : B} {x : X} (content : A → List Y) (at : IsAt saved known s id state x)
-      → AreObjects s → (walk : Option (List Y)) → walk ≡ option_map content (state_of s id)
-      → content at.object.state ≡ ahead_in (λ ys. ys) walk
-  content_at {Y = Y} content at are walk e =
-      sym (ap (λ (o : Option (List Y)). unwrap_or o []) (all walk ∙ e)
-      ∙ ap (λ (o : Option (Object A W)).
-      unwrap_or (option_map content (option_map (λ p. p.state) o)) []) (at.found are))
-    where
-      all : (o : Option (List Y)) → option_map (λ ys. ys) o ≡ o
-      all None = refl
-      all (Some ys) = refl
+-- and how much it is
+pub content_counted : {A Y : Type 0} (content : A → List Y) (o : Option A) (count : ℕ)
+    (walk : Option (List Y)) → count ≡ length (ahead_in content o) → walk ≡ option_map content o
+    → count ≡ length (ahead_in (λ ys. ys) walk)
+content_counted content o count walk counted e =
+    counted ∙ sym (ap length (content_ahead content o walk e))

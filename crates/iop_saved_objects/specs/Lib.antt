@@ -6,5 +6,6 @@ pub mod Mailboxes
 pub mod VariablePools
 pub mod FixedPools
 pub mod Restored
+pub mod Saved
 pub mod Begins
 pub mod Laws

@@ -6,14 +6,16 @@ ghost use Rattle.iop_snapshot.specs.Items.{fits_item};
 ghost use Rattle.iop_snapshot.specs.Putting.{PutsAll};
 ghost use Rattle.iop_snapshot.specs.Writing.{place_of, Writes};
 ghost use Rattle.iop_snapshot.specs.declared.widths.TheConstants.{EVENT_FLAG as WIDTHS};
+ghost use Rattle.iop_objects.specs.Objects.{waiters_of};
 ghost use Rattle.iop_saved_objects.specs.EventFlags.{saved_flags, flag_head_numbers, flag_head, event_flag_form, put_head, put_queued, put_event_flag};
-ghost use Rattle.iop_saved_objects.specs.Waiters.{put_waiter};
+ghost use Rattle.iop_saved_objects.specs.Waiters.{put_waiter, saved_waiters};
 
 use crate::head::Head;
 use crate::listing::save_records;
-use crate::objects::{Table, WithList, restore_objects, save_objects};
+use crate::objects::{Table, restore_objects, save_objects};
+use crate::parts::WithList;
 use crate::priorities::Priorities;
-use crate::putting::{PutHead, PutItem, Restored, restore_head};
+use crate::putting::{Listed, PutHead};
 use crate::record::Record;
 use iop_base::WriteFault;
 use iop_event::{EventFlag, EventFlags, Wanted};
@@ -21,7 +23,7 @@ use iop_objects::Waiter;
 use iop_ports::Sink;
 use iop_queues::Walk;
 use iop_snapshot::widths::EVENT_FLAG;
-use iop_snapshot::{Decoder, Encoder, SnapFault, restore_list};
+use iop_snapshot::{Decoder, Encoder, SnapFault};
 
 /// Tells the numbers of an event flag.
 fn numbers_of_event_flag(head: Head<EventFlag>) -> [u64; 5]
@@ -69,8 +71,18 @@ impl PutHead<Head<EventFlag>> for EventFlags {
     }
 }
 
-impl PutItem<Waiter<Wanted>> for EventFlags {
+impl Listed<Waiter<Wanted>> for EventFlags {
+    ghost items = { λ s id. saved_waiters (waiters_of s id) };
+
     ghost put_item = { λ priorities id. put_waiter (put_queued id) priorities };
+
+    fn save_items<S: Sink>(&self, id: u32, encoder: &mut Encoder<'_, S>) -> Result<(), WriteFault> {
+        save_records::<Waiter<Wanted>, Walk<'_, Waiter<Wanted>>, S>(
+            self.walk(id),
+            self.waiters(id),
+            encoder,
+        )
+    }
 
     fn put_item<P: Priorities>(&mut self, priorities: &P, id: u32, item: Waiter<Wanted>) -> bool {
         match priorities.priority(item.thread) {
@@ -86,38 +98,19 @@ type Saved = WithList<Head<EventFlag>, Waiter<Wanted>>;
 impl Table<Saved> for EventFlags {
     ghost saved = { λ s. saved_flags s };
 
-    ghost form = { event_flag_form };
-
-    ghost put = { λ priorities s saved. put_event_flag priorities s saved };
-
     fn len(&self) -> usize {
         self.len()
     }
 
-    fn save_nth<S: Sink>(
-        &self,
-        place: usize,
-        encoder: &mut Encoder<'_, S>,
-    ) -> Result<(), WriteFault> {
-        let Some((id, state)) = self.nth(place) else {
-            return Ok(());
-        };
-        Head { id, state }.save(encoder)?;
-        let count = self.waiters(id);
-        save_records::<Waiter<Wanted>, Walk<'_, Waiter<Wanted>>, S>(self.walk(id), count, encoder)
-    }
-
-    fn restore_next<P: Priorities>(
-        restored: &mut Restored<'_, Self, P>,
-        decoder: &mut Decoder<'_>,
-    ) -> Result<(), SnapFault> {
-        let head = restore_head::<Head<EventFlag>, EventFlags>(&mut restored.table, decoder)?;
-        restored.id = head.id;
-        restore_list::<Waiter<Wanted>, Restored<'_, EventFlags, P>>(restored, decoder)
+    fn nth(&self, place: usize) -> Option<(u32, EventFlag)> {
+        // That ids rise is told with those that wait.
+        self.waiters(0);
+        self.nth(place)
     }
 }
 
 /// Writes the event flags, in the order of their ids, each with the threads that wait for it.
+#[tactic(auto, unfolding(crate::specs::EventFlags::event_flag_form))]
 pub fn save_event_flags<S: Sink>(
     event_flags: &EventFlags,
     encoder: &mut Encoder<'_, S>,
@@ -132,6 +125,7 @@ pub fn save_event_flags<S: Sink>(
 
 /// Reads event flags, with the threads that wait for each, and puts them back into a table. `Bad`
 /// exactly where no list of event flags can be read that it takes, unless memory runs out.
+#[tactic(auto, unfolding(crate::specs::EventFlags::event_flag_form))]
 pub fn restore_event_flags<P: Priorities>(
     event_flags: EventFlags,
     priorities: &P,

@@ -5,18 +5,19 @@ ghost use Rattle.iop_snapshot.specs.Forms.{spell_list, fits_list};
 ghost use Rattle.iop_snapshot.specs.Items.{fits_item};
 ghost use Rattle.iop_snapshot.specs.Putting.{PutsAll};
 ghost use Rattle.iop_snapshot.specs.Writing.{place_of, Writes};
-ghost use Rattle.iop_objects.specs.Objects.{state_of};
+ghost use Rattle.iop_objects.specs.Objects.{state_of, waiters_of};
 ghost use Rattle.iop_pools.specs.FixedRestoring.{blocks_in};
 ghost use Rattle.iop_snapshot.specs.declared.widths.TheConstants.{FIXED_POOL as WIDTHS, POOL_BLOCK as ITEM_WIDTHS};
 ghost use Rattle.iop_saved_objects.specs.FixedPools.{saved_pools, pool_numbers, pool_head, block_numbers, block_form, fixed_pool_form, put_head, put_block, put_queued, put_fixed_pool};
 ghost use Rattle.iop_saved_objects.specs.Lists.{ahead_in};
-ghost use Rattle.iop_saved_objects.specs.Waiters.{put_waiter};
+ghost use Rattle.iop_saved_objects.specs.Waiters.{put_waiter, saved_waiters};
 
 use crate::head::Head;
 use crate::listing::save_records;
-use crate::objects::{Table, WithList, restore_objects, save_objects};
+use crate::objects::{Table, restore_objects, save_objects};
+use crate::parts::WithList;
 use crate::priorities::Priorities;
-use crate::putting::{PutHead, PutItem, Restored, restore_head};
+use crate::putting::{Listed, PutHead};
 use crate::record::Record;
 use iop_base::WriteFault;
 use iop_objects::Waiter;
@@ -24,7 +25,7 @@ use iop_pools::{BlockWalk, FixedLayout, FixedPools};
 use iop_ports::Sink;
 use iop_queues::Walk;
 use iop_snapshot::widths::{FIXED_POOL, POOL_BLOCK};
-use iop_snapshot::{Decoder, Encoder, SnapFault, restore_list};
+use iop_snapshot::{Decoder, Encoder, SnapFault};
 
 /// Tells the numbers of a pool.
 fn numbers_of_pool(head: Head<FixedLayout>) -> [u64; 6]
@@ -114,16 +115,32 @@ impl PutHead<Head<FixedLayout>> for FixedPools {
     }
 }
 
-impl PutItem<u32> for FixedPools {
+impl Listed<u32> for FixedPools {
+    ghost items = { λ s id. ahead_in (λ x. blocks_in x.ranges) (state_of s id) };
+
     ghost put_item = { λ priorities id. put_block id };
+
+    fn save_items<S: Sink>(&self, id: u32, encoder: &mut Encoder<'_, S>) -> Result<(), WriteFault> {
+        save_records::<u32, BlockWalk<'_>, S>(self.blocks(id), count_blocks(self, id), encoder)
+    }
 
     fn put_item<P: Priorities>(&mut self, _priorities: &P, id: u32, item: u32) -> bool {
         self.put_block(id, item)
     }
 }
 
-impl PutItem<Waiter<()>> for FixedPools {
+impl Listed<Waiter<()>> for FixedPools {
+    ghost items = { λ s id. saved_waiters (waiters_of s id) };
+
     ghost put_item = { λ priorities id. put_waiter (put_queued id) priorities };
+
+    fn save_items<S: Sink>(&self, id: u32, encoder: &mut Encoder<'_, S>) -> Result<(), WriteFault> {
+        save_records::<Waiter<()>, Walk<'_, Waiter<()>>, S>(
+            self.walk(id),
+            self.waiters(id),
+            encoder,
+        )
+    }
 
     fn put_item<P: Priorities>(&mut self, priorities: &P, id: u32, item: Waiter<()>) -> bool {
         match priorities.priority(item.thread) {
@@ -139,42 +156,20 @@ type Saved = WithList<WithList<Head<FixedLayout>, u32>, Waiter<()>>;
 impl Table<Saved> for FixedPools {
     ghost saved = { λ s. saved_pools s };
 
-    ghost form = { fixed_pool_form };
-
-    ghost put = { λ priorities s saved. put_fixed_pool priorities s saved };
-
     fn len(&self) -> usize {
         self.len()
     }
 
-    fn save_nth<S: Sink>(
-        &self,
-        place: usize,
-        encoder: &mut Encoder<'_, S>,
-    ) -> Result<(), WriteFault> {
-        let Some((id, state)) = self.nth(place) else {
-            return Ok(());
-        };
-        Head { id, state }.save(encoder)?;
-        let waiting = self.waiters(id);
-        let count = count_blocks(self, id);
-        save_records::<u32, BlockWalk<'_>, S>(self.blocks(id), count, encoder)?;
-        save_records::<Waiter<()>, Walk<'_, Waiter<()>>, S>(self.walk(id), waiting, encoder)
-    }
-
-    fn restore_next<P: Priorities>(
-        restored: &mut Restored<'_, Self, P>,
-        decoder: &mut Decoder<'_>,
-    ) -> Result<(), SnapFault> {
-        let head = restore_head::<Head<FixedLayout>, FixedPools>(&mut restored.table, decoder)?;
-        restored.id = head.id;
-        restore_list::<u32, Restored<'_, FixedPools, P>>(restored, decoder)?;
-        restore_list::<Waiter<()>, Restored<'_, FixedPools, P>>(restored, decoder)
+    fn nth(&self, place: usize) -> Option<(u32, FixedLayout)> {
+        // That ids rise is told with those that wait.
+        self.waiters(0);
+        self.nth(place)
     }
 }
 
 /// Writes the fixed pools, in the order of their ids, each with the blocks that are out of it and
 /// the threads that wait for it.
+#[tactic(auto, unfolding(crate::specs::FixedPools::fixed_pool_form))]
 pub fn save_fixed_pools<S: Sink>(
     pools: &FixedPools,
     encoder: &mut Encoder<'_, S>,
@@ -190,6 +185,7 @@ pub fn save_fixed_pools<S: Sink>(
 /// Reads fixed pools, with the blocks that are out of each and the threads that wait for it, and
 /// puts them back into a table. `Bad` exactly where no list of pools can be read that it takes,
 /// unless memory runs out.
+#[tactic(auto, unfolding(crate::specs::FixedPools::fixed_pool_form))]
 pub fn restore_fixed_pools<P: Priorities>(
     pools: FixedPools,
     priorities: &P,

@@ -9,6 +9,7 @@ pub mod laws;
 mod listing;
 mod mailboxes;
 mod objects;
+mod parts;
 mod priorities;
 mod putting;
 mod record;

@@ -1,9 +1,9 @@
 //! Lists of records, written from a walk over them.
 
-ghost use Rattle.std.specs.Prelude.{◌≡◌, ◌<◌, ◌^◌, [], ◌∷◌, List, MatchOption, OnOk, length, true};
-ghost use Rattle.iop_snapshot.specs.Forms.{spell_list, fits_list};
-ghost use Rattle.iop_snapshot.specs.Writing.{place_of, Writes};
-ghost use Rattle.iop_saved_objects.specs.Lists.{ahead_in};
+ghost use Rattle.std.specs.Prelude.{◌≡◌, ◌<◌, ◌^◌, [], ◌∷◌, List, MatchOption, length};
+ghost use Rattle.iop_snapshot.specs.Writing.{place_of};
+ghost use Rattle.iop_saved_objects.specs.Lists.{ahead_in, list_of};
+ghost use Rattle.iop_saved_objects.specs.Saved.{IsSaved};
 ghost use Rattle.iop_saved_objects.specs.Waiters.{saved_waiters};
 
 use crate::record::Record;
@@ -89,9 +89,8 @@ pub(crate) fn save_records<X: Record, I: Items<X> + Drop, S: Sink>(
 ) -> Result<(), WriteFault>
     requires counted { count ≡ length (ahead_in I.ahead items) }
     requires few { count < 2 ^ 32 }
-    ensures written { Writes result (spell_list X.form (ahead_in I.ahead items))
+    ensures { IsSaved (list_of X.form) (ahead_in I.ahead items) result
         (place_of S.told encoder.old) (place_of S.told encoder.new) }
-    ensures fits { OnOk result (fits_list (λ _. X.form) (ahead_in I.ahead items) ≡ true) }
 {
     save_list::<X, Rest<I>, S>(count as u32, &mut Rest { items }, encoder)
 }

@@ -6,14 +6,17 @@ ghost use Rattle.iop_snapshot.specs.Items.{fits_item};
 ghost use Rattle.iop_snapshot.specs.Putting.{PutsAll};
 ghost use Rattle.iop_snapshot.specs.Writing.{place_of, Writes};
 ghost use Rattle.iop_snapshot.specs.declared.widths.TheConstants.{MAILBOX as WIDTHS, MESSAGE as MESSAGE_WIDTHS};
+ghost use Rattle.iop_objects.specs.Objects.{state_of, waiters_of};
+ghost use Rattle.iop_saved_objects.specs.Lists.{ahead_in};
 ghost use Rattle.iop_saved_objects.specs.Mailboxes.{saved_mailboxes, mailbox_numbers, mailbox_head, message_numbers, message_form, mailbox_form, put_head, put_queued, put_message, put_mailbox};
-ghost use Rattle.iop_saved_objects.specs.Waiters.{put_waiter};
+ghost use Rattle.iop_saved_objects.specs.Waiters.{put_waiter, saved_waiters};
 
 use crate::head::Head;
 use crate::listing::save_records;
-use crate::objects::{Table, WithList, restore_objects, save_objects};
+use crate::objects::{Table, restore_objects, save_objects};
+use crate::parts::WithList;
 use crate::priorities::Priorities;
-use crate::putting::{PutHead, PutItem, Restored, restore_head};
+use crate::putting::{Listed, PutHead};
 use crate::record::Record;
 use iop_base::WriteFault;
 use iop_mbx::{Mailbox, Mailboxes};
@@ -21,7 +24,7 @@ use iop_objects::Waiter;
 use iop_ports::Sink;
 use iop_queues::{Queued, Walk};
 use iop_snapshot::widths::{MAILBOX, MESSAGE};
-use iop_snapshot::{Decoder, Encoder, SnapFault, restore_list};
+use iop_snapshot::{Decoder, Encoder, SnapFault};
 
 /// Tells the numbers of a mailbox.
 fn numbers_of_mailbox(head: Head<Mailbox>) -> [u64; 3]
@@ -92,8 +95,18 @@ impl PutHead<Head<Mailbox>> for Mailboxes {
     }
 }
 
-impl PutItem<Waiter<u32>> for Mailboxes {
+impl Listed<Waiter<u32>> for Mailboxes {
+    ghost items = { λ s id. saved_waiters (waiters_of s id) };
+
     ghost put_item = { λ priorities id. put_waiter (put_queued id) priorities };
+
+    fn save_items<S: Sink>(&self, id: u32, encoder: &mut Encoder<'_, S>) -> Result<(), WriteFault> {
+        save_records::<Waiter<u32>, Walk<'_, Waiter<u32>>, S>(
+            self.walk(id),
+            self.waiters(id),
+            encoder,
+        )
+    }
 
     fn put_item<P: Priorities>(&mut self, priorities: &P, id: u32, item: Waiter<u32>) -> bool {
         match priorities.priority(item.thread) {
@@ -103,8 +116,18 @@ impl PutItem<Waiter<u32>> for Mailboxes {
     }
 }
 
-impl PutItem<Queued<u32>> for Mailboxes {
+impl Listed<Queued<u32>> for Mailboxes {
+    ghost items = { λ s id. ahead_in (λ x. x.messages) (state_of s id) };
+
     ghost put_item = { λ priorities id. put_message id };
+
+    fn save_items<S: Sink>(&self, id: u32, encoder: &mut Encoder<'_, S>) -> Result<(), WriteFault> {
+        save_records::<Queued<u32>, Walk<'_, u32>, S>(
+            self.walk_messages(id),
+            self.messages(id),
+            encoder,
+        )
+    }
 
     fn put_item<P: Priorities>(&mut self, _priorities: &P, id: u32, item: Queued<u32>) -> bool {
         self.put_message(id, item.item, item.priority)
@@ -117,42 +140,20 @@ type Saved = WithList<WithList<Head<Mailbox>, Waiter<u32>>, Queued<u32>>;
 impl Table<Saved> for Mailboxes {
     ghost saved = { λ s. saved_mailboxes s };
 
-    ghost form = { mailbox_form };
-
-    ghost put = { λ priorities s saved. put_mailbox priorities s saved };
-
     fn len(&self) -> usize {
         self.len()
     }
 
-    fn save_nth<S: Sink>(
-        &self,
-        place: usize,
-        encoder: &mut Encoder<'_, S>,
-    ) -> Result<(), WriteFault> {
-        let Some((id, state)) = self.nth(place) else {
-            return Ok(());
-        };
-        Head { id, state }.save(encoder)?;
-        let count = self.waiters(id);
-        save_records::<Waiter<u32>, Walk<'_, Waiter<u32>>, S>(self.walk(id), count, encoder)?;
-        let count = self.messages(id);
-        save_records::<Queued<u32>, Walk<'_, u32>, S>(self.walk_messages(id), count, encoder)
-    }
-
-    fn restore_next<P: Priorities>(
-        restored: &mut Restored<'_, Self, P>,
-        decoder: &mut Decoder<'_>,
-    ) -> Result<(), SnapFault> {
-        let head = restore_head::<Head<Mailbox>, Mailboxes>(&mut restored.table, decoder)?;
-        restored.id = head.id;
-        restore_list::<Waiter<u32>, Restored<'_, Mailboxes, P>>(restored, decoder)?;
-        restore_list::<Queued<u32>, Restored<'_, Mailboxes, P>>(restored, decoder)
+    fn nth(&self, place: usize) -> Option<(u32, Mailbox)> {
+        // That ids rise is told with those that wait.
+        self.waiters(0);
+        self.nth(place)
     }
 }
 
 /// Writes the mailboxes, in the order of their ids, each with the threads that wait for it and its
 /// messages.
+#[tactic(auto, unfolding(crate::specs::Mailboxes::mailbox_form))]
 pub fn save_mailboxes<S: Sink>(
     mailboxes: &Mailboxes,
     encoder: &mut Encoder<'_, S>,
@@ -168,6 +169,7 @@ pub fn save_mailboxes<S: Sink>(
 /// Reads mailboxes, with the threads that wait for each and its messages, and puts them back into a
 /// table. `Bad` exactly where no list of mailboxes can be read that it takes, unless memory runs
 /// out.
+#[tactic(auto, unfolding(crate::specs::Mailboxes::mailbox_form))]
 pub fn restore_mailboxes<P: Priorities>(
     mailboxes: Mailboxes,
     priorities: &P,

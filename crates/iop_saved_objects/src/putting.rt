@@ -1,23 +1,36 @@
 //! Lists of records, read and put back into a table behind an object.
 
-ghost use Rattle.std.specs.Prelude.{◌≡◌, ℕ, Option, Some, MatchResult, is_some, true};
+ghost use Rattle.std.specs.Prelude.{◌≡◌, ℕ, List, Option, Some, MatchResult, is_some, true};
 ghost use Rattle.iop_snapshot.specs.Forms.{tested};
 ghost use Rattle.iop_snapshot.specs.Putting.{may_put, next_form, PutsOne};
 ghost use Rattle.iop_snapshot.specs.Reading.{GivesNone};
+ghost use Rattle.iop_snapshot.specs.Writing.{place_of};
 ghost use Rattle.iop_saved_objects.specs.Begins.{none_put_in};
+ghost use Rattle.iop_saved_objects.specs.Lists.{list_of};
 ghost use Rattle.iop_saved_objects.specs.Restored.{HasPut, IsPut};
+ghost use Rattle.iop_saved_objects.specs.Saved.{IsSaved};
 
 use crate::priorities::Priorities;
 use crate::record::Record;
-use iop_snapshot::{Decoder, RestoreItems, SnapFault};
+use iop_base::WriteFault;
+use iop_ports::Sink;
+use iop_snapshot::{Decoder, Encoder, RestoreItems, SnapFault};
 
 /// A table in which records stand with an object.
-pub(crate) trait PutItem<X> {
+pub(crate) trait Listed<X: Record> {
+    /// Those that stand with the object of an id.
+    ghost items: { Self → ℕ → List X };
+
     /// A record is put behind those that stand with the object of an id, where threads have these
     /// priorities; none where the table does not take it.
     ghost put_item: { (ℕ → Option ℕ) → ℕ → Self → X → Option Self };
 
-    /// Puts it there. False exactly where the table does not take it.
+    /// Writes those that stand with an object. Each has a spelling.
+    fn save_items<S: Sink>(&self, id: u32, encoder: &mut Encoder<'_, S>) -> Result<(), WriteFault>
+        ensures { IsSaved (list_of X.form) (items self.now id) result
+            (place_of S.told encoder.old) (place_of S.told encoder.new) };
+
+    /// Puts one there. False exactly where the table does not take it.
     fn put_item<P: Priorities>(&mut self, priorities: &P, id: u32, item: X) -> bool
         ensures may { result ≡ is_some (put_item (P.of priorities.now) id self.old item) }
         ensures put { result ≡ true
@@ -35,7 +48,7 @@ pub(crate) struct Restored<'a, T, P> {
 }
 
 /// Reads the next record that stands with the object and puts it back.
-fn put_next<X: Record, T: PutItem<X>, P: Priorities>(
+fn put_next<X: Record, T: Listed<X>, P: Priorities>(
     restored: &mut Restored<'_, T, P>,
     decoder: &mut Decoder<'_>,
 ) -> Result<(), SnapFault>
@@ -57,7 +70,7 @@ fn put_next<X: Record, T: PutItem<X>, P: Priorities>(
     }
 }
 
-impl<X: Record, T: PutItem<X>, P: Priorities> RestoreItems<X> for Restored<'_, T, P> {
+impl<X: Record, T: Listed<X>, P: Priorities> RestoreItems<X> for Restored<'_, T, P> {
     ghost starts = { λ _. Unit {0} };
 
     ghost grows = { λ base now xs.

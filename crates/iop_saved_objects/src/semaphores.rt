@@ -6,14 +6,16 @@ ghost use Rattle.iop_snapshot.specs.Items.{fits_item};
 ghost use Rattle.iop_snapshot.specs.Putting.{PutsAll};
 ghost use Rattle.iop_snapshot.specs.Writing.{place_of, Writes};
 ghost use Rattle.iop_snapshot.specs.declared.widths.TheConstants.{SEMAPHORE as WIDTHS};
+ghost use Rattle.iop_objects.specs.Objects.{waiters_of};
 ghost use Rattle.iop_saved_objects.specs.Semaphores.{saved_semaphores, semaphore_numbers, semaphore_head, semaphore_form, put_head, put_queued, put_semaphore};
-ghost use Rattle.iop_saved_objects.specs.Waiters.{put_waiter};
+ghost use Rattle.iop_saved_objects.specs.Waiters.{put_waiter, saved_waiters};
 
 use crate::head::Head;
 use crate::listing::save_records;
-use crate::objects::{Table, WithList, restore_objects, save_objects};
+use crate::objects::{Table, restore_objects, save_objects};
+use crate::parts::WithList;
 use crate::priorities::Priorities;
-use crate::putting::{PutHead, PutItem, Restored, restore_head};
+use crate::putting::{Listed, PutHead};
 use crate::record::Record;
 use iop_base::WriteFault;
 use iop_objects::Waiter;
@@ -21,7 +23,7 @@ use iop_ports::Sink;
 use iop_queues::Walk;
 use iop_sema::{Semaphore, Semaphores};
 use iop_snapshot::widths::SEMAPHORE;
-use iop_snapshot::{Decoder, Encoder, SnapFault, restore_list};
+use iop_snapshot::{Decoder, Encoder, SnapFault};
 
 /// Tells the numbers of a semaphore.
 fn numbers_of_semaphore(head: Head<Semaphore>) -> [u64; 6]
@@ -71,8 +73,18 @@ impl PutHead<Head<Semaphore>> for Semaphores {
     }
 }
 
-impl PutItem<Waiter<()>> for Semaphores {
+impl Listed<Waiter<()>> for Semaphores {
+    ghost items = { λ s id. saved_waiters (waiters_of s id) };
+
     ghost put_item = { λ priorities id. put_waiter (put_queued id) priorities };
+
+    fn save_items<S: Sink>(&self, id: u32, encoder: &mut Encoder<'_, S>) -> Result<(), WriteFault> {
+        save_records::<Waiter<()>, Walk<'_, Waiter<()>>, S>(
+            self.walk(id),
+            self.waiters(id),
+            encoder,
+        )
+    }
 
     fn put_item<P: Priorities>(&mut self, priorities: &P, id: u32, item: Waiter<()>) -> bool {
         match priorities.priority(item.thread) {
@@ -88,38 +100,19 @@ type Saved = WithList<Head<Semaphore>, Waiter<()>>;
 impl Table<Saved> for Semaphores {
     ghost saved = { λ s. saved_semaphores s };
 
-    ghost form = { semaphore_form };
-
-    ghost put = { λ priorities s saved. put_semaphore priorities s saved };
-
     fn len(&self) -> usize {
         self.len()
     }
 
-    fn save_nth<S: Sink>(
-        &self,
-        place: usize,
-        encoder: &mut Encoder<'_, S>,
-    ) -> Result<(), WriteFault> {
-        let Some((id, state)) = self.nth(place) else {
-            return Ok(());
-        };
-        Head { id, state }.save(encoder)?;
-        let count = self.waiters(id);
-        save_records::<Waiter<()>, Walk<'_, Waiter<()>>, S>(self.walk(id), count, encoder)
-    }
-
-    fn restore_next<P: Priorities>(
-        restored: &mut Restored<'_, Self, P>,
-        decoder: &mut Decoder<'_>,
-    ) -> Result<(), SnapFault> {
-        let head = restore_head::<Head<Semaphore>, Semaphores>(&mut restored.table, decoder)?;
-        restored.id = head.id;
-        restore_list::<Waiter<()>, Restored<'_, Semaphores, P>>(restored, decoder)
+    fn nth(&self, place: usize) -> Option<(u32, Semaphore)> {
+        // That ids rise is told with those that wait.
+        self.waiters(0);
+        self.nth(place)
     }
 }
 
 /// Writes the semaphores, in the order of their ids, each with the threads that wait for it.
+#[tactic(auto, unfolding(crate::specs::Semaphores::semaphore_form))]
 pub fn save_semaphores<S: Sink>(
     semaphores: &Semaphores,
     encoder: &mut Encoder<'_, S>,
@@ -134,6 +127,7 @@ pub fn save_semaphores<S: Sink>(
 
 /// Reads semaphores, with the threads that wait for each, and puts them back into a table. `Bad`
 /// exactly where no list of semaphores can be read that it takes, unless memory runs out.
+#[tactic(auto, unfolding(crate::specs::Semaphores::semaphore_form))]
 pub fn restore_semaphores<P: Priorities>(
     semaphores: Semaphores,
     priorities: &P,

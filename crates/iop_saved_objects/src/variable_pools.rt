@@ -5,17 +5,18 @@ ghost use Rattle.iop_snapshot.specs.Forms.{spell_list, fits_list};
 ghost use Rattle.iop_snapshot.specs.Items.{fits_item};
 ghost use Rattle.iop_snapshot.specs.Putting.{PutsAll};
 ghost use Rattle.iop_snapshot.specs.Writing.{place_of, Writes};
-ghost use Rattle.iop_objects.specs.Objects.{state_of};
+ghost use Rattle.iop_objects.specs.Objects.{state_of, waiters_of};
 ghost use Rattle.iop_snapshot.specs.declared.widths.TheConstants.{VARIABLE_POOL as WIDTHS, POOL_RANGE as ITEM_WIDTHS};
 ghost use Rattle.iop_saved_objects.specs.VariablePools.{saved_pools, pool_numbers, pool_head, range_numbers, range_form, variable_pool_form, put_head, put_range, put_queued, put_variable_pool};
 ghost use Rattle.iop_saved_objects.specs.Lists.{ahead_in};
-ghost use Rattle.iop_saved_objects.specs.Waiters.{put_waiter};
+ghost use Rattle.iop_saved_objects.specs.Waiters.{put_waiter, saved_waiters};
 
 use crate::head::Head;
 use crate::listing::save_records;
-use crate::objects::{Table, WithList, restore_objects, save_objects};
+use crate::objects::{Table, restore_objects, save_objects};
+use crate::parts::WithList;
 use crate::priorities::Priorities;
-use crate::putting::{PutHead, PutItem, Restored, restore_head};
+use crate::putting::{Listed, PutHead};
 use crate::record::Record;
 use iop_base::WriteFault;
 use iop_objects::Waiter;
@@ -23,7 +24,7 @@ use iop_pools::{Range, RangeWalk, VariableLayout, VariablePools};
 use iop_ports::Sink;
 use iop_queues::Walk;
 use iop_snapshot::widths::{POOL_RANGE, VARIABLE_POOL};
-use iop_snapshot::{Decoder, Encoder, SnapFault, restore_list};
+use iop_snapshot::{Decoder, Encoder, SnapFault};
 
 /// Tells the numbers of a pool.
 fn numbers_of_pool(head: Head<VariableLayout>) -> [u64; 5]
@@ -114,16 +115,32 @@ impl PutHead<Head<VariableLayout>> for VariablePools {
     }
 }
 
-impl PutItem<Range> for VariablePools {
+impl Listed<Range> for VariablePools {
+    ghost items = { λ s id. ahead_in (λ x. x.ranges) (state_of s id) };
+
     ghost put_item = { λ priorities id. put_range id };
+
+    fn save_items<S: Sink>(&self, id: u32, encoder: &mut Encoder<'_, S>) -> Result<(), WriteFault> {
+        save_records::<Range, RangeWalk<'_>, S>(self.ranges(id), count_ranges(self, id), encoder)
+    }
 
     fn put_item<P: Priorities>(&mut self, _priorities: &P, id: u32, item: Range) -> bool {
         self.put_range(id, item.start, item.size)
     }
 }
 
-impl PutItem<Waiter<u32>> for VariablePools {
+impl Listed<Waiter<u32>> for VariablePools {
+    ghost items = { λ s id. saved_waiters (waiters_of s id) };
+
     ghost put_item = { λ priorities id. put_waiter (put_queued id) priorities };
+
+    fn save_items<S: Sink>(&self, id: u32, encoder: &mut Encoder<'_, S>) -> Result<(), WriteFault> {
+        save_records::<Waiter<u32>, Walk<'_, Waiter<u32>>, S>(
+            self.walk(id),
+            self.waiters(id),
+            encoder,
+        )
+    }
 
     fn put_item<P: Priorities>(&mut self, priorities: &P, id: u32, item: Waiter<u32>) -> bool {
         match priorities.priority(item.thread) {
@@ -139,45 +156,20 @@ type Saved = WithList<WithList<Head<VariableLayout>, Range>, Waiter<u32>>;
 impl Table<Saved> for VariablePools {
     ghost saved = { λ s. saved_pools s };
 
-    ghost form = { variable_pool_form };
-
-    ghost put = { λ priorities s saved. put_variable_pool priorities s saved };
-
     fn len(&self) -> usize {
         self.len()
     }
 
-    fn save_nth<S: Sink>(
-        &self,
-        place: usize,
-        encoder: &mut Encoder<'_, S>,
-    ) -> Result<(), WriteFault> {
-        let Some((id, state)) = self.nth(place) else {
-            return Ok(());
-        };
-        Head { id, state }.save(encoder)?;
-        let waiting = self.waiters(id);
-        let count = count_ranges(self, id);
-        save_records::<Range, RangeWalk<'_>, S>(self.ranges(id), count, encoder)?;
-        save_records::<Waiter<u32>, Walk<'_, Waiter<u32>>, S>(self.walk(id), waiting, encoder)
-    }
-
-    fn restore_next<P: Priorities>(
-        restored: &mut Restored<'_, Self, P>,
-        decoder: &mut Decoder<'_>,
-    ) -> Result<(), SnapFault> {
-        let head = restore_head::<Head<VariableLayout>, VariablePools>(
-            &mut restored.table,
-            decoder,
-        )?;
-        restored.id = head.id;
-        restore_list::<Range, Restored<'_, VariablePools, P>>(restored, decoder)?;
-        restore_list::<Waiter<u32>, Restored<'_, VariablePools, P>>(restored, decoder)
+    fn nth(&self, place: usize) -> Option<(u32, VariableLayout)> {
+        // That ids rise is told with those that wait.
+        self.waiters(0);
+        self.nth(place)
     }
 }
 
 /// Writes the variable pools, in the order of their ids, each with what is out of it and the
 /// threads that wait for it.
+#[tactic(auto, unfolding(crate::specs::VariablePools::variable_pool_form))]
 pub fn save_variable_pools<S: Sink>(
     pools: &VariablePools,
     encoder: &mut Encoder<'_, S>,
@@ -193,6 +185,7 @@ pub fn save_variable_pools<S: Sink>(
 /// Reads variable pools, with what is out of each and the threads that wait for it, and puts them
 /// back into a table. `Bad` exactly where no list of pools can be read that it takes, unless memory
 /// runs out.
+#[tactic(auto, unfolding(crate::specs::VariablePools::variable_pool_form))]
 pub fn restore_variable_pools<P: Priorities>(
     pools: VariablePools,
     priorities: &P,
