@@ -18,7 +18,7 @@ use Rattle.iop_saved_objects.specs.VariablePools as variable
 use Rattle.iop_saved_objects.specs.Waiters.{plain_numbers, plain_of, plain_form, flag_numbers, flag_of, flag_form, asking_numbers, asking_of, asking_form}
 
 -- so many numbers that are seen as a value, which tells them in their order
-numbers_lawful : {X : Type 0} (widths : List ℕ) (of : List ℕ → Option X) (numbers : X → List ℕ)
+pub numbers_lawful : {X : Type 0} (widths : List ℕ) (of : List ℕ → Option X) (numbers : X → List ℕ)
     → ((x : X) → of (numbers x) ≡ Some x)
     → ((ns : List ℕ) (x : X) → length ns ≡ length widths → of ns ≡ Some x → numbers x ≡ ns)
     → IsLawful (seen_as (item widths) of numbers)
@@ -96,7 +96,7 @@ block_lawful =
     (λ ns x long e. ap fixed.block_numbers (sym (same_Some _ x e)) ∙ numbers_from-all 0 1 ns long)
 
 -- a list of items of one form
-list_lawful : {X : Type 0} (form : Form X) → IsLawful form → IsLawful (list_of form)
+pub list_lawful : {X : Type 0} (form : Form X) → IsLawful form → IsLawful (list_of form)
 list_lawful form law =
     series_lawful form (λ _. form) (record { lawful = λ before. law; same = λ before x. refl })
 
@@ -105,28 +105,28 @@ with_list_lawful : {H X : Type 0} (form : Form H) (item : Form X) → IsLawful f
 with_list_lawful form item law item_law =
     both_lawful form (λ _. list_of item) law (λ _. list_lawful item item_law)
 
-semaphore_lawful : IsLawful semaphore_form
+pub semaphore_lawful : IsLawful semaphore_form
 unfolding semaphore_form
 semaphore_lawful = with_list_lawful semaphore_head plain_form semaphore_head_lawful plain_lawful
 
-event_flag_lawful : IsLawful event_flag_form
+pub event_flag_lawful : IsLawful event_flag_form
 unfolding event_flag_form
 event_flag_lawful = with_list_lawful flag_head flag_form flag_head_lawful flag_lawful
 
-mailbox_lawful : IsLawful mailbox_form
+pub mailbox_lawful : IsLawful mailbox_form
 unfolding mailbox_form
 mailbox_lawful =
     with_list_lawful (with_list mailbox_head asking_form) message_form
     (with_list_lawful mailbox_head asking_form mailbox_head_lawful asking_lawful) message_lawful
 
-variable_pool_lawful : IsLawful variable.variable_pool_form
+pub variable_pool_lawful : IsLawful variable.variable_pool_form
 unfolding variable.variable_pool_form
 variable_pool_lawful =
     with_list_lawful (with_list variable.pool_head variable.range_form) asking_form
     (with_list_lawful variable.pool_head variable.range_form variable_head_lawful range_lawful)
     asking_lawful
 
-fixed_pool_lawful : IsLawful fixed.fixed_pool_form
+pub fixed_pool_lawful : IsLawful fixed.fixed_pool_form
 unfolding fixed.fixed_pool_form
 fixed_pool_lawful =
     with_list_lawful (with_list fixed.pool_head fixed.block_form) plain_form

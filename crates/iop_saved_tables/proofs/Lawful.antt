@@ -18,14 +18,14 @@ use Rattle.iop_saved_tables.specs.Records.{alarm_numbers, alarm_of, alarm_form, 
 use Rattle.iop_saved_tables.specs.Tables.{put_alarm, put_delay, put_library, put_used, unopened}
 use Rattle.iop_saved_tables.proofs.LineLaws.{lines_lawful}
 
-alarm_lawful : IsLawful alarm_form
+pub alarm_lawful : IsLawful alarm_form
 unfolding alarm_form item
 alarm_lawful =
     seen_lawful (item ALARM) alarm_of alarm_numbers (item_lawful ALARM) (λ a fits. refl)
     (λ ns a fits e. ap alarm_numbers (sym (same_Some _ a e))
     ∙ numbers_from-all 0 5 ns (fits_long ALARM ns fits))
 
-delay_lawful : IsLawful delay_form
+pub delay_lawful : IsLawful delay_form
 unfolding delay_form item
 delay_lawful =
     seen_lawful (item DELAY) delay_of delay_numbers (item_lawful DELAY) (λ d fits. refl)
