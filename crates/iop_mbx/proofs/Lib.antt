@@ -4,3 +4,4 @@ mod LiveMailboxes
 mod Creating
 mod Receiving
 pub mod Restored
+mod StayRestorable

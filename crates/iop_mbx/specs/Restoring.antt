@@ -2,13 +2,14 @@
 -- the order of their ids, each with the threads that waited for it, in the order of their arrival,
 -- and then with its messages, in the order in which they were queued. It is this project's own
 -- profile.
-use Rattle.std.specs.Prelude.{◌≡◌, ℕ, ◌≤◌, ◌==◌, Bool, true, false, ◌&&◌, ◌||◌, if◌then◌else◌, Option, Some, None, option_map, option_and_then, unwrap_or, List, [], ◌∷◌, All}
-use Rattle.iop_mbx.specs.Mailboxes.{Mailbox, Mailboxes, is_attribute, messages_by_priority, without_messages, message_count, has_room, puts}
+use Rattle.std.specs.Prelude.{◌≡◌, ℕ, ◌<◌, ◌≤◌, ◌==◌, Bool, true, false, ◌&&◌, ◌||◌, if◌then◌else◌, Option, Some, None, option_map, option_and_then, unwrap_or, List, [], ◌∷◌, All}
+use Rattle.iop_mbx.specs.Mailboxes.{Mailbox, Mailboxes, is_attribute, messages_by_priority, without_messages, message_count, has_room, is_by_priority, creates, deletes, takes_waiter, puts, gets, waits}
 use Rattle.iop_mbx.specs.declared.mailbox.Mailbox as declared
 use Rattle.iop_mbx.specs.declared.mailboxes.TheConstants.{MOST_MESSAGES}
-use Rattle.iop_objects.specs.Objects.{Object, no_objects, state_of}
+use Rattle.iop_objects.specs.Objects.{Object, no_objects, state_of, waiting, drops, requeues}
 use Rattle.iop_objects.specs.Restoring as objects
-use Rattle.iop_objects.specs.Restoring.{IsRestorable, with_waiters_back, with_next_back}
+use Rattle.iop_objects.specs.Restoring.{IsRestorable, may_be_next, with_next, with_waiters_back, with_next_back}
+use Rattle.iop_objects.specs.declared.objects.TheConstants.{MOST_WAITERS}
 use Rattle.iop_queues.specs.declared.queued.Queued.{Queued}
 
 -- a mailbox that has no message
@@ -77,3 +78,28 @@ pub record CanBeRestored (s : Mailboxes) : Type 0 where
 -- all that stands in such a table can be put back, and gives the table again
 abbrev pub MailboxesAreRestored : Type 0
 MailboxesAreRestored = (s : Mailboxes) → CanBeRestored s → restored s ≡ Some s
+
+-- each call keeps a table so, where it lets no more threads wait than can
+pub record StayRestorable (s : Mailboxes) : Type 0 where
+  pub creates : (attr option : ℕ) → CanBeRestored (creates s attr option).1
+  pub deletes : (id : ℕ) → CanBeRestored (deletes s id).1
+  pub takes_waiter : (id : ℕ) → CanBeRestored (takes_waiter s id).1
+  -- a message is queued with a priority that it can have there
+  pub puts : (id message priority : ℕ)
+      → ((x : Mailbox) → state_of s id ≡ Some x → can_have x.attr priority ≡ true)
+      → CanBeRestored (puts s id message priority).1
+  pub gets : (id : ℕ) → CanBeRestored (gets s id).1
+  pub waits : (id thread priority place : ℕ) → waiting s < MOST_WAITERS
+      → CanBeRestored (waits s id thread priority place)
+  pub drops : (id thread : ℕ) → CanBeRestored (drops s id thread)
+  pub requeues : (id thread priority : ℕ)
+      → CanBeRestored (requeues s id (is_by_priority s id) thread priority)
+  -- and so does what is put back
+  pub with_last : (id : ℕ) (x : declared.Mailbox) → may_follow s id x ≡ true
+      → CanBeRestored (with_last s id x)
+  pub with_next : (id : ℕ) → may_be_next s id ≡ true → CanBeRestored (with_next s id)
+
+-- the first table is so
+pub record MailboxesStayRestorable : Type 0 where
+  pub opening : CanBeRestored no_objects
+  pub calls : (s : Mailboxes) → CanBeRestored s → StayRestorable s

@@ -2,7 +2,7 @@
 //! nothing.
 
 ghost use Rattle.iop_mbx.specs.Laws.{MailboxesKeep};
-ghost use Rattle.iop_mbx.specs.Restoring.{MailboxesAreRestored};
+ghost use Rattle.iop_mbx.specs.Restoring.{MailboxesAreRestored, MailboxesStayRestorable};
 
 /// A message is sent exactly where there is room, and is queued behind all others with its
 /// priority. One is received exactly where there is one; all others stay. By arrival it is the
@@ -17,4 +17,10 @@ pub fn mailboxes_keep()
 /// table again.
 pub fn mailboxes_are_restored()
     ensures { MailboxesAreRestored }
+{}
+
+/// A table of none can be put back, and each call leaves one that can, of one that can, where there
+/// is room for each thread that begins to wait, and each message has a priority that it can have.
+pub fn mailboxes_stay_restorable()
+    ensures { MailboxesStayRestorable }
 {}

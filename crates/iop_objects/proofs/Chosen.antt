@@ -1,6 +1,8 @@
--- Who is chosen of those that wait is one of them.
-use Rattle.std.proofs.Common.{◌≡◌, Bool, true, false, cond, Option, Some, None, List, [], ◌∷◌, if◌then◌else◌, refl, ap, subst}
+-- Who is chosen of a queue is one of it, and all others stay.
+use Rattle.std.proofs.Common.{◌≡◌, Bool, true, false, cond, Option, Some, None, List, [], ◌∷◌, ◌++◌, if◌then◌else◌, All, length, ◌≤◌, arith, refl, ap, subst, sym}
 use Rattle.std.specs.Prelude.{nat_lt}
+use Rattle.std.proofs.lemmas.List.{length-append}
+use Rattle.std.proofs.lemmas.List.Elements.{All-cons, All-head, All-tail}
 use Rattle.iop_queues.specs.Laws.{IsTaken}
 use Rattle.iop_queues.specs.Queue.{Choice, chooses, chooses_between, chooses_behind, chooses_best_where, chooses_next_where}
 use Rattle.iop_queues.specs.declared.queued.Queued.{Queued}
@@ -16,6 +18,53 @@ module _ {T : Type 0} where
       let same : record { one = x; others = xs } ≡ c = cc in
       subst (IsTaken (x ∷ xs)) same
       (record { before = []; behind = xs; queue_is = refl; others_are = refl })
+
+  -- one goes
+  without_one : (Each : Queued T → Type 0) (before behind : List (Queued T)) (x : Queued T)
+      → All Each (before ++ x ∷ behind) → All Each (before ++ behind)
+  without_one Each [] behind x all = All-tail Each x behind all
+  without_one Each (y ∷ ys) behind x all =
+      All-cons Each y (ys ++ behind) (All-head Each y (ys ++ x ∷ behind) all)
+      (without_one Each ys behind x (All-tail Each y (ys ++ x ∷ behind) all))
+
+  -- or stands there
+  the_one : (Each : Queued T → Type 0) (before behind : List (Queued T)) (x : Queued T)
+      → All Each (before ++ x ∷ behind) → Each x
+  the_one Each [] behind x all = All-head Each x behind all
+  the_one Each (y ∷ ys) behind x all =
+      the_one Each ys behind x (All-tail Each y (ys ++ x ∷ behind) all)
+
+  -- what holds of each holds of the one that is chosen
+  pub chosen_one : (Each : Queued T → Type 0) (by_priority : Bool) (queue : List (Queued T))
+      (c : Choice T) → chooses by_priority queue ≡ Some c → All Each queue → Each c.one
+  chosen_one Each by_priority queue c chosen all =
+      let taken = taken_by by_priority queue c chosen in
+      the_one Each taken.before taken.behind c.one (subst (All Each) taken.queue_is all)
+
+  -- what holds of each holds of those behind and before one that is taken
+  pub all_but_taken : (Each : Queued T → Type 0) {queue : List (Queued T)} {c : Choice T}
+      → IsTaken queue c → All Each queue → All Each c.others
+  all_but_taken Each {queue} {c} taken all =
+      subst (All Each) (sym taken.others_are)
+      (without_one Each taken.before taken.behind c.one (subst (All Each) taken.queue_is all))
+
+  -- and of those that are not chosen
+  pub all_but_chosen : (Each : Queued T → Type 0) (by_priority : Bool) (queue : List (Queued T))
+      (c : Choice T) → chooses by_priority queue ≡ Some c → All Each queue → All Each c.others
+  all_but_chosen Each by_priority queue c chosen all =
+      all_but_taken Each (taken_by by_priority queue c chosen) all
+
+  -- they are no more than there were
+  pub fewer_others : {queue : List (Queued T)} {c : Choice T} → IsTaken queue c
+      → length c.others ≤ length queue
+  fewer_others {queue} {c} taken =
+      omega (
+        arith,
+        ap length taken.others_are,
+        ap length taken.queue_is,
+        length-append taken.before taken.behind,
+        length-append taken.before (c.one ∷ taken.behind),
+      )
 
 -- by a condition
 module _ {T : Type 0} (p : T → Bool) where

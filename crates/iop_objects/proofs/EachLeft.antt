@@ -1,13 +1,13 @@
 -- What is known of each live object and of its waiters stays so where no others wait, and no more.
-use Rattle.std.proofs.Common.{◌≡◌, ℕ, Bool, ◌<◌, ◌==◌, true, false, cond, Option, Some, None, option_map, List, [], ◌∷◌, ◌++◌, All, AllPairs, refl, ap, sym, subst, arith}
-use Rattle.std.proofs.lemmas.Bool.{eq-eqb, eqb-true, ne_eqb}
-use Rattle.std.proofs.lemmas.List.Elements.{All-nil, All-cons, All-head, All-tail, All-weaker}
+use Rattle.std.proofs.Common.{◌≡◌, ℕ, Bool, ◌<◌, ◌==◌, true, false, cond, Option, Some, None, List, [], ◌∷◌, All, AllPairs, refl, subst, arith}
+use Rattle.std.proofs.lemmas.Bool.{eq-eqb, eqb-true}
+use Rattle.std.proofs.lemmas.List.Elements.{All-nil, All-cons, All-head, All-tail}
 use Rattle.iop_base.proofs.Searching.{AllPairs-head, AllPairs-tail}
 use Rattle.iop_queues.specs.Laws.{IsTaken}
 use Rattle.iop_queues.specs.Queue.{Choice}
 use Rattle.iop_queues.specs.declared.queued.Queued.{Queued}
 use Rattle.iop_queues.proofs.Choosing.{first_where}
-use Rattle.iop_objects.specs.Objects.{Object, Objects, AreObjects, no_objects, object_of, state_of, waiters_of, with_waiters, takes, waits, takes_next, takes_where, takes_next_where, drops, requeues}
+use Rattle.iop_objects.specs.Objects.{Object, Objects, AreObjects, no_objects, object_of, waiters_of, with_waiters, takes, takes_next, takes_where, takes_next_where, drops, requeues}
 use Rattle.iop_objects.specs.declared.waiter.Waiter.{Waiter}
 use Rattle.iop_objects.proofs.Apart.{Rise}
 use Rattle.iop_objects.proofs.Chosen.{taken_by, next_taken}

@@ -15,5 +15,6 @@ pub mod Others
 pub mod OtherWaiters
 pub mod EachObject
 pub mod EachLeft
+pub mod Sums
 pub mod StayRestorable
 pub mod Holding

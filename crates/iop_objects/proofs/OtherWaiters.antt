@@ -1,17 +1,17 @@
 -- Where no others wait for an object than did.
-use Rattle.std.proofs.Common.{◌≡◌, Bool, true, false, if◌then◌else◌, Some, List, [], ◌∷◌, ◌++◌, length, map, filter, refl, ap, subst, sym, arith, ◌≤◌}
+use Rattle.std.proofs.Common.{◌≡◌, Bool, true, false, if◌then◌else◌, Some, List, [], ◌∷◌, length, map, filter, refl, subst, arith, ◌≤◌}
 use Rattle.std.specs.List.{All, Contains}
 use Rattle.std.specs.Prelude.{ℕ, not}
 use Rattle.std.proofs.lemmas.Bool.{cond_both}
 use Rattle.std.proofs.lemmas.List.{length-append, length-map, get_or-map}
-use Rattle.std.proofs.lemmas.List.Elements.{All-head, All-tail, All-cons, All-append, All-weaker, All-map, All-filter, All-contains}
+use Rattle.std.proofs.lemmas.List.Elements.{All-head, All-append, All-weaker, All-map, All-filter, All-contains}
 use Rattle.std.proofs.lemmas.List.Filters.{length-filter_both}
 use Rattle.iop_queues.specs.Laws.{IsTaken}
 use Rattle.iop_queues.specs.Queue.{Choice, chooses}
 use Rattle.iop_queues.specs.declared.queued.Queued.{Queued}
 use Rattle.iop_objects.specs.WaiterQueues.{is_thread, without, with_priority, requeued}
 use Rattle.iop_objects.specs.declared.waiter.Waiter.{Waiter}
-use Rattle.iop_objects.proofs.Chosen.{taken_by}
+use Rattle.iop_objects.proofs.Chosen.{all_but_taken, all_but_chosen, fewer_others}
 
 module _ {W : Type 0} where
   -- those that wait, without the priorities by which they are queued
@@ -56,49 +56,12 @@ module _ {W : Type 0} where
       (λ x there. cond_both (is_thread thread x) (with_priority priority x) x (IsAmong waiters)
       (λ own. there) (λ other. there)) waiters (themselves waiters))
 
-  -- one goes
-  without_one : (Each : Queued (Waiter W) → Type 0) (before behind : List (Queued (Waiter W)))
-      (x : Queued (Waiter W)) → All Each (before ++ x ∷ behind) → All Each (before ++ behind)
-  without_one Each [] behind x all = All-tail Each x behind all
-  without_one Each (y ∷ ys) behind x all =
-      All-cons Each y (ys ++ behind) (All-head Each y (ys ++ x ∷ behind) all)
-      (without_one Each ys behind x (All-tail Each y (ys ++ x ∷ behind) all))
-
-  -- or stands there
-  the_one : (Each : Queued (Waiter W) → Type 0) (before behind : List (Queued (Waiter W)))
-      (x : Queued (Waiter W)) → All Each (before ++ x ∷ behind) → Each x
-  the_one Each [] behind x all = All-head Each x behind all
-  the_one Each (y ∷ ys) behind x all =
-      the_one Each ys behind x (All-tail Each y (ys ++ x ∷ behind) all)
-
-  -- what holds of each holds of the one that is chosen
-  pub chosen_one : (Each : Queued (Waiter W) → Type 0) (by_priority : Bool)
-      (waiters : List (Queued (Waiter W))) (c : Choice (Waiter W))
-      → chooses by_priority waiters ≡ Some c → All Each waiters → Each c.one
-  chosen_one Each by_priority waiters c chosen all =
-      let taken = taken_by by_priority waiters c chosen in
-      the_one Each taken.before taken.behind c.one (subst (All Each) taken.queue_is all)
-
-  -- what holds of each holds of those behind and before one that is taken
-  pub all_but_taken : (Each : Queued (Waiter W) → Type 0) {waiters : List (Queued (Waiter W))}
-      {c : Choice (Waiter W)} → IsTaken waiters c → All Each waiters → All Each c.others
-  all_but_taken Each {waiters} {c} taken all =
-      subst (All Each) (sym taken.others_are)
-      (without_one Each taken.before taken.behind c.one (subst (All Each) taken.queue_is all))
-
+  -- nor where one is taken, or chosen
   pub none_taken_new : {waiters : List (Queued (Waiter W))} {c : Choice (Waiter W)}
       → IsTaken waiters c → NoOthers waiters c.others
   none_taken_new {waiters} taken =
       all_but_taken (IsAmong waiters) taken (themselves waiters)
 
-  -- and of those that are not chosen
-  pub all_but_chosen : (Each : Queued (Waiter W) → Type 0) (by_priority : Bool)
-      (waiters : List (Queued (Waiter W))) (c : Choice (Waiter W))
-      → chooses by_priority waiters ≡ Some c → All Each waiters → All Each c.others
-  all_but_chosen Each by_priority waiters c chosen all =
-      all_but_taken Each (taken_by by_priority waiters c chosen) all
-
-  -- there are no others where one is chosen
   pub none_chosen_new : (by_priority : Bool) (waiters : List (Queued (Waiter W)))
       (c : Choice (Waiter W)) → chooses by_priority waiters ≡ Some c → NoOthers waiters c.others
   none_chosen_new by_priority waiters c chosen =
@@ -113,13 +76,7 @@ module _ {W : Type 0} where
       → IsTaken waiters c → AreLeft waiters c.others
   left_taken {waiters} {c} taken = record {
     none = none_taken_new taken;
-    most = omega (
-      arith,
-      ap length taken.others_are,
-      ap length taken.queue_is,
-      length-append taken.before taken.behind,
-      length-append taken.before (c.one ∷ taken.behind),
-    );
+    most = fewer_others taken;
   }
 
   pub left_without : (thread : ℕ) (waiters : List (Queued (Waiter W)))

@@ -1,25 +1,24 @@
 -- What each call keeps of a table that can be put back.
-use Rattle.std.proofs.Common.{◌≡◌, ℕ, ◌+◌, ◌<◌, ◌≤◌, ◌==◌, ◌&&◌, Bool, true, false, cond, if◌then◌else◌, not, Option, Some, None, List, [], ◌∷◌, ◌++◌, length, map, filter, sum_by, AllPairs, All, refl, ap, sym, ◌∙◌, subst, arith}
-use Rattle.std.specs.Prelude.{nat_lt, nat_le}
-use Rattle.std.proofs.lemmas.Bool.{and_parts, eqb-true, leb-true, ltb-true, ne_eqb}
+use Rattle.std.proofs.Common.{◌≡◌, ℕ, ◌+◌, ◌<◌, ◌≤◌, ◌==◌, ◌&&◌, Bool, true, false, not, Option, Some, None, List, [], ◌∷◌, ◌++◌, length, sum_by, refl, ap, arith}
+use Rattle.std.specs.Prelude.{nat_le}
+use Rattle.std.proofs.lemmas.Bool.{and_parts, leb-true, ltb-true}
 use Rattle.std.proofs.lemmas.List.{length_push}
 use Rattle.std.proofs.lemmas.List.Elements.{All-weaker}
 use Rattle.std.proofs.lemmas.List.Filters.{sum_by-filter_both}
-use Rattle.std.proofs.lemmas.List.Folds.{map_fixed}
-use Rattle.std.proofs.lemmas.List.Sums.{sum-map, sum_by-cons, sum_by_push}
-use Rattle.iop_base.proofs.Searching.{AllPairs-head, AllPairs-tail}
+use Rattle.std.proofs.lemmas.List.Sums.{sum-map, sum_by_push}
 use Rattle.iop_base.specs.declared.limits.TheConstants.{LAST_ID}
 use Rattle.iop_queues.specs.Laws.{IsTaken}
-use Rattle.iop_queues.specs.Queue.{Choice, chooses, chooses_where, chooses_next_where}
+use Rattle.iop_queues.specs.Queue.{Choice}
 use Rattle.iop_queues.specs.declared.queued.Queued.{Queued}
 use Rattle.iop_queues.proofs.Choosing.{first_where}
-use Rattle.iop_objects.specs.Objects.{Object, Objects, AreObjects, no_objects, object_of, waiters_in, waiters_of, waiting, has_room, creates, deletes, takes, changes, with_waiters}
-use Rattle.iop_objects.specs.Restoring.{may_follow, may_be_next, with_last, with_next, IsRestorable, StayRestorable, ObjectsStayRestorable}
-use Rattle.iop_objects.specs.declared.objects.TheConstants.{MOST_OBJECTS, MOST_WAITERS}
+use Rattle.iop_objects.specs.Objects.{Object, Objects, object_of, waiters_in, waiters_of, waiting, has_room, creates, deletes, takes, changes, with_waiters}
+use Rattle.iop_objects.specs.Restoring.{may_follow, with_last, with_next, IsRestorable, StayRestorable, ObjectsStayRestorable}
+use Rattle.iop_objects.specs.declared.objects.TheConstants.{MOST_WAITERS}
 use Rattle.iop_objects.specs.declared.waiter.Waiter.{Waiter}
-use Rattle.iop_objects.proofs.Apart.{Rise, changes_one, makes_one}
+use Rattle.iop_objects.proofs.Apart.{changes_one, makes_one}
 use Rattle.iop_objects.proofs.Chosen.{taken_by, next_taken}
 use Rattle.iop_objects.proofs.KeptApart.{keep_apart}
+use Rattle.iop_objects.proofs.Sums.{sum_changed}
 use Rattle.iop_objects.proofs.OtherWaiters.{AreLeft, left_taken, left_without, left_requeued}
 
 module _ {A W : Type 0} where
@@ -29,72 +28,6 @@ module _ {A W : Type 0} where
   -- how many wait for some objects
   abbrev counted : List (Object A W) → ℕ
   counted live = sum_by of_one live
-
-  -- where others wait for the object of an id
-  module _ (id : ℕ) (waiters : List (Queued (Waiter W))) (more : ℕ) where
-    abbrev to_others : Object A W → Object A W
-    to_others o = record o { waiters = waiters }
-
-    abbrev one : Object A W → Object A W
-    one o = if o.id == id then to_others o else o
-
-    counted_with : (live : List (Object A W)) → AllPairs Rise live
-        → length waiters ≤ length (waiters_in (object_of live id)) + more
-        → counted (map one live) ≤ counted live + more
-    counted_with [] ids few = omega arith
-    counted_with (o ∷ live) ids few =
-        by (o.id == id) refl (counted_with live (AllPairs-tail Rise o live ids)) few
-      where
-        others_stay : o.id ≡ id → map one live ≡ live
-        others_stay same =
-            map_fixed one live
-            (All-weaker (λ p. o.id < p.id) (λ p. one p ≡ p)
-            (λ p less. ap (λ b. if b then to_others p else p)
-            (ne_eqb p.id id (λ e. omega (arith, less, same, e))))
-            live (AllPairs-head Rise o live ids))
-
-        by : (b : Bool) → (o.id == id) ≡ b
-            → (length waiters ≤ length (waiters_in (object_of live id)) + more
-            → counted (map one live) ≤ counted live + more)
-            → length waiters ≤ length (waiters_in (cond b (Some o) (object_of live id))) + more
-            → counted ((if b then to_others o else o) ∷ map one live) ≤ counted (o ∷ live) + more
-        by true is rest few =
-            omega (
-              arith,
-              few,
-              sum_by-cons of_one (to_others o) (map one live),
-              sum_by-cons of_one o live,
-              ap counted (others_stay (eqb-true o.id id is)),
-            )
-        by false is rest few =
-            omega (
-              arith,
-              rest few,
-              sum_by-cons of_one o (map one live),
-              sum_by-cons of_one o live,
-            )
-
-  -- something else of it changes
-  module _ (id : ℕ) (change : Object A W → Object A W)
-      (waits_on : (o : Object A W) → (change o).waiters ≡ o.waiters) where
-    abbrev other : Object A W → Object A W
-    other o = if o.id == id then change o else o
-
-    counted_so : (live : List (Object A W)) → counted (map other live) ≡ counted live
-    counted_so [] = refl
-    counted_so (o ∷ live) =
-        let same : of_one (other o) ≡ of_one o = by (o.id == id) in
-        omega (
-          arith,
-          same,
-          counted_so live,
-          sum_by-cons of_one (other o) (map other live),
-          sum_by-cons of_one o live,
-        )
-      where
-        by : (b : Bool) → of_one (if b then change o else o) ≡ of_one o
-        by true = ap length (waits_on o)
-        by false = refl
 
   -- an object more, for which no thread waits
   counted_more : (live : List (Object A W)) (id : ℕ) (state : A)
@@ -109,19 +42,36 @@ module _ {A W : Type 0} (s : Objects A W) (h : IsRestorable s) where
   few_of : (t : Objects A W) → counted t.live ≤ MOST_WAITERS → waiting t ≤ MOST_WAITERS
   few_of t few = omega (arith, sum-map of_one t.live, few)
 
-  awaited : (id : ℕ) (waiters : List (Queued (Waiter W))) (more : ℕ)
-      → length waiters ≤ length (waiters_of s id) + more → waiting s + more ≤ MOST_WAITERS
-      → IsRestorable (with_waiters s id waiters)
-  awaited id waiters more most room = record {
-    sound = (changes_one id (to_others id waiters more) (λ o. refl) s h.sound).change.change.sound;
-    few = few_of (with_waiters s id waiters)
+  -- an object changes, for which so many more wait at most
+  changes_few : (id : ℕ) (change : Object A W → Object A W) (more : ℕ)
+      → ((o : Object A W) → (change o).id ≡ o.id)
+      → ((o : Object A W) → object_of s.live id ≡ Some o → of_one (change o) ≤ of_one o + more)
+      → waiting s + more ≤ MOST_WAITERS → IsRestorable (changes s id change)
+  changes_few id change more keeps most room = record {
+    sound = (changes_one id change keeps s h.sound).change.change.sound;
+    few = few_of (changes s id change)
         (omega (
           arith,
-          counted_with id waiters more s.live h.sound.ids most,
+          sum_changed of_one id change more s.live h.sound.ids most,
           room,
           sum-map of_one s.live,
         ));
   }
+
+  pub changes_stay : (id : ℕ) (change : Object A W → Object A W)
+      → ((o : Object A W) → (change o).id ≡ o.id)
+      → ((o : Object A W) → (change o).waiters ≡ o.waiters) → IsRestorable (changes s id change)
+  changes_stay id change keeps waits_on =
+      changes_few id change 0 keeps (λ o found. omega (arith, ap length (waits_on o)))
+      (omega (arith, h.few))
+
+  awaited : (id : ℕ) (waiters : List (Queued (Waiter W))) (more : ℕ)
+      → length waiters ≤ length (waiters_of s id) + more → waiting s + more ≤ MOST_WAITERS
+      → IsRestorable (with_waiters s id waiters)
+  awaited id waiters more most room =
+      changes_few id (λ o. record o { waiters = waiters }) more (λ o. refl)
+      (λ o found. let was = ap (λ p. length (waiters_in p)) found in omega (arith, most, was))
+      room
 
   pub left_stay : (id : ℕ) (waiters : List (Queued (Waiter W))) → AreLeft (waiters_of s id) waiters
       → IsRestorable (with_waiters s id waiters)
@@ -169,15 +119,6 @@ module _ {A W : Type 0} (s : Objects A W) (h : IsRestorable s) where
         few = few_of (with_last s id state)
             (omega (arith, counted_more s.live id state, few_counted));
       }
-
-  pub changes_stay : (id : ℕ) (change : Object A W → Object A W)
-      → ((o : Object A W) → (change o).id ≡ o.id)
-      → ((o : Object A W) → (change o).waiters ≡ o.waiters) → IsRestorable (changes s id change)
-  changes_stay id change keeps waits_on = record {
-    sound = (changes_one id change keeps s h.sound).change.change.sound;
-    few = few_of (changes s id change)
-        (omega (arith, few_counted, counted_so id change waits_on s.live));
-  }
 
   stay : StayRestorable s
   stay =

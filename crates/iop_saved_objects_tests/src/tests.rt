@@ -1,5 +1,6 @@
 ghost use Rattle.std.specs.Prelude.{◌+◌, if◌then◌else◌, nat_lt, Some, None};
 
+use crate::bytes::{EVENT_FLAGS, FIXED_POOLS, MAILBOXES, SEMAPHORES, VARIABLE_POOLS};
 use iop_event::EventFlags;
 use iop_mbx::Mailboxes;
 use iop_pools::{FixedPools, VariablePools};
@@ -9,61 +10,11 @@ use iop_saved_objects::{
     restore_variable_pools, save_event_flags, save_fixed_pools, save_mailboxes, save_semaphores,
     save_variable_pools,
 };
-use iop_sema::{BY_PRIORITY, Semaphores};
+use iop_sema::Semaphores;
 use iop_snapshot::{Decoder, Encoder, SnapFault};
 use std::alloc::{AllocError, Global};
 use std::process::Abort;
 use std::test::Fail;
-
-/// Two semaphores, for the first of which the threads 6 and 5 wait: ids, attributes, options, first
-/// and highest counts, counts, and threads.
-const SEMAPHORES: [u8; 68] = [
-    2, 0, 0, 0, // how many
-    1, 0, 0, 0, 1, 0, 0, 0, 7, 0, 0, 0, 0, 0, 0, 0, 5, 0, 0, 0, 0, 0, 0, 0, //
-    2, 0, 0, 0, 6, 0, 0, 0, 5, 0, 0, 0, //
-    2, 0, 0, 0, 0, 0, 0, 0, 8, 0, 0, 0, 2, 0, 0, 0, 3, 0, 0, 0, 2, 0, 0, 0, //
-    0, 0, 0, 0,
-];
-
-/// Two event flags, for the first of which the threads 6 and 5 wait, and 4 for the other: ids,
-/// attributes, options, first bits, bits, and threads with bits, modes and places.
-const EVENT_FLAGS: [u8; 100] = [
-    2, 0, 0, 0, // how many
-    1, 0, 0, 0, 2, 0, 0, 0, 7, 0, 0, 0, 3, 0, 0, 0, 0, 1, 0, 0, //
-    2, 0, 0, 0, //
-    6, 0, 0, 0, 3, 0, 0, 0, 1, 0, 0, 0, 0, 0, 2, 0, //
-    5, 0, 0, 0, 4, 0, 0, 0, 0x10, 0, 0, 0, 0, 0, 0, 0, //
-    2, 0, 0, 0, 0, 0, 0, 0, 8, 0, 0, 0, 0, 0, 0, 0, 0, 0, 0, 0, //
-    1, 0, 0, 0, //
-    4, 0, 0, 0, 1, 0, 0, 0, 0, 0, 0, 0, 0, 0, 0, 0,
-];
-
-/// Two mailboxes: ids, attributes, options, threads with places, and messages with priorities.
-const MAILBOXES: [u8; 67] = [
-    2, 0, 0, 0, // how many
-    2, 0, 0, 0, 5, 0, 0, 0, 7, 0, 0, 0, //
-    1, 0, 0, 0, 6, 0, 0, 0, 0, 0, 2, 0, //
-    2, 0, 0, 0, 0, 0, 3, 0, 9, 0, 0, 4, 0, 1, //
-    3, 0, 0, 0, 0, 0, 0, 0, 8, 0, 0, 0, //
-    0, 0, 0, 0, //
-    1, 0, 0, 0, 0, 0, 5, 0, 0,
-];
-
-/// A variable pool: its id, attribute, option, base and size, ranges, and threads with sizes.
-const VARIABLE_POOLS: [u8; 64] = [
-    1, 0, 0, 0, // how many
-    1, 0, 0, 0, 1, 0, 0, 0, 7, 0, 0, 0, 0, 0, 1, 0, 0, 1, 0, 0, //
-    2, 0, 0, 0, 0, 0, 1, 0, 0x20, 0, 0, 0, 0x40, 0, 1, 0, 0x10, 0, 0, 0, //
-    2, 0, 0, 0, 6, 0, 0, 0, 0, 1, 0, 0, 5, 0, 0, 0, 0xF0, 0, 0, 0,
-];
-
-/// A fixed pool: its id, attribute, option, base, size and count, blocks, and threads.
-const FIXED_POOLS: [u8; 52] = [
-    1, 0, 0, 0, // how many
-    1, 0, 0, 0, 1, 0, 0, 0, 7, 0, 0, 0, 0, 0, 1, 0, 8, 0, 0, 0, 4, 0, 0, 0, //
-    2, 0, 0, 0, 0, 0, 1, 0, 0x18, 0, 1, 0, //
-    2, 0, 0, 0, 6, 0, 0, 0, 5, 0, 0, 0,
-];
 
 /// Threads below 10 are live, each with a priority 20 above its id.
 struct Live;
@@ -90,12 +41,12 @@ fn with_byte(alloc: Global, bytes: &[u8], place: usize, byte: u8) -> Result<Vec<
 }
 
 /// A sink with room for the bytes of a test.
-fn sink(alloc: Global) -> Result<MemSink, AllocError> {
+pub(crate) fn sink(alloc: Global) -> Result<MemSink, AllocError> {
     MemSink::new(alloc, 100, Vec::new(alloc))
 }
 
 /// Restores semaphores into an empty table.
-fn semaphores_of(alloc: Global, bytes: &[u8]) -> Result<Semaphores, SnapFault> {
+pub(crate) fn semaphores_of(alloc: Global, bytes: &[u8]) -> Result<Semaphores, SnapFault> {
     restore_semaphores(Semaphores::new(alloc)?, &Live, &mut Decoder::new(bytes))
 }
 
@@ -156,7 +107,7 @@ fn fixed_pools_again(alloc: Global, bytes: &[u8]) -> Result<MemSink, SnapFault> 
 }
 
 /// Whether a sink was written these bytes.
-fn is_written(sink: Result<MemSink, SnapFault>, wanted: &[u8]) -> bool {
+pub(crate) fn is_written(sink: Result<MemSink, SnapFault>, wanted: &[u8]) -> bool {
     match sink {
         Ok(sink) => sink.bytes() == wanted,
         Err(_) => false,
@@ -178,33 +129,6 @@ fn lists_come_back(rt: HostRuntime) {
     assert_eq!(rt; is_written(pools, &FIXED_POOLS), true);
 }
 
-/// Makes the two semaphores, lets the threads wait, and writes them.
-fn made_semaphores(alloc: Global) -> Result<MemSink, SnapFault> {
-    let mut sink = sink(alloc)?;
-    let mut semaphores = Semaphores::new(alloc)?;
-    let _ = semaphores.create(BY_PRIORITY, 7, 0, 5);
-    let _ = semaphores.put_waiter(1, 6, 26);
-    let _ = semaphores.put_waiter(1, 5, 25);
-    let _ = semaphores.create(0, 8, 2, 3);
-    let _ = save_semaphores(&semaphores, &mut Encoder::new(&mut sink));
-    Ok(sink)
-}
-
-/// The thread that is next among those that wait for the first semaphore.
-fn next_waiter(alloc: Global, bytes: &[u8]) -> Option<u32> {
-    match semaphores_of(alloc, bytes) {
-        Ok(mut semaphores) => semaphores.pop_waiter(1),
-        Err(_) => None,
-    }
-}
-
-#[test]
-fn threads_wait_with_their_priorities(rt: HostRuntime) {
-    let alloc = rt.alloc();
-    assert_eq!(rt; is_written(made_semaphores(alloc), &SEMAPHORES), true);
-    assert_eq!(rt; next_waiter(alloc, &SEMAPHORES), Some(5));
-}
-
 /// The fault of what was refused; none where it was taken.
 fn fault_of<T: Drop>(restored: Result<T, SnapFault>) -> Option<SnapFault> {
     match restored {
@@ -217,7 +141,7 @@ fn fault_of<T: Drop>(restored: Result<T, SnapFault>) -> Option<SnapFault> {
 fn what_a_table_does_not_take_is_bad(rt: HostRuntime) -> Result<(), Fail> {
     let alloc = rt.alloc();
     // An id that does not rise, a count over the most, a thread that is not live.
-    for (place, byte) in [(40, 1), (60, 4), (32, 99), (0, 3)] {
+    for (place, byte) in [(40, 3), (60, 10), (32, 99), (0, 3)] {
         let bytes = with_byte(alloc, &SEMAPHORES, place, byte)?;
         assert_eq!(rt;
             fault_of(semaphores_of(alloc, &bytes)),

@@ -17,14 +17,14 @@ use std::test::Fail;
 const RAM: u32 = 0x20_0000;
 
 /// Two alarms: their numbers, moments, handlers, arguments and gp.
-const ALARMS: [u8; 60] = [
+pub(crate) const ALARMS: [u8; 60] = [
     2, 0, 0, 0, // how many
     3, 0, 0, 0, 0, 0, 0, 0, 0, 1, 0, 0, 0, 0, 0, 0, 4, 0, 1, 0, 5, 0, 0, 0, 6, 0, 0, 0, //
     7, 0, 0, 0, 0, 0, 0, 0, 0, 0, 0, 0, 0, 0, 0, 0x80, 4, 0, 1, 0, 8, 0, 0, 0, 9, 0, 0, 0,
 ];
 
 /// Two delays: their numbers, moments and threads.
-const DELAYS: [u8; 44] = [
+pub(crate) const DELAYS: [u8; 44] = [
     2, 0, 0, 0, // how many
     3, 0, 0, 0, 0, 0, 0, 0, 0, 1, 0, 0, 0, 0, 0, 0, 5, 0, 0, 0, //
     7, 0, 0, 0, 0, 0, 0, 0, 0, 0, 0, 0, 0, 0, 0, 0x80, 6, 0, 0, 0,
@@ -38,7 +38,7 @@ const BLOCKS: [u8; 20] = [
 ];
 
 /// Two libraries: their names, major versions and tables.
-const LIBRARIES: [u8; 30] = [
+pub(crate) const LIBRARIES: [u8; 30] = [
     2, 0, 0, 0, // how many
     b'a', b'b', 0, 0, 0, 0, 0, 0, 1, 0, 2, 1, 0, //
     b'a', b'b', 0, 0, 0, 0, 0, 0, 2, 0, 2, 1, 0,
@@ -53,10 +53,26 @@ const STUBS: [u8; 23] = [
 /// A line that is enabled: its handler, the handler's argument, and gp.
 const LINE: [u8; 15] = [0, 1, 1, 4, 0, 1, 0, 5, 0, 0, 0, 6, 0, 0, 0];
 
-/// The bytes of all lines: the first is raised, the last is that one, the others are idle.
-fn lines() -> [u8; 960] {
+/// That line.
+pub(crate) fn last() -> IrqLine {
+    let handler = Handler {
+        address: 0x1_0004,
+        arg: 5,
+        gp: 6,
+    };
+    IrqLine {
+        raised: false,
+        enabled: true,
+        handler: Some(handler),
+    }
+}
+
+/// The bytes of all lines: the first is raised, the second enabled, the last is that one, the others
+/// are idle.
+pub(crate) fn lines() -> [u8; 960] {
     let mut bytes = [0; 960];
     bytes[0] = 1;
+    bytes[16] = 1;
     bytes[945..].copy_from_slice(&LINE);
     bytes
 }
@@ -71,7 +87,7 @@ fn with_byte(alloc: Global, bytes: &[u8], place: usize, byte: u8) -> Result<Vec<
 }
 
 /// A sink with room for the bytes of a test.
-fn sink(alloc: Global) -> Result<MemSink, AllocError> {
+pub(crate) fn sink(alloc: Global) -> Result<MemSink, AllocError> {
     MemSink::new(alloc, 1000, Vec::new(alloc))
 }
 
@@ -133,7 +149,7 @@ fn last_line(bytes: &[u8]) -> Option<IrqLine> {
 }
 
 /// Whether a sink was written these bytes.
-fn is_written(sink: Result<MemSink, SnapFault>, wanted: &[u8]) -> bool {
+pub(crate) fn is_written(sink: Result<MemSink, SnapFault>, wanted: &[u8]) -> bool {
     match sink {
         Ok(sink) => sink.bytes() == wanted,
         Err(_) => false,
@@ -155,17 +171,7 @@ fn lists_come_back(rt: HostRuntime) {
 fn lines_come_back(rt: HostRuntime) -> Result<(), Fail> {
     let alloc = rt.alloc();
     let bytes = lines();
-    let handler = Handler {
-        address: 0x1_0004,
-        arg: 5,
-        gp: 6,
-    };
-    let last = IrqLine {
-        raised: false,
-        enabled: true,
-        handler: Some(handler),
-    };
-    assert_eq!(rt; last_line(&bytes), Some(last));
+    assert_eq!(rt; last_line(&bytes), Some(last()));
     assert_eq!(rt; is_written(lines_again(alloc, &bytes), &bytes), true);
     assert_eq!(rt; last_line(&bytes[1..]), None);
     // No truth values, and a handler, an argument and a gp where there is no handler.

@@ -3,6 +3,8 @@
 #![tactic(auto)]
 
 #[cfg(test)]
+mod processors;
+#[cfg(test)]
 mod tables;
 #[cfg(test)]
-mod tests;
+mod threads;

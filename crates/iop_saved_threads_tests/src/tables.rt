@@ -17,6 +17,16 @@ use std::test::Fail;
 /// How many bytes the threads take: their count, and three of 52, of which two keep a processor.
 const THREADS: usize = 4 + 3 * 52 + 2 * 150;
 
+/// The bytes of their count, and of the loader's thread.
+const FIRST: [u8; 56] = [
+    3, 0, 0, 0, // how many
+    1, 0, 0, 0, 0, 0, 0, 2, 0, 0, 0, 0, 0, 0, 0, 0, // id, attributes, option and entry
+    0, 0xC0, 0, 0, 0, 0x40, 0, 0, 0, 0, 0, 0, // stack, its size and gp
+    8, 0, 0, 0, 8, 0, 0, 0, // first priority and priority
+    0x10, 0, 0, 0, 0, 0, 0, 0, 0, 0, 0, 0, // state, what it waits for, and the id of that
+    0, 0, 0, 0, // wakeups
+];
+
 /// What a thread of a priority is made with.
 fn param(priority: u8) -> Param
     requires { IsPriority priority }
@@ -81,7 +91,13 @@ fn come_back(
     assert_eq!(rt; changed.len(), THREADS + 12);
     changed.truncate(THREADS);
     changed.extend_from_slice(ready)?;
-    Ok(restored(alloc, &changed).is_ok())
+    match restored(alloc, &changed) {
+        Ok(_) => Ok(true),
+        Err(fault) => {
+            assert_eq!(rt; fault, SnapFault::Bad);
+            Ok(false)
+        }
+    }
 }
 
 #[test]
@@ -89,7 +105,7 @@ fn threads_come_back(rt: HostRuntime) -> Result<(), Fail> {
     let alloc = rt.alloc();
     let sink = bytes_of(alloc, &table(alloc)?)?;
     assert_eq!(rt; sink.bytes().len(), THREADS + 12);
-    assert_eq!(rt; &sink.bytes()[..8], [3, 0, 0, 0, 1, 0, 0, 0].as_slice());
+    assert_eq!(rt; sink.bytes().get(..56), Some(FIRST.as_slice()));
     assert_eq!(rt;
         &sink.bytes()[THREADS..],
         [2, 0, 0, 0, 3, 0, 0, 0, 2, 0, 0, 0].as_slice()

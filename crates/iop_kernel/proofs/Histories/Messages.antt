@@ -13,7 +13,7 @@ use Rattle.iop_objects.specs.Objects as objects
 use Rattle.iop_queues.specs.Queue.{Choice, chooses}
 use Rattle.iop_queues.specs.declared.queued.Queued.{Queued}
 use Rattle.iop_objects.specs.declared.waiter.Waiter.{Waiter}
-use Rattle.iop_objects.proofs.OtherWaiters.{chosen_one}
+use Rattle.iop_objects.proofs.Chosen.{chosen_one}
 use Rattle.iop_objects.proofs.Others.{waiters_leave_states}
 use Rattle.iop_services.specs.declared.service.Service.{Service}
 use Rattle.iop_services.specs.declared.service.Service.TheVariants.{Thmsgbx}

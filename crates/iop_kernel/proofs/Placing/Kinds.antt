@@ -11,7 +11,7 @@ use Rattle.iop_queues.specs.Queue.{Choice, chooses, in_order}
 use Rattle.iop_queues.specs.declared.queued.Queued.{Queued}
 use Rattle.iop_objects.specs.declared.waiter.Waiter.{Waiter}
 use Rattle.iop_objects.proofs.Changes.{waiters_of-with_waiters, waiters_of-with_state}
-use Rattle.iop_objects.proofs.OtherWaiters.{all_but_chosen, all_but_taken}
+use Rattle.iop_objects.proofs.Chosen.{all_but_chosen, all_but_taken}
 use Rattle.iop_objects.proofs.Others.{IsBut, with_waiters_but, with_state_but, but_twice}
 use Rattle.iop_pools.specs.Pools.{Pool}
 use Rattle.iop_pools.specs.VariablePools.{VariablePools, meets_next}

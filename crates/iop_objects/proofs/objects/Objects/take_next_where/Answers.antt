@@ -1,4 +1,4 @@
-use Rattle.std.proofs.Common.{◌≡◌, ◌∙◌, ap, refl, arith, rules, None, option_map}
+use Rattle.std.proofs.Common.{◌≡◌, ◌∙◌, ap, arith, rules, None, option_map}
 use Rattle.iop_queues.specs.Queue.{chooses_next_where}
 use Rattle.iop_objects.specs.Objects.{takes_next_where}
 use Rattle.iop_objects.proofs.TableQueues.{queue_below, IsTable-changed, objects_in-taken, taken_is, takes-none, none_met}
