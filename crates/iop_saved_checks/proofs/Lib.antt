@@ -1,0 +1,12 @@
+pub mod Lists
+pub mod ThreadsLeft
+pub mod WaiterParts
+pub mod Waits
+pub mod Idle
+pub mod Agreeing
+pub mod Settled
+pub mod Sound
+pub mod Among
+pub mod IdlePassing
+pub mod Passing
+pub mod Cores

@@ -1,0 +1,7 @@
+pub mod Waiters
+pub mod Idle
+pub mod Places
+pub mod Objects
+pub mod Threads
+pub mod Kernels
+pub mod Laws

@@ -1,0 +1,16 @@
+pub mod Stages
+pub mod Results
+pub mod ThreadStages
+pub mod ObjectStages
+pub mod KernelStages
+pub mod PriorityLemmas
+pub mod Holding
+pub mod TablesBack
+pub mod ComingBack
+pub mod Telling
+pub mod KeptTables
+pub mod BackAgain
+pub mod Readable
+pub mod ReadAgain
+pub mod Lawful
+pub mod Writing

@@ -1,0 +1,11 @@
+pub mod Heads
+pub mod Executing
+pub mod Next
+pub mod Restoring
+pub mod ThreadLists
+pub mod ObjectLists
+pub mod TimerLists
+pub mod Parts
+pub mod Tables
+pub mod Restored
+pub mod Laws
