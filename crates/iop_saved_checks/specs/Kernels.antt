@@ -1,5 +1,5 @@
 -- Whether the tables of a kernel agree with each other and with memory, so that it is one in which
--- a machine can stand between two steps: this project's own profile.
+-- a machine can stand where the budget of a run ends: this project's own profile.
 use Rattle.std.specs.Prelude.{Bool, ◌&&◌, ◌||◌, is_some}
 use Rattle.iop_kernel.specs.System.{Kernel, in_handler}
 use Rattle.iop_stubs.specs.Stubs.{Memory}

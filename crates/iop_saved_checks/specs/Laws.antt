@@ -32,7 +32,7 @@ pub record TablesAreSound (k : Kernel) : Type 0 where
   pub pools : PoolsAreSound k
   pub timers : AreTimers k.timers
 
--- what holds of a kernel and of memory wherever a machine stands between two steps
+-- what holds of a kernel and of memory wherever the budget of a run ends
 pub record IsInAgreement (memory : Memory) (k : Kernel) : Type 0 where
   -- each thread that waits is among the waiters of its object or has a delay, and no other is
   pub placed : IsPlaced k
@@ -59,13 +59,13 @@ pub record TablesAreRegular (k : Kernel) : Type 0 where
   pub variable_pools : All variable_pools.IsRegular k.variable_pools.live
   pub fixed_pools : All fixed_pools.IsRegular k.fixed_pools.live
 
--- and the tables of each kernel that is so agree: none that a run leaves is refused
+-- and the tables of each kernel that is so agree, where its pools can be put back
 abbrev pub SoundKernelsAgree : Type 0
 SoundKernelsAgree =
     (memory : Memory) (k : Kernel) → TablesAreRegular k → IsInAgreement memory k
     → agrees memory k ≡ true
 
--- what holds of a kernel, its processor and memory wherever a machine stands between two steps
+-- what holds of a kernel, its processor and memory wherever the budget of a run ends
 pub record IsAsInRuns (memory : Memory) (c : Core) : Type 0 where
   pub core : IsCore c
   pub places : HavePlaces memory c.kernel

@@ -15,12 +15,13 @@ use iop_stubs::Guest;
 use iop_thread::Kind;
 
 /// Says whether the tables of a kernel agree with each other and with memory, so that it is one in
-/// which a machine can stand between two steps.
+/// which a machine can stand where the budget of a run ends.
 ///
-/// A thread runs, or another may; each thread that waits is once among those that wait for the
-/// same, and no other thread is; a thread that sleeps has no wakeups, and nothing is pending of a
-/// load where a thread waits; there is nothing to be had for those that wait for an object, and
-/// each of them has a place in memory for what it is told; and no thread is to be dispatched now.
+/// A thread runs, or another may; each that waits for a time has a delay, each that waits for an
+/// object is once among those that wait for it, and no other thread is; a thread that sleeps has no
+/// wakeups, and nothing is pending of a load where a thread waits; there is nothing to be had for
+/// those that wait for an object, and each of them has a place in memory for what it is told; and
+/// no thread is to be dispatched now.
 #[tactic(auto, unfolding(crate::specs::Kernels::agrees))]
 pub fn agrees<R: Ready>(kernel: &Kernel<R>, guest: &Guest) -> bool
     ensures { (k : State) → Holds R.stands kernel.now k → result ≡ agrees guest.now k }

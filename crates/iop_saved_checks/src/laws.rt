@@ -9,8 +9,7 @@ pub fn agreeing_kernels_are_sound()
     ensures { AgreeingKernelsAreSound }
 {}
 
-/// The tables of each kernel that is so agree, where its pools are as they can be put back: the
-/// test refuses no kernel that a run leaves.
+/// The tables of each kernel that is so agree, where its pools are as they can be put back.
 pub fn sound_kernels_agree()
     ensures { SoundKernelsAgree }
 {}
