@@ -143,12 +143,12 @@ come_to_bind : {modules : List Module} {s t : Iop} {m : Module} (stub : Stub)
 unfolding loads_first
 come_to_bind stub (first {m = m} {rest = rest} {s = s}) one =
     let loading = loading_of s m in
-    let placed = (places s rest loading).state in
+    let placed = (places s loading).state in
     Contains-append_left loading.bound (enters_or (loads_first rest) placed m loading.answer).bound
     stub one
 come_to_bind stub (behind {m = m} {other = other} {rest = rest} {s = s} {t = t} code e h) one =
     let loading = loading_of s m in
-    let placed = (places s rest loading).state in
+    let placed = (places s loading).state in
     Contains-append_right loading.bound (enters_or (loads_first rest) placed m loading.answer).bound
     stub
     (subst (λ (r : Result Loaded Code). Contains (enters_or (loads_first rest) placed m r).bound

@@ -13,7 +13,7 @@ use Rattle.iop_linker.specs.declared.link_fault.LinkFault.TheVariants.{Room}
 use Rattle.iop_machine.specs.Iop.{Iop}
 use Rattle.iop_machine.specs.Loading.{boots, enters_or, loading_of, loads_first, places, with_kernel}
 use Rattle.iop_machine.specs.Looking.{takes_events}
-use Rattle.iop_machine.specs.Modules.{Module}
+use Rattle.iop_machine.specs.Modules.{Module, modules_of}
 use Rattle.iop_machine.specs.Services.{calls, calls_by, ends_module, returns_by, serves}
 use Rattle.iop_machine.specs.Stepping.{Turn, Stays, Boots, Delivers, Dispatches, Executes, Waits, performs, step, takes_turn, turn_of}
 use Rattle.iop_machine.specs.World.{World}
@@ -213,12 +213,12 @@ module _ (stub : Stub) where
   entered_by : (m : Module) (rest : List Module) (s : Iop)
       → ((v : Iop) → Contains (loads_first rest v).bound stub → IsBoundAmong rest v stub)
       → (r : Result Loaded Code) → (loading_of s m).answer ≡ r
-      → Contains (enters_or (loads_first rest) (places s rest (loading_of s m)).state m r).bound
+      → Contains (enters_or (loads_first rest) (places s (loading_of s m)).state m r).bound
       stub
       → IsBoundAmong (m ∷ rest) s stub
   entered_by m rest s later (Ok loaded) e h = absurd (omega (arith, h.1))
   entered_by m rest s later (Err code) e h =
-      let r = later (places s rest (loading_of s m)).state h in
+      let r = later (places s (loading_of s m)).state h in
       record { m = r.m; t = r.t; loads = behind code e r.loads; binds = r.binds }
 
   first_binds : (modules : List Module) (s : Iop) → Contains (loads_first modules s).bound stub
@@ -227,7 +227,7 @@ module _ (stub : Stub) where
   first_binds [] s h = absurd (omega (arith, h.1))
   first_binds (m ∷ rest) s h =
       let loading = loading_of s m in
-      let placed = (places s rest loading).state in
+      let placed = (places s loading).state in
       elim (Contains-append_cases loading.bound
       (enters_or (loads_first rest) placed m loading.answer).bound stub h) [
         | inl one ↦ record { m = m; t = s; loads = first; binds = binds_stub s m stub one }
@@ -252,7 +252,7 @@ module _ (w : World) (stub : Stub) where
     ended_by value None e after h = absurd (omega (arith, h.1))
     ended_by value (Some ended) e after h =
         let v = behind_end (takes_events w.iop) code ended value in
-        let r = first_binds stub v.modules v h in
+        let r = first_binds stub (modules_of v.modules) v h in
         record {
           m = r.m;
           s = r.t;
@@ -281,7 +281,7 @@ module _ (w : World) (stub : Stub) where
   unfolding boots
   taken_by Stays e h = absurd (omega (arith, h.1))
   taken_by Boots e h =
-      let r = first_binds stub w.iop.modules (with_kernel w.iop) h in
+      let r = first_binds stub (modules_of w.iop.modules) (with_kernel w.iop) h in
       record { m = r.m; s = r.t; loads = booting e r.loads; binds = r.binds }
   taken_by (Delivers d) e h = absurd (omega (arith, h.1))
   taken_by (Dispatches d) e h = absurd (omega (arith, h.1))

@@ -5,7 +5,7 @@ use Rattle.iop_base.specs.Piece.{Piece, Traced, Told}
 use Rattle.iop_base.specs.Output.{Output, HasNoFault, StopsShort, FailsAt}
 use Rattle.iop_base.specs.declared.stop.Stop.{Stop}
 use Rattle.iop_base.specs.declared.stop.Stop.TheVariants.{Quiet, Budget, Fault}
-use Rattle.iop_machine.specs.Modules.{NamedFile, modules_from}
+use Rattle.iop_machine.specs.Modules.{NamedFile, none_loaded}
 use Rattle.iop_machine.specs.Stepping.{run_of}
 use Rattle.iop_machine.specs.World.{beginning}
 use Rattle.iop_modload.specs.declared.limits.TheConstants.{LONGEST_FILE}
@@ -77,8 +77,7 @@ module _ (command : Command) (files : List NamedFile) (status : Status) (old new
       as_too_long long (same ∙ is) (h.0 ∙ either_way failed TooLong) (failed, h.1)
   ended_modules script says None is same good h =
       let run = run_of command.budget (beginning (ram_bytes command.ram)
-      (modules_from says.args says.named 1 (modules_to_load command.generate files))
-      says.events) in
+      (none_loaded says (modules_to_load command.generate files)) says.events) in
       ended_run script files status old new (outcome_of_modules command says files).pieces run.stop
       failed is good h.0 h.1
 

@@ -10,7 +10,7 @@ use Rattle.iop_machine.specs.StubLaws.{RunsTellStubs, StubsAreFollowed, StubsLea
 use Rattle.iop_machine.specs.SwitchLaws.{RunningThreadsWereTaken, RunsSwitchByDispatch}
 use Rattle.iop_machine.specs.Events.{CanCome}
 use Rattle.iop_machine.specs.Looking.{takes_events}
-use Rattle.iop_machine.specs.Modules.{Module, NamedFile, modules_from}
+use Rattle.iop_machine.specs.Modules.{ModulesLeft, NamedFile, none_loaded}
 use Rattle.iop_machine.specs.Stepping.{Ran, steps}
 use Rattle.iop_machine.specs.World.{World, beginning}
 use Rattle.iop_modload.specs.declared.limits.TheConstants.{LONGEST_FILE}
@@ -59,7 +59,7 @@ pub record RunLaws : Type 0 where
   pub stubs_leave_with_their_line : StubsLeaveWithTheirLine
 
 -- a machine whose events can come
-module _ (laws : RunLaws) (size : ℕ) (sized : IsRamSize size) (modules : List Module)
+module _ (laws : RunLaws) (size : ℕ) (sized : IsRamSize size) (modules : ModulesLeft)
     (events : List Raise) (come : CanCome events) where
   abbrev first_world : World
   first_world = beginning size modules events
@@ -112,8 +112,7 @@ pub holds_of_run : RunLaws → (command : Command) (script : Script) (files : Li
 holds_of_run laws command script files come =
     let size = ram_bytes command.ram in
     let sized = ram_sized command.ram in
-    let modules =
-    modules_from script.args script.named 1 (modules_to_load command.generate files) in
+    let modules = none_loaded script (modules_to_load command.generate files) in
     let first = machine_of command script files in
     let begins = laws.runs_begin_as_machines size modules script.events sized come in
     let run = laws.runs_end first command.budget begins in

@@ -10,7 +10,7 @@ use Rattle.iop_kernel.specs.declared.after.After.{After}
 use Rattle.iop_machine.specs.Iop.{Iop, Transition}
 use Rattle.iop_machine.specs.Loading.{boots, enters_or, loading_of, loads_first, passes, places}
 use Rattle.iop_machine.specs.Looking.{takes_events}
-use Rattle.iop_machine.specs.Modules.{Module, argument_block}
+use Rattle.iop_machine.specs.Modules.{Module, argument_block, modules_of}
 use Rattle.iop_machine.specs.Services.{calls, calls_by, ends_module, returns_by, serves}
 use Rattle.iop_machine.specs.Stepping.{Turn, Boots, Executes, step, takes_turn, turn_of}
 use Rattle.iop_machine.specs.World.{World}
@@ -40,7 +40,7 @@ first_tells : (m : Module) (rest : List Module) (s : Iop)
 unfolding loads_first
 first_tells m rest s =
     let loading = loading_of s m in
-    let placed = (places s rest loading).state in
+    let placed = (places s loading).state in
     let entering = λ (r : Result Loaded Code). (enters_or (loads_first rest) placed m r).pieces in
     tell_behind loading.pieces (entering loading.answer) s m (record {
       loaded = λ l e.
@@ -60,7 +60,7 @@ unfolding loads_first
 come_to_tell (first {m = m} {rest = rest} {s = s}) = first_tells m rest s
 come_to_tell (behind {m = m} {other = other} {rest = rest} {s = s} {t = t} code e h) =
     let loading = loading_of s m in
-    let placed = (places s rest loading).state in
+    let placed = (places s loading).state in
     let line = Traced (line_bytes s.kernel.clock (Refused m.number code)) in
     tell_behind loading.pieces (enters_or (loads_first rest) placed m loading.answer).pieces t other
     (subst (λ (r : Result Loaded Code).
@@ -91,4 +91,4 @@ loads_in_tell w (returning {m = m} {t = t} code value ended turn after begun h) 
     (subst (λ (a : After). TellLoading (calls_by s d a).pieces t m) (sym after)
     (tell_behind d.pieces (returns_by v v.begun value).pieces t m
     (subst (λ (o : Option BegunModule). TellLoading (returns_by v o value).pieces t m) (sym begun)
-    (tell_behind left.pieces (loads_first u.modules u).pieces t m (come_to_tell h)))))
+    (tell_behind left.pieces (loads_first (modules_of u.modules) u).pieces t m (come_to_tell h)))))

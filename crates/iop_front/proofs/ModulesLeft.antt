@@ -1,5 +1,5 @@
 -- What a step leaves of the modules that are not loaded yet.
-use Rattle.std.proofs.Common.{◌≡◌, ℕ, true, Option, Some, None, Result, Ok, Err, is_err, List, [], ◌∷◌, ◌++◌, refl, ap, sym, ◌∙◌}
+use Rattle.std.proofs.Common.{◌≡◌, ℕ, true, Option, Some, None, Result, Ok, Err, is_err, List, [], ◌∷◌, ◌++◌, drop, refl, ap, sym, ◌∙◌}
 use Rattle.iop_base.specs.declared.code.Code.{Code}
 use Rattle.iop_exec.specs.Row.{Row, Goes, Serves, Faults}
 use Rattle.iop_kernel.specs.System.{Served}
@@ -8,33 +8,44 @@ use Rattle.iop_kernel.specs.declared.after.After.TheVariants.{Resume, Switch, Mo
 use Rattle.iop_machine.specs.Iop.{Iop, Transition}
 use Rattle.iop_machine.specs.Loading.{boots, enters_or, loading_of, loads_first, places, starts_by, with_kernel}
 use Rattle.iop_machine.specs.Looking.{takes_events}
-use Rattle.iop_machine.specs.Modules.{Module}
+use Rattle.iop_machine.specs.Modules.{Module, ModulesLeft, modules_of, without_first}
 use Rattle.iop_machine.specs.Services.{calls, calls_by, ends_module, goes_on_by, returns_by, serves}
 use Rattle.iop_machine.specs.Stepping.{Turn, Stays, Boots, Delivers, Dispatches, Executes, Waits, performs, step, takes_turn, turn_of}
 use Rattle.iop_machine.specs.World.{World}
 use Rattle.iop_machine.specs.declared.begun_module.BegunModule.{BegunModule}
+use Rattle.iop_machine.proofs.ModulesTaken.{rest_is}
 use Rattle.iop_modload.specs.declared.loaded.Loaded.{Loaded}
 use Rattle.iop_front.specs.Loadings.{ComesToLoad, LoadsIn, LeavesModules, first, behind, booting, returning, answer_to, behind_end, served_by}
 use Rattle.iop_front.proofs.LoadingLines.{step_as}
 
+-- those behind the first of the modules that are left
+rest_of : (m : Module) (rest : List Module) (left : ModulesLeft) → m ∷ rest ≡ modules_of left
+    → rest ≡ modules_of (without_first left)
+rest_of m rest left e = ap (drop 1) e ∙ sym (rest_is left)
+
+-- those that the loading of these leaves
+abbrev left_by : List Module → Iop → List Module
+left_by modules s = modules_of (loads_first modules s).state.modules
+
 -- of modules that are loaded until one is not refused: those behind the one that is loaded
 come_to_leave : {modules : List Module} {s t : Iop} {m : Module} (l : Loaded)
-    → ComesToLoad modules s m t → answer_to t m ≡ Ok l
-    → (before : List Module) × (modules ≡ before ++ m ∷ (loads_first modules s).state.modules)
+    → ComesToLoad modules s m t → answer_to t m ≡ Ok l → modules ≡ modules_of s.modules
+    → (before : List Module) × (modules ≡ before ++ m ∷ left_by modules s)
 unfolding loads_first
-come_to_leave l (first {m = m} {rest = rest} {s = s}) ok =
-    let placed = (places s rest (loading_of s m)).state in (
+come_to_leave l (first {m = m} {rest = rest} {s = s}) ok are =
+    let placed = (places s (loading_of s m)).state in (
       [],
-      sym (ap (λ (r : Result Loaded Code).
-          m ∷ (enters_or (loads_first rest) placed m r).state.modules) ok),
+      ap (λ xs. m ∷ xs) (rest_of m rest s.modules are)
+          ∙ sym (ap (λ (r : Result Loaded Code).
+          m ∷ modules_of (enters_or (loads_first rest) placed m r).state.modules) ok),
     )
-come_to_leave l (behind {m = m} {other = other} {rest = rest} {s = s} {t = t} code e h) ok =
-    let placed = (places s rest (loading_of s m)).state in
-    let r = come_to_leave l h ok in (
+come_to_leave l (behind {m = m} {other = other} {rest = rest} {s = s} {t = t} code e h) ok are =
+    let placed = (places s (loading_of s m)).state in
+    let r = come_to_leave l h ok (rest_of m rest s.modules are) in (
       m ∷ r.0,
       ap (λ xs. m ∷ xs) r.1
-          ∙ sym (ap (λ (a : Result Loaded Code).
-          (m ∷ r.0) ++ other ∷ (enters_or (loads_first rest) placed m a).state.modules) e),
+          ∙ sym (ap (λ (a : Result Loaded Code). (m ∷ r.0)
+          ++ other ∷ modules_of (enters_or (loads_first rest) placed m a).state.modules) e),
     )
 
 -- none where all are refused
@@ -43,23 +54,26 @@ AllRefused modules s =
     (m : Module) (t : Iop) → ComesToLoad modules s m t → is_err (answer_to t m) ≡ true
 
 refused_by : (m : Module) (rest : List Module) (s : Iop) → AllRefused (m ∷ rest) s
-    → ((t : Iop) → AllRefused rest t → (loads_first rest t).state.modules ≡ [])
+    → rest ≡ modules_of (without_first s.modules)
+    → ((t : Iop) → AllRefused rest t → rest ≡ modules_of t.modules → left_by rest t ≡ [])
     → (r : Result Loaded Code) → answer_to s m ≡ r
-    → (enters_or (loads_first rest) (places s rest (loading_of s m)).state m r).state.modules ≡ []
-refused_by m rest s h later (Ok l) e = let no = h m s first in absurd (cc)
-refused_by m rest s h later (Err code) e =
-    later (places s rest (loading_of s m)).state (λ other t c. h other t (behind code e c))
+    → modules_of (enters_or (loads_first rest) (places s (loading_of s m)).state m r).state.modules
+    ≡ []
+refused_by m rest s h are later (Ok l) e = let no = h m s first in absurd (cc)
+refused_by m rest s h are later (Err code) e =
+    later (places s (loading_of s m)).state (λ other t c. h other t (behind code e c)) are
 
 all_refused : (modules : List Module) (s : Iop) → AllRefused modules s
-    → (loads_first modules s).state.modules ≡ []
+    → modules ≡ modules_of s.modules → left_by modules s ≡ []
 unfolding loads_first
-all_refused [] s h = refl
-all_refused (m ∷ rest) s h = refused_by m rest s h (all_refused rest) (answer_to s m) refl
+all_refused [] s h are = sym are
+all_refused (m ∷ rest) s h are =
+    refused_by m rest s h (rest_of m rest s.modules are) (all_refused rest) (answer_to s m) refl
 
 -- and all where none comes to be loaded, since there is none
 none_come : (modules : List Module) (s : Iop)
     → ((m : Module) (t : Iop) → ¬ ComesToLoad modules s m t)
-    → (loads_first modules s).state.modules ≡ modules
+    → (loads_first modules s).state.modules ≡ s.modules
 unfolding loads_first
 none_come [] s h = refl
 none_come (m ∷ rest) s h = absurd (h m s first)
@@ -75,16 +89,16 @@ gone_on s (Some begun) = refl
 
 -- so a step leaves them
 module _ (w : World) where
-  abbrev left : List Module
+  abbrev left : ModulesLeft
   left = (step w).state.iop.modules
 
-  abbrev loaded_from : Iop → List Module
-  loaded_from s = (loads_first w.iop.modules s).state.modules
+  abbrev loaded_from : Iop → ModulesLeft
+  loaded_from s = (loads_first (modules_of w.iop.modules) s).state.modules
 
   booted_left : turn_of w ≡ Boots → left ≡ loaded_from (with_kernel w.iop)
   unfolding boots
   booted_left turn =
-      let v = (loads_first w.iop.modules (with_kernel w.iop)).state in
+      let v = (loads_first (modules_of w.iop.modules) (with_kernel w.iop)).state in
       ap (λ (x : Transition World). x.state.iop.modules) (step_as w Boots turn)
       ∙ started v v.begun
 
@@ -97,7 +111,8 @@ module _ (w : World) where
       let s = takes_events w.iop in
       let d = served_by s code in
       let v = (serves s d).state in
-      let u = (loads_first w.iop.modules (behind_end s code ended value)).state in
+      let loaded = behind_end s code ended value in
+      let u = (loads_first (modules_of w.iop.modules) loaded).state in
       ap (λ (x : Transition World). x.state.iop.modules) (step_as w (Executes (Serves code)) turn)
       ∙ ap (λ (a : After). (calls_by s d a).state.modules) after
       ∙ ap (λ (o : Option BegunModule). (returns_by v o value).state.modules) begun
@@ -106,20 +121,24 @@ module _ (w : World) where
   -- the state in which the modules that are left are loaded
   record From (m : Module) (t : Iop) : Type 0 where
     s : Iop
-    comes : ComesToLoad w.iop.modules s m t
+    comes : ComesToLoad (modules_of w.iop.modules) s m t
+    are : w.iop.modules ≡ s.modules
     leaves : left ≡ loaded_from s
-    others : (other : Module) (u : Iop) → ComesToLoad w.iop.modules s other u → LoadsIn w other u
+    others : (other : Module) (u : Iop)
+        → ComesToLoad (modules_of w.iop.modules) s other u → LoadsIn w other u
 
   from : {m : Module} {t : Iop} → LoadsIn w m t → From m t
   from (booting turn h) = record {
     s = with_kernel w.iop;
     comes = h;
+    are = refl;
     leaves = booted_left turn;
     others = λ other u c. booting turn c;
   }
   from (returning code value ended turn after begun h) = record {
     s = behind_end (takes_events w.iop) code ended value;
     comes = h;
+    are = refl;
     leaves = returned_left code value ended turn after begun;
     others = λ other u c. returning code value ended turn after begun c;
   }
@@ -137,9 +156,9 @@ module _ (w : World) where
       ended_by value None e after = refl
       ended_by value (Some ended) e after =
           let v = behind_end (takes_events w.iop) code ended value in
-          let u = (loads_first w.iop.modules v).state in
+          let u = (loads_first (modules_of w.iop.modules) v).state in
           gone_on u u.begun
-          ∙ none_come w.iop.modules v
+          ∙ none_come (modules_of w.iop.modules) v
           (λ m t c. no m t (returning code value ended turn after e c))
 
       called_by : (a : After) → (served code).left.after ≡ a
@@ -162,9 +181,10 @@ module _ (w : World) where
     unfolding boots
     stay_by Stays e = refl
     stay_by Boots e =
-        let v = (loads_first w.iop.modules (with_kernel w.iop)).state in
+        let v = (loads_first (modules_of w.iop.modules) (with_kernel w.iop)).state in
         started v v.begun
-        ∙ none_come w.iop.modules (with_kernel w.iop) (λ m t c. no m t (booting e c))
+        ∙ none_come (modules_of w.iop.modules) (with_kernel w.iop)
+        (λ m t c. no m t (booting e c))
     stay_by (Delivers d) e = refl
     stay_by (Dispatches d) e = refl
     stay_by (Executes r) e = performed_by r e
@@ -176,18 +196,20 @@ module _ (w : World) where
     stays = stay_by (turn_of w) refl
 
   leaves_one : (m : Module) (s : Iop) (l : Loaded) → LoadsIn w m s → answer_to s m ≡ Ok l
-      → (before : List Module) × (w.iop.modules ≡ before ++ m ∷ left)
+      → (before : List Module) × (modules_of w.iop.modules ≡ before ++ m ∷ modules_of left)
   leaves_one m s l h ok =
       let f = from h in
-      let r = come_to_leave l f.comes ok in
-      (r.0, r.1 ∙ sym (ap (λ (xs : List Module). r.0 ++ m ∷ xs) f.leaves))
+      let r = come_to_leave l f.comes ok (ap modules_of f.are) in
+      (r.0, r.1 ∙ sym (ap (λ xs. r.0 ++ m ∷ modules_of xs) f.leaves))
 
   leaves_none : (m : Module) (s : Iop) → LoadsIn w m s
       → ((other : Module) (t : Iop) → LoadsIn w other t → is_err (answer_to t other) ≡ true)
-      → left ≡ []
+      → modules_of left ≡ []
   leaves_none m s h refused =
       let f = from h in
-      f.leaves ∙ all_refused w.iop.modules f.s (λ other t c. refused other t (f.others other t c))
+      ap modules_of f.leaves
+      ∙ all_refused (modules_of w.iop.modules) f.s
+      (λ other t c. refused other t (f.others other t c)) (ap modules_of f.are)
 
   pub leaves_modules : LeavesModules w
   leaves_modules = record { stay = stays; left = leaves_one; none = leaves_none }

@@ -10,7 +10,7 @@ use Rattle.iop_machine.specs.EventLaws.{TakesItsEvents, ChangesLines, IsNextComi
 use Rattle.iop_machine.specs.Histories.{call_in, calls_in}
 use Rattle.iop_machine.specs.Laws.{IsAwake, IsOnTime, IsStrict, KeepsEvents, StaysSound}
 use Rattle.iop_machine.specs.Looking.{takes_events, next_coming}
-use Rattle.iop_machine.specs.Modules.{Module, NamedFile, modules_from}
+use Rattle.iop_machine.specs.Modules.{Module, NamedFile, none_loaded}
 use Rattle.iop_machine.specs.Running.{Ends}
 use Rattle.iop_machine.specs.Stepping.{executes, most_steps, step, steps}
 use Rattle.iop_machine.specs.StubLaws.{ExecutesStub, IsTold}
@@ -106,8 +106,7 @@ module _ (first : World) (coming : List Raise) (k : ℕ) where
 abbrev pub machine_of : Command → Script → List NamedFile → World
 machine_of command script files =
     beginning (ram_bytes command.ram)
-    (modules_from script.args script.named 1 (modules_to_load command.generate files))
-    script.events
+    (none_loaded script (modules_to_load command.generate files)) script.events
 
 -- of the run of a command by what its script says, and these files
 pub record HoldsOfRun (command : Command) (script : Script) (files : List NamedFile) : Type 0 where

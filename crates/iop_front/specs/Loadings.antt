@@ -15,7 +15,7 @@ use Rattle.iop_linker.specs.Linking.{export_table_of, target_of, text_stubs}
 use Rattle.iop_machine.specs.Iop.{Iop}
 use Rattle.iop_machine.specs.Loading.{loading_of, places, with_kernel}
 use Rattle.iop_machine.specs.Looking.{takes_events}
-use Rattle.iop_machine.specs.Modules.{Module}
+use Rattle.iop_machine.specs.Modules.{Module, modules_of}
 use Rattle.iop_machine.specs.Services.{leaves, serves, calling}
 use Rattle.iop_machine.specs.Stepping.{Boots, Executes, step, turn_of}
 use Rattle.iop_machine.specs.World.{World}
@@ -133,12 +133,12 @@ pub data ComesToLoad : List Module → Iop → Module → Iop → Type 0 where
   first : {m : Module} {rest : List Module} {s : Iop} → ComesToLoad (m ∷ rest) s m s
   behind : {m other : Module} {rest : List Module} {s t : Iop} (code : Code)
       → answer_to s m ≡ Err code
-      → ComesToLoad rest (places s rest (loading_of s m)).state other t
+      → ComesToLoad rest (places s (loading_of s m)).state other t
       → ComesToLoad (m ∷ rest) s other t
 
 -- of those that are left in a state
 abbrev pub ComesNext : Iop → Module → Iop → Type 0
-ComesNext s m t = ComesToLoad s.modules s m t
+ComesNext s m t = ComesToLoad (modules_of s.modules) s m t
 
 -- what a call of a code leaves
 abbrev pub served_by : Iop → (code : ℕ) → Served
@@ -178,8 +178,9 @@ pub record LeavesModules (w : World) : Type 0 where
       → (step w).state.iop.modules ≡ w.iop.modules
   -- those behind the one that is loaded
   pub left : (m : Module) (s : Iop) (l : Loaded) → LoadsIn w m s → answer_to s m ≡ Ok l
-      → (before : List Module) × (w.iop.modules ≡ before ++ m ∷ (step w).state.iop.modules)
+      → (before : List Module)
+      × (modules_of w.iop.modules ≡ before ++ m ∷ modules_of (step w).state.iop.modules)
   -- none, where each that comes to be loaded is refused
   pub none : (m : Module) (s : Iop) → LoadsIn w m s
       → ((other : Module) (t : Iop) → LoadsIn w other t → is_err (answer_to t other) ≡ true)
-      → (step w).state.iop.modules ≡ []
+      → modules_of (step w).state.iop.modules ≡ []

@@ -7,7 +7,7 @@ use Rattle.iop_base.specs.Output.{Output}
 use Rattle.iop_base.specs.Text.{line_bytes}
 use Rattle.iop_base.specs.declared.line.Line.TheVariants.{End}
 use Rattle.iop_base.specs.declared.stop.Stop.{Stop}
-use Rattle.iop_machine.specs.Modules.{NamedFile, modules_from}
+use Rattle.iop_machine.specs.Modules.{NamedFile, none_loaded}
 use Rattle.iop_machine.specs.Stepping.{Ran, run_of}
 use Rattle.iop_machine.specs.World.{World, beginning}
 use Rattle.iop_modload.specs.declared.limits.TheConstants.{LONGEST_FILE}
@@ -86,8 +86,7 @@ modules_to_load (Some workers) files = generated_module workers ∷ []
 abbrev pub outcome_of_modules : Command → Script → List NamedFile → Outcome
 outcome_of_modules command script files = outcome_of_run command.dump (run_of command.budget
     (beginning (ram_bytes command.ram)
-    (modules_from script.args script.named 1 (modules_to_load command.generate files))
-    script.events))
+    (none_loaded script (modules_to_load command.generate files)) script.events))
 
 -- the first file that is too long
 abbrev pub first_too_long : List NamedFile → Option NamedFile

@@ -12,7 +12,7 @@ use Rattle.iop_machine.specs.declared.begun_module.BegunModule.{BegunModule}
 use Rattle.iop_machine.specs.AreaLaws.{HasKernel, BootingKeepsKernel}
 use Rattle.iop_machine.specs.Iop.{Iop, Transition}
 use Rattle.iop_machine.specs.Loading.{with_kernel, loading_of, places, passes, enters_or, loads_first, starts_by, boots}
-use Rattle.iop_machine.specs.Modules.{Module, HasRoom, argument_block}
+use Rattle.iop_machine.specs.Modules.{Module, HasRoom, argument_block, modules_of}
 use Rattle.iop_machine.specs.Stepping.{Boots}
 use Rattle.iop_machine.specs.Storing.{fills, stores_bytes}
 use Rattle.iop_machine.specs.World.{beginning}
@@ -78,7 +78,7 @@ loads_first_hold [] s room has holds = holds
 loads_first_hold (m ∷ rest) s room has holds =
     let loading = loading_of s m in
     let kept = loading_keeps s.kernel.clock s.memory s.blocks s.libraries has m.file in
-    let placed = (places s rest loading).state in
+    let placed = (places s loading).state in
     let still = as_before s.memory.ram placed.memory.ram kept.size kept.kernel holds in
     enters_hold (loads_first rest) placed m loading.answer (All-head HasRoom m rest room) still
     (loads_first_hold rest placed (All-tail HasRoom m rest room) kept.whole still)
@@ -89,12 +89,12 @@ starts_hold : (s : Iop) (o : Option BegunModule) → HoldsArea s.memory.ram
 starts_hold s None holds = holds
 starts_hold s (Some begun) holds = holds
 
-boots_hold : (s : Iop) → All HasRoom s.modules → HasBlocks s.memory s.blocks → s.memory.live ≡ []
-    → HoldsArea (boots s).state.memory.ram
+boots_hold : (s : Iop) → All HasRoom (modules_of s.modules) → HasBlocks s.memory s.blocks
+    → s.memory.live ≡ [] → HoldsArea (boots s).state.memory.ram
 unfolding boots
 boots_hold s room has none =
-    let left = (loads_first s.modules (with_kernel s)).state in
-    starts_hold left left.begun (loads_first_hold s.modules (with_kernel s) room
+    let left = (loads_first (modules_of s.modules) (with_kernel s)).state in
+    starts_hold left left.begun (loads_first_hold (modules_of s.modules) (with_kernel s) room
     (area_blocks s has none) (area_holds s.memory.ram))
 
 pub booting_keeps_kernel : BootingKeepsKernel

@@ -24,6 +24,7 @@ use Rattle.iop_kernel.proofs.Walk.Steps.{delivers_goes, dispatches_goes}
 use Rattle.iop_machine.specs.Iop.{Iop, core_of}
 use Rattle.iop_machine.specs.Loading.{loads_first, with_kernel, starts_by, boots}
 use Rattle.iop_machine.specs.Looking.{takes_events, next_coming}
+use Rattle.iop_machine.specs.Modules.{modules_of}
 use Rattle.iop_machine.specs.Registers.{nobodys, IsBare, ends_call}
 use Rattle.iop_machine.specs.Services.{calls, calls_by, calling, serves, returns_by}
 use Rattle.iop_machine.specs.Stepping.{Turn, takes_turn, performs, waits_by}
@@ -147,8 +148,8 @@ boots_bare : (s : Iop) → placing.IsPlaced s.kernel.threads → IsBare (core_of
     → IsBare (core_of (boots s).state)
 unfolding boots
 boots_bare s placed h =
-    let left = (loads_first s.modules (with_kernel s)).state in
-    let same = sym (loads_first_lands s.modules (with_kernel s)).kernel in
+    let left = (loads_first (modules_of s.modules) (with_kernel s)).state in
+    let same = sym (loads_first_lands (modules_of s.modules) (with_kernel s)).kernel in
     starts_bare left left.begun
     (subst (λ (k : Kernel). placing.IsPlaced k.threads) same placed)
     (subst (λ (k : Kernel). IsBare (record { kernel = k; cpu = nobodys })) same

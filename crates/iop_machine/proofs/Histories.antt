@@ -18,7 +18,7 @@ use Rattle.iop_machine.specs.Histories.{calls_in}
 use Rattle.iop_machine.specs.Iop.{Iop}
 use Rattle.iop_machine.specs.Laws.{RunsAreCounted, RunsAreDelivered}
 use Rattle.iop_machine.specs.Looking.{takes_events}
-use Rattle.iop_machine.specs.Modules.{Module}
+use Rattle.iop_machine.specs.Modules.{ModulesLeft}
 use Rattle.iop_machine.specs.Services.{calling}
 use Rattle.iop_machine.specs.Stepping.{step, steps}
 use Rattle.iop_machine.specs.World.{World, beginning}
@@ -84,7 +84,7 @@ goes_grow s new places (served code core same) history h =
     (told_so history (taken_objects s) h))
 
 -- over whole runs
-module _ (size : ℕ) (modules : List Module) (events : List Raise) (sized : IsRamSize size) where
+module _ (size : ℕ) (modules : ModulesLeft) (events : List Raise) (sized : IsRamSize size) where
   abbrev first : World
   first = beginning size modules events
 

@@ -25,7 +25,7 @@ use Rattle.iop_stubs.proofs.Storing.{store_sound}
 use Rattle.iop_sysmem.specs.BlockMap.{BlockMap}
 use Rattle.iop_machine.specs.Iop.{Iop, Transition, tells}
 use Rattle.iop_machine.specs.Loading.{loading_of, places, passes, enters_or, loads_first, starts_by}
-use Rattle.iop_machine.specs.Modules.{Module, argument_block}
+use Rattle.iop_machine.specs.Modules.{Module, argument_block, modules_of}
 use Rattle.iop_machine.specs.Services.{calls, calls_by, serves, calling, leaves, returns_by, ends_module, goes_on_by}
 use Rattle.iop_machine.specs.Stepping.{performs, stores_it, waits_by}
 use Rattle.iop_machine.specs.Storing.{stores_bytes, fills}
@@ -192,10 +192,10 @@ unfolding loads_first
 loads_first_keeps [] s h = same s.kernel.clock s.memory s.blocks [] h
 loads_first_keeps (m ∷ rest) s h =
     let loading = loading_of s m in
-    let placed : Keeps s (places s rest loading) =
+    let placed : Keeps s (places s loading) =
     stays_as (loading_keeps s.kernel.clock s.memory s.blocks s.libraries h m.file) in
     stays_then placed (enters_keeps (loads_first rest) (loads_first_keeps rest)
-    (places s rest loading).state m loading.answer placed.whole)
+    (places s loading).state m loading.answer placed.whole)
 
 -- whether the loader's thread goes on or ends, and whether it begins, memory and its blocks stay
 goes_on_keeps : {clock : ℕ} {old : Memory} {pieces : List Piece} {bound : List Stub} (s : Iop)
@@ -218,10 +218,11 @@ returns_keep s None value h = same s.kernel.clock s.memory s.blocks [] h
 returns_keep s (Some m) value h =
     let left = (leaves s
     (finishes s.kernel.clock s.memory s.blocks s.libraries m.number m.place value)).state in
-    let now = (loads_first s.modules left).state in
+    let now = (loads_first (modules_of s.modules) left).state in
     let ended = stays_as (finishing_keeps s.kernel.clock s.memory s.blocks s.libraries h m.number
     m.place value) in
-    goes_on_keeps now now.begun (stays_then ended (loads_first_keeps s.modules left ended.whole))
+    goes_on_keeps now now.begun
+    (stays_then ended (loads_first_keeps (modules_of s.modules) left ended.whole))
 
 -- several stores, one after the other
 stays_stored : (clock : ℕ) (old : Memory) (blocks : BlockMap) (stores : List Store)

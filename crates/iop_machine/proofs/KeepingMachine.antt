@@ -1,5 +1,5 @@
 -- A machine stays one over its steps, which take the clock on.
-use Rattle.std.proofs.Common.{◌≡◌, ℕ, zero, suc, ◌+◌, ◌-◌, ◌^◌, ◌<◌, ◌≤◌, max, true, List, [], All, length, refl, ap, sym, ◌∙◌, subst, arith, inl, inr}
+use Rattle.std.proofs.Common.{◌≡◌, ℕ, zero, suc, ◌+◌, ◌-◌, ◌^◌, ◌<◌, ◌≤◌, max, true, List, [], ◌∷◌, All, length, refl, ap, sym, ◌∙◌, subst, arith, inl, inr}
 use Rattle.std.proofs.lemmas.List.Elements.{All-nil}
 use Rattle.iop_base.specs.Places.{IsRamSize}
 use Rattle.iop_base.proofs.Memory.{length-with_bytes}
@@ -16,7 +16,7 @@ use Rattle.iop_script.specs.declared.raise.Raise.{Raise}
 use Rattle.iop_stubs.specs.Binding.{IsBound}
 use Rattle.iop_stubs.specs.Stubs.{Memory}
 use Rattle.iop_stubs.specs.declared.live_stub.Stub.{Stub}
-use Rattle.iop_sysmem.specs.BlockMap.{AreBlocks, IsBlockSize, block_of, end_of}
+use Rattle.iop_sysmem.specs.BlockMap.{BlockMap, AreBlocks, IsBlockSize, block_of, end_of}
 use Rattle.iop_sysmem.specs.declared.blocks.TheConstants.{KERNEL}
 use Rattle.iop_thread.specs.declared.kind.Kind.TheVariants.{Semaphore, EventFlag, Mailbox, VariablePool, FixedPool}
 use Rattle.iop_thread.proofs.KeptSteadily.{begun_steady}
@@ -26,7 +26,7 @@ use Rattle.iop_machine.specs.KernelArea.{kernel_area}
 use Rattle.iop_machine.specs.Laws.{IsSoundWorld, IsMachine}
 use Rattle.iop_machine.specs.Loading.{with_kernel, loads_first, boots}
 use Rattle.iop_machine.specs.Looking.{takes_events, next_coming}
-use Rattle.iop_machine.specs.Modules.{Module}
+use Rattle.iop_machine.specs.Modules.{ModulesLeft, modules_of}
 use Rattle.iop_machine.specs.Services.{calling}
 use Rattle.iop_machine.specs.Stepping.{step, steps, executed, Turn, Stays as StaysTurn, Boots, turn_of, takes_turn, performs, waits_by}
 use Rattle.iop_machine.specs.World.{World, reset, beginning, zeros}
@@ -69,8 +69,8 @@ module _ (s : Iop) (has : HasBlocks s.memory s.blocks) where
   boots_keep : s.memory.live ≡ [] → Keeps s (boots s)
   unfolding boots
   boots_keep none =
-      let loaded = loads_first_keeps s.modules (with_kernel s) (area_blocks none) in
-      let left = (loads_first s.modules (with_kernel s)).state in
+      let loaded = loads_first_keeps (modules_of s.modules) (with_kernel s) (area_blocks none) in
+      let left = (loads_first (modules_of s.modules) (with_kernel s)).state in
       starts_keep left left.begun (record {
         whole = loaded.whole;
         size = loaded.size ∙ area_size;
@@ -195,10 +195,13 @@ steps_clock w (suc k) machine =
     }
 
 -- the block of the kernel alone is used
-kernel_blocks : (size : ℕ) → IsRamSize size → AreBlocks (reset size [] []).blocks
+abbrev first_blocks : ℕ → BlockMap
+first_blocks size = record { size = size; used = KERNEL ∷ [] }
+
+kernel_blocks : (size : ℕ) → IsRamSize size → AreBlocks (first_blocks size)
 kernel_blocks size sized =
     let behind = behind_area size sized in
-    let first : (i : ℕ) → i < 1 → block_of (reset size [] []).blocks i ≡ KERNEL =
+    let first : (i : ℕ) → i < 1 → block_of (first_blocks size) i ≡ KERNEL =
     kernel_first size in
     record {
       some = omega arith;
@@ -210,12 +213,12 @@ kernel_blocks size sized =
       sized = elim sized [ inl e ↦ omega (arith, e) | inr e ↦ omega (arith, e) ];
     }
   where
-    kernel_first : (size i : ℕ) → i < 1 → block_of (reset size [] []).blocks i ≡ KERNEL
+    kernel_first : (size i : ℕ) → i < 1 → block_of (first_blocks size) i ≡ KERNEL
     kernel_first size zero lt = refl
     kernel_first size (suc i) lt = absurd (omega (arith, lt))
 
 -- the loader's thread alone stands, dormant
-pub begins_as_core : (size : ℕ) (modules : List Module) (events : List Raise)
+pub begins_as_core : (size : ℕ) (modules : ModulesLeft) (events : List Raise)
     → IsCore (core_of (reset size modules events))
 begins_as_core size modules events = opening_core _ (begun_steady _ _ refl refl)
 
@@ -235,7 +238,7 @@ no_pools Mailbox id x known = tt
 no_pools VariablePool id x known = absurd (cc known)
 no_pools FixedPool id x known = absurd (cc known)
 
-module _ (size : ℕ) (modules : List Module) (events : List Raise) (sized : IsRamSize size) where
+module _ (size : ℕ) (modules : ModulesLeft) (events : List Raise) (sized : IsRamSize size) where
   pub begins_sound : IsSoundWorld (beginning size modules events)
   begins_sound = record {
     whole = record {

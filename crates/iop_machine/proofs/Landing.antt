@@ -10,7 +10,7 @@ use Rattle.iop_stubs.specs.declared.live_stub.Stub.{Stub}
 use Rattle.iop_thread.specs.declared.kind.Kind.TheVariants.{VariablePool, FixedPool}
 use Rattle.iop_machine.specs.Iop.{Transition, and_then}
 use Rattle.iop_machine.specs.Laws.{IsSoundWorld, StaysSound, RunsStaySound}
-use Rattle.iop_machine.specs.Modules.{Module}
+use Rattle.iop_machine.specs.Modules.{ModulesLeft}
 use Rattle.iop_machine.specs.Stepping.{step, steps}
 use Rattle.iop_machine.specs.StubLaws.{IsTold, RunsKeepStubs, RunsTellStubs, StubsLeaveWithTheirLine}
 use Rattle.iop_machine.specs.World.{World, beginning}
@@ -93,7 +93,7 @@ pub runs_tell_stubs : RunsTellStubs
 runs_tell_stubs = λ w k stub machine. (descends w k machine.sound).told stub
 
 -- what holds of all states that it reaches
-reached : (size : ℕ) (modules : List Module) (events : List Raise) (k : ℕ) → IsRamSize size
+reached : (size : ℕ) (modules : ModulesLeft) (events : List Raise) (k : ℕ) → IsRamSize size
     → let run = steps k (beginning size modules events) in StaysSound run.bound run.state.iop
 reached size modules events k sized =
     let h = descends (beginning size modules events) k

@@ -26,7 +26,7 @@ mod Delivering
 mod Settling
 mod Acting
 mod Progressing
-mod ModulesTaken
+pub mod ModulesTaken
 mod WordsOfModules
 mod ServiceLemmas
 mod Performing

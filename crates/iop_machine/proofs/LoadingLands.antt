@@ -16,7 +16,7 @@ use Rattle.iop_thread.proofs.KeptSteadily.{begun_steady}
 use Rattle.iop_thread.specs.ThreadTable.{ThreadTable}
 use Rattle.iop_machine.specs.Iop.{Iop, Transition, with_threads}
 use Rattle.iop_machine.specs.Loading.{loading_of, places, enters_or, loads_first, with_kernel, starts_by, boots}
-use Rattle.iop_machine.specs.Modules.{Module, module_start}
+use Rattle.iop_machine.specs.Modules.{Module, module_start, modules_of}
 use Rattle.iop_machine.specs.Registers.{nobodys}
 use Rattle.iop_machine.specs.Services.{leaves, goes_on_by, ends_module, returns_by, calls, calls_by, serves, calling}
 use Rattle.iop_machine.specs.declared.begun_module.BegunModule.{BegunModule}
@@ -46,7 +46,7 @@ unfolding loads_first
 loads_first_lands [] s = record { kernel = refl; steady = λ h. h; events = refl }
 loads_first_lands (m ∷ rest) s =
     let loading = loading_of s m in
-    enters_land (loads_first rest) (loads_first_lands rest) (places s rest loading).state m
+    enters_land (loads_first rest) (loads_first_lands rest) (places s loading).state m
     loading.answer
 
 -- of the kernel the threads alone change, and the script's events stay
@@ -82,8 +82,8 @@ goes_on_leave s t (Some begun) = leaves_with s t t.kernel.threads
 pub boots_leave : (s : Iop) → LeavesRest s (boots s).state
 unfolding boots
 boots_leave s =
-    let v = (loads_first s.modules (with_kernel s)).state in
-    starts_leave s v v.begun nobodys (loads_first_lands s.modules (with_kernel s))
+    let v = (loads_first (modules_of s.modules) (with_kernel s)).state in
+    starts_leave s v v.begun nobodys (loads_first_lands (modules_of s.modules) (with_kernel s))
 
 -- and so does a module that returns
 pub returns_leave : (s : Iop) (o : Option BegunModule) (value : ℕ)
@@ -93,8 +93,8 @@ returns_leave s None value = record { kernel = refl; events = refl }
 returns_leave s (Some m) value =
     let left = (leaves s
     (finishes s.kernel.clock s.memory s.blocks s.libraries m.number m.place value)).state in
-    let v = (loads_first left.modules left).state in
-    goes_on_leave s v v.begun (loads_first_lands left.modules left)
+    let v = (loads_first (modules_of left.modules) left).state in
+    goes_on_leave s v v.begun (loads_first_lands (modules_of left.modules) left)
 
 -- a service was called
 calls_by_events : (s : Iop) (d : Served) (after : After)

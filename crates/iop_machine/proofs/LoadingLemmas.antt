@@ -23,13 +23,14 @@ use Rattle.iop_thread.specs.States.{zeroed_at}
 use Rattle.iop_machine.specs.Iop.{Iop, Transition, Takes, Remains, silent, tells, and_then}
 use Rattle.iop_machine.specs.KernelArea.{kernel_area}
 use Rattle.iop_machine.specs.Loading.{with_kernel, boots, loading_of, places, begins, enters, enters_or, loads_first, starts_by, starts}
-use Rattle.iop_machine.specs.Modules.{Module, argument_block, module_start}
+use Rattle.iop_machine.specs.Modules.{Module, ModulesLeft, argument_block, module_start, modules_of, without_first}
 use Rattle.iop_machine.specs.Registers.{nobodys}
 use Rattle.iop_machine.specs.Standing.{iop_of, Stands}
 use Rattle.iop_machine.specs.World.{reset, zeros}
 use Rattle.iop_machine.specs.declared.begun_module.BegunModule.{BegunModule}
 use Rattle.iop_machine.specs.declared.iop.Iop.{Iop as Program}
 use Rattle.iop_machine.proofs.Elements.{there}
+use Rattle.iop_machine.proofs.ModulesTaken.{rest_is}
 use Rattle.iop_machine.proofs.StandingLemmas.{IsMoment, carried, stands_for, silent_takes, silent_then, takes_as, takes_then, takes_with}
 
 -- what is 0 everywhere is zeros
@@ -91,28 +92,35 @@ none_is : {X : Type 0} (xs : List X) → None ≡ slice_get xs 0 → xs ≡ []
 none_is [] e = refl
 none_is (x ∷ xs) e = absurd (cc e)
 
+-- the first one that is left, and those behind it
+first_left : (left : ModulesLeft) (m : Module) → Some m ≡ slice_get (modules_of left) 0
+    → modules_of left ≡ m ∷ modules_of (without_first left)
+first_left left m e =
+    first_is (modules_of left) m e ∙ ap (λ rest. m ∷ rest) (sym (rest_is left))
+
 -- the first of these modules is loaded
-loads_it : (s : Iop) (m : Module) (modules : List Module) → modules ≡ m ∷ drop 1 modules
-    → loads_first modules s ≡ and_then (places s (drop 1 modules) (loading_of s m))
-    (λ v. enters_or (loads_first (drop 1 modules)) v m (loading_of s m).answer)
+loads_it : (s : Iop) (m : Module) (modules rest : List Module) → modules ≡ m ∷ rest
+    → loads_first modules s ≡ and_then (places s (loading_of s m))
+    (λ v. enters_or (loads_first rest) v m (loading_of s m).answer)
 unfolding loads_first
-loads_it s m modules e = ap (λ ms. loads_first ms s) e
+loads_it s m modules rest e = ap (λ ms. loads_first ms s) e
 
 -- there is none
 nothing_loads : (s : Iop) (modules : List Module) → modules ≡ []
-    → loads_first modules s ≡ silent (record s { modules = modules; begun = None })
+    → loads_first modules s ≡ silent (record s { begun = None })
 unfolding loads_first
-nothing_loads s modules e =
-    ap (λ ms. loads_first ms s) e
-    ∙ ap (λ (ms : List Module). silent (record s { modules = ms; begun = None })) (sym e)
+nothing_loads s modules e = ap (λ ms. loads_first ms s) e
 
 -- no module is left
-pub none_left : (m : Program) (a : Output) → None ≡ slice_get m.modules 0 → (s : Iop) → Stands m s
-    → Takes Stands (loads_first s.modules s) (record m { begun = None }) a a
+pub none_left : (m : Program) (a : Output) → None ≡ slice_get (modules_of m.modules) 0
+    → (s : Iop) → Stands m s
+    → Takes Stands (loads_first (modules_of s.modules) s) (record m { begun = None }) a a
 none_left m a none =
-    carried m (λ s. Takes Stands (loads_first s.modules s) (record m { begun = None }) a a)
+    let left = modules_of m.modules in
+    carried m
+    (λ s. Takes Stands (loads_first (modules_of s.modules) s) (record m { begun = None }) a a)
     (λ k h. takes_as (silent_takes a (stands_for (record m { begun = None }) k h))
-    (sym (nothing_loads (iop_of m k) m.modules (none_is m.modules none))))
+    (sym (nothing_loads (iop_of m k) left (none_is left none))))
 
 module _ (m : Program) (t : ℕ) (first : Module) where
   -- what the loading of a module comes to at a moment
@@ -122,16 +130,16 @@ module _ (m : Program) (t : ℕ) (first : Module) where
   -- the first module was loaded or refused, and taken out
   pub record Places (answer : Result Loaded Code) (placed : Program) (a b : Output) : Type 0 where
     pub moment : IsMoment m t
-    pub is_first : Some first ≡ slice_get m.modules 0
+    pub is_first : Some first ≡ slice_get (modules_of m.modules) 0
     pub answer_is : answer ≡ loading.answer
     pub takes : (s : Iop) → Stands m s
-        → Takes Stands (places s (drop 1 s.modules) (loading_of s first)) placed a b
+        → Takes Stands (places s (loading_of s first)) placed a b
 
   -- as the clauses of the calls say it
   pub places_as : {a b : Output} {answer : Result Loaded Code} {memory : Memory} {blocks : BlockMap}
-      {modules : List Module} → IsMoment m t → Some first ≡ slice_get m.modules 0
+      {modules : ModulesLeft} → IsMoment m t → Some first ≡ slice_get (modules_of m.modules) 0
       → answer ≡ loading.answer → memory ≡ loading.memory → blocks ≡ loading.blocks
-      → Gives a b loading.pieces → modules ≡ drop 1 m.modules
+      → Gives a b loading.pieces → modules ≡ without_first m.modules
       → Places answer (record m { guest = memory; blocks = blocks; modules = modules }) a b
   places_as {a} {b} {answer} {memory} {blocks} {modules} moment is_first answer_is e f lines rest =
       let placed = record m { guest = memory; blocks = blocks; modules = modules } in
@@ -140,8 +148,8 @@ module _ (m : Program) (t : ℕ) (first : Module) where
         is_first = is_first;
         answer_is = answer_is;
         takes = carried m
-            (λ s. Takes Stands (places s (drop 1 s.modules) (loading_of s first)) placed a b)
-            (λ k h. subst (λ u. Takes Stands (places (iop_of m k) (drop 1 m.modules)
+            (λ s. Takes Stands (places s (loading_of s first)) placed a b)
+            (λ k h. subst (λ u. Takes Stands (places (iop_of m k)
             (loads u m.guest m.blocks m.registry first.file)) placed a b) (moment k h) (record {
               state = record {
                 kernel = h;
@@ -153,36 +161,40 @@ module _ (m : Program) (t : ℕ) (first : Module) where
 
   -- what is left where the first of a state's modules was loaded or refused
   abbrev placed_of : Iop → Iop
-  placed_of s = (places s (drop 1 s.modules) (loading_of s first)).state
+  placed_of s = (places s (loading_of s first)).state
 
   -- what follows then, by its answer
   abbrev follows : Iop → Result Loaded Code → Transition Iop
-  follows s r = enters_or (loads_first (drop 1 s.modules)) (placed_of s) first r
+  follows s r =
+      enters_or (loads_first (modules_of (without_first s.modules))) (placed_of s) first r
 
   module _ {answer : Result Loaded Code} {placed : Program} {a b : Output}
       (h : Places answer placed a b) where
     -- then by its answer
     then_by : (r : Result Loaded Code) → answer ≡ r → (new : Program) (d : Output) → (s : Iop)
         → Stands m s → Takes Stands (follows s r) new b d
-        → Takes Stands (loads_first s.modules s) new a d
+        → Takes Stands (loads_first (modules_of s.modules) s) new a d
     then_by r is new d =
         carried m
-        (λ s. Takes Stands (follows s r) new b d → Takes Stands (loads_first s.modules s) new a d)
-        (λ k stands rest.
+        (λ s. Takes Stands (follows s r) new b d
+        → Takes Stands (loads_first (modules_of s.modules) s) new a d)
+        (λ k stands later.
         let s = iop_of m k in
+        let rest = modules_of (without_first m.modules) in
         let same : r ≡ (loading_of s first).answer = sym is ∙ h.answer_is
         ∙ ap (λ u. (loads u m.guest m.blocks m.registry first.file).answer) (h.moment k stands) in
         takes_as (takes_then (h.takes s (stands_for m k stands))
-        (λ v. enters_or (loads_first (drop 1 m.modules)) v first (loading_of s first).answer)
-        (takes_as rest (ap (follows s) same)))
-        (sym (loads_it s first m.modules (first_is m.modules first h.is_first))))
+        (λ v. enters_or (loads_first rest) v first (loading_of s first).answer)
+        (takes_as later (ap (follows s) same)))
+        (sym (loads_it s first (modules_of m.modules) rest
+        (first_left m.modules first h.is_first))))
 
     -- it begins with what it is handed
     pub loaded_takes : {new : Program} {c : Output} (loaded : Loaded) (words : ℕ) (block : List ℕ)
         → answer ≡ Ok loaded → words ≡ length first.words → block ≡ argument_block first.words
         → ((v : Iop) → Stands placed v → Takes Stands
         (enters v first.number loaded words block) new b c)
-        → (s : Iop) → Stands m s → Takes Stands (loads_first s.modules s) new a c
+        → (s : Iop) → Stands m s → Takes Stands (loads_first (modules_of s.modules) s) new a c
     loaded_takes {new} {c} loaded words block is few handed g s stands =
         let v = placed_of s in
         then_by (Ok loaded) is new c s stands (takes_as (g v (h.takes s stands).state)
@@ -195,14 +207,15 @@ module _ (m : Program) (t : ℕ) (first : Module) where
         → Takes Stands (tells v (Refused first.number code)) placed b c)
         → (s : Iop) → Stands m s
         → (v : Iop) × Stands placed v
-        × Remains Stands (loads_first s.modules s) (loads_first v.modules v) a c
+        × Remains Stands (loads_first (modules_of s.modules) s)
+        (loads_first (modules_of v.modules) v) a c
     refused_remains code is told s stands =
         let v = placed_of s in
         let there = (h.takes s stands).state in (
           v,
           there,
           λ later last rest. then_by (Err code) is later last s stands
-              (takes_then (told v there) (loads_first v.modules) rest),
+              (takes_then (told v there) (loads_first (modules_of v.modules)) rest),
         )
 
 -- the kernel's area was written
@@ -244,7 +257,7 @@ stands_unhad m cpu zero =
 pub boots_takes : (m : Program) {a b c : Output} {loaded : Program} (memory : Memory)
     → memory ≡ record m.guest { ram = with_bytes m.guest.ram 0 kernel_area } → Gives a b []
     → ((s : Iop) → Stands (record m { guest = memory }) s
-    → Takes Stands (loads_first s.modules s) loaded b c) → (now : Program)
+    → Takes Stands (loads_first (modules_of s.modules) s) loaded b c) → (now : Program)
     → ((s : Iop) → Stands loaded s → Stands now (starts s))
     → (s : Iop) → Stands m s → Takes Stands (boots s) now a c
 unfolding boots

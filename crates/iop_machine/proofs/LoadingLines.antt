@@ -67,7 +67,7 @@ unfolding loads_first
 loads_first_run_none [] s = All-nil IsNoRun
 loads_first_run_none (m ∷ rest) s =
     let loading = loading_of s m in
-    let placed = (places s rest loading).state in
+    let placed = (places s loading).state in
     All-append IsNoRun loading.pieces (enters_or (loads_first rest) placed m loading.answer).pieces
     (loads_run_none s m)
     (enters_run_none (loads_first rest) (loads_first_run_none rest) placed m loading.answer)

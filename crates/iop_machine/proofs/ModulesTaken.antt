@@ -1,11 +1,12 @@
 -- The modules that were not loaded yet, as they are taken one by one.
-use Rattle.std.proofs.Common.{◌≡◌, ℕ, zero, suc, ◌+◌, Option, Some, None, List, [], ◌∷◌, drop, refl, ap, sym, ◌∙◌, arith, subst}
+use Rattle.std.proofs.Common.{◌≡◌, ℕ, suc, ◌+◌, ◌<◌, ◌≤◌, Option, Some, None, List, [], ◌∷◌, drop, length, refl, ap, sym, ◌∙◌, arith, subst}
 use Rattle.std.specs.Prelude.{All, option_map, unwrap_or}
 use Rattle.std.specs.Option.{option_or}
 use Rattle.std.specs.List.{slice_get}
+use Rattle.std.proofs.lemmas.List.{drop_all, drop_more}
 use Rattle.std.proofs.lemmas.Option.{get_or_from_slice_get, slice_get_within}
 use Rattle.iop_script.specs.Scripts.{Args, Named, words_for}
-use Rattle.iop_machine.specs.Modules.{NamedFile, Module, HasRoom, modules_from}
+use Rattle.iop_machine.specs.Modules.{NamedFile, Module, ModulesLeft, HasRoom, modules_from, modules_of, next_behind, without_first}
 use Rattle.iop_machine.specs.ModulesLeft.{modules_left, module_of}
 use Rattle.iop_machine.specs.declared.modules_left.Next.{Next}
 use Rattle.iop_machine.specs.declared.modules_left.ModulesLeft.TheInside.{Inside}
@@ -26,54 +27,63 @@ module_at args named number first = record {
 
 module _ (args : List Args) (named : List Named) where
   -- the first module is that of the first file
-  first_module : (taken number : ℕ) (files : List NamedFile)
-      → slice_get (modules_from args named number (drop taken files)) 0
-      ≡ option_map (module_at args named number) (slice_get files taken)
-  first_module zero number [] = refl
-  first_module zero number (first ∷ rest) = refl
-  first_module (suc taken) number [] = refl
-  first_module (suc taken) number (first ∷ rest) = first_module taken number rest
+  first_module : (number : ℕ) (files : List NamedFile)
+      → slice_get (modules_from args named number files) 0
+      ≡ option_map (module_at args named number) (slice_get files 0)
+  first_module number [] = refl
+  first_module number (first ∷ rest) = refl
 
+  -- one module less is left
   rest_modules : (number : ℕ) (files : List NamedFile)
-      → modules_from args named (suc number) (drop 1 files)
+      → modules_from args named (next_behind number files) (drop 1 files)
       ≡ drop 1 (modules_from args named number files)
   rest_modules number [] = refl
   rest_modules number (first ∷ rest) = refl
 
-  -- one module less is left
-  modules_after : (taken number : ℕ) (files : List NamedFile)
-      → modules_from args named (suc number) (drop (suc taken) files)
-      ≡ drop 1 (modules_from args named number (drop taken files))
-  modules_after zero number files = rest_modules number files
-  modules_after (suc taken) number [] = refl
-  modules_after (suc taken) number (first ∷ rest) = modules_after taken number rest
-
--- one module was taken
-pub modules_left_after : (w : Inside)
-    → modules_left (record w { taken = w.taken + 1 }) ≡ drop 1 (modules_left w)
-modules_left_after w =
-    let one : w.taken + 1 ≡ suc w.taken = omega arith in
-    ap (λ n. modules_from w.args.items w.named.items (suc n) (drop n w.modules.items)) one
-    ∙ modules_after w.args.items w.named.items w.taken (suc w.taken) w.modules.items
+-- the modules behind the first one
+pub rest_is : (left : ModulesLeft) → modules_of (without_first left) ≡ drop 1 (modules_of left)
+rest_is left = rest_modules left.args left.named left.next left.files
 
 -- the module that is taken next
-pub next_is : (w : Inside) (file : NamedFile) (next : Next)
-    → slice_get w.modules.items w.taken ≡ Some file
-    → next.number ≡ w.taken + 1 → next.name.now ≡ file.name
-    → next.words.now ≡ words_for w.args.items w.named.items next.number file.name
-    → next.file.now ≡ file.file → Some (module_of next) ≡ slice_get (modules_left w) 0
-next_is w file next at n a b f =
-    let args = w.args.items in
-    let named = w.named.items in
-    let one : next.number ≡ suc w.taken = omega (arith, n) in
+pub next_is : (left : ModulesLeft) (file : NamedFile) (next : Next)
+    → slice_get left.files 0 ≡ Some file → next.number ≡ left.next → next.name.now ≡ file.name
+    → next.words.now ≡ words_for left.args left.named next.number file.name
+    → next.file.now ≡ file.file → Some (module_of next) ≡ slice_get (modules_of left) 0
+next_is left file next at n a b f =
     rw (a, b, f)
-    (ap (λ x. Some (module_at args named x file)) one
-    ∙ sym (first_module args named w.taken (suc w.taken) w.modules.items
-    ∙ ap (option_map (module_at args named (suc w.taken))) at))
+    (ap (λ x. Some (module_at left.args left.named x file)) n
+    ∙ sym (first_module left.args left.named left.next left.files
+    ∙ ap (option_map (module_at left.args left.named left.next)) at))
 
 -- it has room
-pub has_room : (w : Inside) (m : Module) → All HasRoom (modules_left w)
-    → Some m ≡ slice_get (modules_left w) 0 → HasRoom m
-has_room w m h e =
-    subst HasRoom (get_or_from_slice_get (modules_left w) 0 m m (sym e))
-    (h 0 m (slice_get_within (modules_left w) 0 m (sym e)))
+pub has_room : (modules : List Module) (m : Module) → All HasRoom modules
+    → Some m ≡ slice_get modules 0 → HasRoom m
+has_room modules m h e =
+    subst HasRoom (get_or_from_slice_get modules 0 m m (sym e))
+    (h 0 m (slice_get_within modules 0 m (sym e)))
+
+-- what the program holds, with another number and other files
+abbrev left_with : Inside → ℕ → List NamedFile → ModulesLeft
+left_with w next files =
+    record { args = w.args.items; named = w.named.items; next = next; files = files }
+
+abbrev no_file : NamedFile
+no_file = record { name = []; file = [] }
+
+-- one module was taken
+pub one_taken : (w : Inside) → w.taken < length w.modules.items
+    → modules_left (record w { taken = w.taken + 1 }) ≡ without_first (modules_left w)
+one_taken w lt =
+    let number = w.first_number + w.taken in
+    let next : w.first_number + (w.taken + 1) ≡ suc number = omega arith in
+    ap (λ n. left_with w n (drop (w.taken + 1) w.modules.items)) next
+    ∙ sym (ap (λ files. without_first (left_with w number files))
+    (drop_more w.modules.items w.taken no_file lt))
+
+-- where none is left none is taken
+pub none_taken : (w : Inside) → length w.modules.items ≤ w.taken
+    → modules_left w ≡ without_first (modules_left w)
+none_taken w all =
+    let number = w.first_number + w.taken in
+    subst (λ files. left_with w number files ≡ without_first (left_with w number files))
+    (sym (drop_all w.taken w.modules.items all)) refl

@@ -24,6 +24,7 @@ use Rattle.iop_machine.specs.Events.{CanCome}
 use Rattle.iop_machine.specs.Iop.{Iop, Transition, with_state, later, core_of}
 use Rattle.iop_machine.specs.Loading.{loads_first, with_kernel, starts_by, boots}
 use Rattle.iop_machine.specs.Looking.{takes_events, next_coming}
+use Rattle.iop_machine.specs.Modules.{modules_of}
 use Rattle.iop_machine.specs.Services.{calls, calls_by, serves, calling, leaves, goes_on_by, ends_module, returns_by}
 use Rattle.iop_machine.specs.Registers.{forgotten, ends_call}
 use Rattle.iop_machine.specs.Stepping.{Turn, takes_turn, is_execution, step, executes, stores_it, performs, waits_by}
@@ -55,9 +56,10 @@ starts_core s (Some begun) h = (core_steps h).begins s.cpu h.steady
 boots_core : (s : Iop) → IsCore (core_of s) → IsCore (core_of (boots s).state)
 unfolding boots
 boots_core s h =
-    let left = (loads_first s.modules (with_kernel s)).state in
+    let left = (loads_first (modules_of s.modules) (with_kernel s)).state in
     with_cpu (starts_core left left.begun
-    (landed (with_kernel s) left (loads_first_lands s.modules (with_kernel s)) h)) nobodys_steady
+    (landed (with_kernel s) left (loads_first_lands (modules_of s.modules) (with_kernel s)) h))
+    nobodys_steady
 
 -- the loader's thread goes on or ends, where another may run
 goes_on_core : (s : Iop) (o : Option BegunModule) → may_switch s.kernel ≡ true → IsCore (core_of s)
@@ -73,8 +75,8 @@ returns_core s None value may h = goes_on_core s None may h
 returns_core s (Some m) value may h =
     let left = (leaves s
     (finishes s.kernel.clock s.memory s.blocks s.libraries m.number m.place value)).state in
-    let lands = loads_first_lands s.modules left in
-    let now = (loads_first s.modules left).state in
+    let lands = loads_first_lands (modules_of s.modules) left in
+    let now = (loads_first (modules_of s.modules) left).state in
     goes_on_core now now.begun (ap may_switch lands.kernel ∙ may) (landed left now lands h)
 
 -- what holds of the kernel holds at any moment

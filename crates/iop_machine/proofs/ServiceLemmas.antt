@@ -23,6 +23,7 @@ use Rattle.iop_sysmem.specs.BlockMap.{BlockMap}
 use Rattle.iop_thread.specs.Operations as threads
 use Rattle.iop_machine.specs.Iop.{Iop, Takes, with_state, system_of, with_system}
 use Rattle.iop_machine.specs.Loading.{loads_first}
+use Rattle.iop_machine.specs.Modules.{modules_of}
 use Rattle.iop_machine.specs.Services.{faults_with, leaves, goes_on_by, ends_module, returns_by, serves, calls_by, calling, calls}
 use Rattle.iop_machine.specs.Standing.{iop_of, Stands}
 use Rattle.iop_machine.specs.declared.begun_module.BegunModule.{BegunModule}
@@ -82,13 +83,14 @@ module _ (m : Program) (new : Kernels KernelReady)
 pub ends_module_takes : {m left loaded : Program} {a b c : Output} (begun : BegunModule) (value : ℕ)
     → ((s : Iop) → Stands m s → Takes Stands (leaves s (finishes s.kernel.clock s.memory s.blocks
     s.libraries begun.number begun.place value)) left a b)
-    → ((s : Iop) → Stands left s → Takes Stands (loads_first s.modules s) loaded b c)
+    → ((s : Iop) → Stands left s → Takes Stands (loads_first (modules_of s.modules) s) loaded b c)
     → (now : Program) → ((s : Iop) → Stands loaded s → Stands now (goes_on_by s s.begun))
     → (s : Iop) → Stands m s → Takes Stands (ends_module s begun value) now a c
 unfolding ends_module
 ends_module_takes begun value ended loads now goes s h =
     let taken = ended s h in
-    takes_then taken (λ v. with_state (λ u. goes_on_by u u.begun) (loads_first v.modules v))
+    takes_then taken
+    (λ v. with_state (λ u. goes_on_by u u.begun) (loads_first (modules_of v.modules) v))
     (takes_with (loads _ taken.state) Stands (λ u. goes_on_by u u.begun) now (goes _))
 
 -- by whether a module had begun

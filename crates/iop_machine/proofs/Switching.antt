@@ -29,7 +29,7 @@ use Rattle.iop_thread.specs.ThreadTable.{ThreadTable}
 use Rattle.iop_machine.specs.Iop.{Iop, Transition, core_of}
 use Rattle.iop_machine.specs.Loading.{loads_first, with_kernel, starts_by, boots}
 use Rattle.iop_machine.specs.Looking.{takes_events}
-use Rattle.iop_machine.specs.Modules.{Module}
+use Rattle.iop_machine.specs.Modules.{Module, ModulesLeft, modules_of}
 use Rattle.iop_machine.specs.Services.{calls, calls_by, serves, calling, leaves, goes_on_by, ends_module, returns_by}
 use Rattle.iop_machine.specs.Stepping.{Turn, Dispatches, turn_of, takes_turn, step, steps, performs, waits_by}
 use Rattle.iop_machine.specs.SwitchLaws.{running_in, IsTaken, SwitchesByDispatch, RunsSwitchByDispatch, RunsSince, RunningThreadsWereTaken}
@@ -76,10 +76,10 @@ starts_run s (Some begun) placed =
 boots_run : (s : Iop) → IsPlaced s.kernel.threads → KeepsRunning s (boots s)
 unfolding boots
 boots_run s placed =
-    let v = (loads_first s.modules (with_kernel s)).state in
+    let v = (loads_first (modules_of s.modules) (with_kernel s)).state in
     let threads = ap (λ (k : Kernel). k.threads)
-    (loads_first_lands s.modules (with_kernel s)).kernel in
-    let loaded = loads_first_keeps_running s.modules (with_kernel s) in
+    (loads_first_lands (modules_of s.modules) (with_kernel s)).kernel in
+    let loaded = loads_first_keeps_running (modules_of s.modules) (with_kernel s) in
     let started = starts_run v v.begun (subst IsPlaced (sym threads) placed) in
     record {
       running = λ id is. loaded.running id (started.running id is);
@@ -103,13 +103,14 @@ returns_run s (Some m) value placed =
     let ended =
     finishes s.kernel.clock s.memory s.blocks s.libraries m.number m.place value in
     let left = (leaves s ended).state in
-    let now = (loads_first s.modules left).state in
-    let threads = ap (λ (k : Kernel). k.threads) (loads_first_lands s.modules left).kernel in
-    let loaded = loads_first_keeps_running s.modules left in
+    let now = (loads_first (modules_of s.modules) left).state in
+    let lands = loads_first_lands (modules_of s.modules) left in
+    let threads = ap (λ (k : Kernel). k.threads) lands.kernel in
+    let loaded = loads_first_keeps_running (modules_of s.modules) left in
     let went = goes_on_run now now.begun (subst IsPlaced (sym threads) placed) in
     record {
       running = λ id is. loaded.running id (went.running id is);
-      lines = All-append IsNoRun ended.pieces (loads_first s.modules left).pieces
+      lines = All-append IsNoRun ended.pieces (loads_first (modules_of s.modules) left).pieces
           (finishes_run_none s m value) loaded.lines;
     }
 
@@ -225,7 +226,7 @@ runs_switch_by_dispatch = λ size modules events k sized.
     (runs_stay_sound size modules events k sized).core
 
 -- a thread that runs was taken, and has run since
-module _ (size : ℕ) (modules : List Module) (events : List Raise) (sized : IsRamSize size) where
+module _ (size : ℕ) (modules : ModulesLeft) (events : List Raise) (sized : IsRamSize size) where
   abbrev first : World
   first = beginning size modules events
 

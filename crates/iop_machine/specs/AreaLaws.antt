@@ -19,7 +19,7 @@ use Rattle.iop_services.specs.declared.codes.TheConstants.{SERVICES}
 use Rattle.iop_thread.specs.declared.thread.TheConstants.{THREAD_RETURN}
 use Rattle.iop_kernel.specs.declared.active_handler.TheConstants.{HANDLER_RETURN}
 use Rattle.iop_machine.specs.KernelArea.{syscall_word, service_at, kernel_area}
-use Rattle.iop_machine.specs.Modules.{Module, HasRoom}
+use Rattle.iop_machine.specs.Modules.{ModulesLeft, HasRoom, modules_of}
 use Rattle.iop_machine.specs.Stepping.{step}
 use Rattle.iop_machine.specs.World.{beginning}
 
@@ -61,6 +61,6 @@ KernelAreaIsRead = (ram : List ℕ) → HasKernel (with_bytes ram 0 kernel_area)
 -- and booting, which loads modules whose words have room in the argument block, leaves it so
 abbrev pub BootingKeepsKernel : Type 0
 BootingKeepsKernel =
-    (size : ℕ) (modules : List Module) (events : List Raise) → IsRamSize size
-    → All HasRoom modules
+    (size : ℕ) (modules : ModulesLeft) (events : List Raise) → IsRamSize size
+    → All HasRoom (modules_of modules)
     → HasKernel (step (beginning size modules events)).state.iop.memory.ram

@@ -12,7 +12,7 @@ use Rattle.iop_script.specs.declared.raise.Raise.{Raise}
 use Rattle.iop_stubs.specs.Stubs.{Memory}
 use Rattle.iop_stubs.specs.declared.live_stub.Stub.{Stub}
 use Rattle.iop_sysmem.specs.BlockMap.{BlockMap}
-use Rattle.iop_machine.specs.Modules.{Module}
+use Rattle.iop_machine.specs.Modules.{ModulesLeft}
 use Rattle.iop_kernel.specs.System.{Kernel, Core, System}
 use Rattle.iop_thread.specs.ThreadTable.{ThreadTable}
 use Rattle.iop_machine.specs.declared.begun_module.BegunModule.{BegunModule}
@@ -26,8 +26,8 @@ pub record Iop : Type 0 where
   pub blocks : BlockMap
   -- the registered libraries
   pub libraries : List Entry
-  -- the modules that were not loaded yet, in order
-  pub modules : List Module
+  -- the modules that were not loaded yet
+  pub modules : ModulesLeft
   -- the script's events that are still to come
   pub events : List Raise
   -- the module that the loader's thread begins or runs, if there is one

@@ -28,7 +28,7 @@ use Rattle.iop_kernel.specs.WaiterPlaces.{HavePlaces}
 use Rattle.iop_thread.specs.Laws.{IsSettled}
 use Rattle.iop_time.specs.declared.ticks.TheConstants.{NEVER}
 use Rattle.iop_machine.specs.Iop.{Iop, silent, core_of, with_core}
-use Rattle.iop_machine.specs.Modules.{Module}
+use Rattle.iop_machine.specs.Modules.{ModulesLeft}
 
 -- the steps of a run are those of its first part and then those of the rest
 abbrev pub StepsCompose : Type 0
@@ -82,7 +82,7 @@ pub record IsMachine (w : World) : Type 0 where
 -- a machine begins as one
 abbrev pub RunsBeginAsMachines : Type 0
 RunsBeginAsMachines =
-    (size : ℕ) (modules : List Module) (events : List Raise) → IsRamSize size → CanCome events
+    (size : ℕ) (modules : ModulesLeft) (events : List Raise) → IsRamSize size → CanCome events
     → IsMachine (beginning size modules events)
 
 -- and each of its steps leaves one
@@ -125,7 +125,7 @@ pub record StaysSound (stubs : List Stub) (s : Iop) : Type 0 where
 
 abbrev pub RunsStaySound : Type 0
 RunsStaySound =
-    (size : ℕ) (modules : List Module) (events : List Raise) (k : ℕ) → IsRamSize size
+    (size : ℕ) (modules : ModulesLeft) (events : List Raise) (k : ℕ) → IsRamSize size
     → let run = steps k (beginning size modules events) in StaysSound run.bound run.state.iop
 
 -- the step leaves the kernel and the processor so, and all else as the script's events that are due
@@ -152,7 +152,7 @@ pub record IsStrict (w : World) : Type 0 where
 -- in each state that a run reaches and in which it goes on
 abbrev pub RunsAreStrict : Type 0
 RunsAreStrict =
-    (size : ℕ) (modules : List Module) (events : List Raise) (k : ℕ) → IsRamSize size
+    (size : ℕ) (modules : ModulesLeft) (events : List Raise) (k : ℕ) → IsRamSize size
     → let run = steps (suc k) (beginning size modules events) in
     run.state.iop.over ≡ None → IsStrict run.state
 
@@ -188,7 +188,7 @@ pub record IsAwake (w : World) (s : Iop) : Type 0 where
 -- in each state that a run reaches and in which it goes on
 abbrev pub RunsAreAwake : Type 0
 RunsAreAwake =
-    (size : ℕ) (modules : List Module) (events : List Raise) (k : ℕ) → IsRamSize size
+    (size : ℕ) (modules : ModulesLeft) (events : List Raise) (k : ℕ) → IsRamSize size
     → CanCome events → let run = steps (suc k) (beginning size modules events) in
     run.state.iop.over ≡ None → IsAwake run.state (takes_events run.state.iop)
 
@@ -207,14 +207,14 @@ pub record KeepsEvents (events : List Raise) (s : Iop) : Type 0 where
 
 abbrev pub RunsKeepEvents : Type 0
 RunsKeepEvents =
-    (size : ℕ) (modules : List Module) (events : List Raise) (k : ℕ)
+    (size : ℕ) (modules : ModulesLeft) (events : List Raise) (k : ℕ)
     → KeepsEvents events (steps k (beginning size modules events)).state.iop
 
 -- in each state that a run reaches, the count of each live semaphore is what its first count and
 -- the calls of the run so far have made of it, and at most its most
 abbrev pub RunsAreCounted : Type 0
 RunsAreCounted =
-    (size : ℕ) (modules : List Module) (events : List Raise) (k : ℕ) → IsRamSize size
+    (size : ℕ) (modules : ModulesLeft) (events : List Raise) (k : ℕ) → IsRamSize size
     → let world = beginning size modules events in
     AreCounted (steps k world).state.iop.kernel.semaphores (calls_in k world)
 
@@ -222,6 +222,6 @@ RunsAreCounted =
 -- order where messages are not taken by their priority
 abbrev pub RunsAreDelivered : Type 0
 RunsAreDelivered =
-    (size : ℕ) (modules : List Module) (events : List Raise) (k : ℕ) → IsRamSize size
+    (size : ℕ) (modules : ModulesLeft) (events : List Raise) (k : ℕ) → IsRamSize size
     → let world = beginning size modules events in
     AreDelivered (steps k world).state.iop.kernel.mailboxes (calls_in k world)

@@ -10,7 +10,7 @@ use Rattle.iop_machine.specs.declared.arguments.TheConstants.{ARGUMENTS, ARGUMEN
 use Rattle.iop_thread.specs.Operations as threads
 use Rattle.iop_machine.specs.declared.begun_module.BegunModule.{BegunModule}
 use Rattle.iop_machine.specs.KernelArea.{kernel_area}
-use Rattle.iop_machine.specs.Modules.{Module, argument_block, module_start}
+use Rattle.iop_machine.specs.Modules.{Module, modules_of, without_first, argument_block, module_start}
 use Rattle.iop_machine.specs.Registers.{nobodys}
 use Rattle.iop_machine.specs.Storing.{stores_bytes, fills}
 use Rattle.iop_machine.specs.Iop.{Iop, Transition, silent, tells, and_then, with_state, with_threads}
@@ -26,11 +26,14 @@ with_kernel s = record s {
 abbrev pub loading_of : Iop → Module → Loads
 loading_of s m = loads s.kernel.clock s.memory s.blocks s.libraries m.file
 
--- a module is loaded or refused; these are left
-abbrev pub places : Iop → List Module → Loads → Transition Iop
-places s rest loading = record {
-  state =
-      record s { memory = loading.memory; blocks = loading.blocks; modules = rest };
+-- the first module that is left is loaded or refused, and taken out
+abbrev pub places : Iop → Loads → Transition Iop
+places s loading = record {
+  state = record s {
+    memory = loading.memory;
+    blocks = loading.blocks;
+    modules = without_first s.modules;
+  };
   pieces = loading.pieces;
   bound = loading.bound;
 }
@@ -60,12 +63,12 @@ enters_or next s m (Ok loaded) =
     enters s m.number loaded (length m.words) (argument_block m.words)
 enters_or next s m (Err code) = and_then (tells s (Refused m.number code)) next
 
--- the first of these modules that loads begins, if one does
+-- the first of these modules, which are those that are left, that loads begins, if one does
 unfoldable pub loads_first : List Module → Iop → Transition Iop
-loads_first [] s = silent (record s { modules = []; begun = None })
+loads_first [] s = silent (record s { begun = None })
 loads_first (m ∷ rest) s =
     let loading = loading_of s m in
-    and_then (places s rest loading) (λ v. enters_or (loads_first rest) v m loading.answer)
+    and_then (places s loading) (λ v. enters_or (loads_first rest) v m loading.answer)
 
 -- the loader's thread is ready, with the registers of the module that begins, if there is one
 abbrev pub starts_by : Iop → Option BegunModule → Iop
@@ -78,4 +81,4 @@ starts s = record (starts_by s s.begun) { cpu = nobodys }
 
 -- the kernel's area is written, and the first module that loads begins
 unfoldable pub boots : Iop → Transition Iop
-boots s = with_state starts (loads_first s.modules (with_kernel s))
+boots s = with_state starts (loads_first (modules_of s.modules) (with_kernel s))

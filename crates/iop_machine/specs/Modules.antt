@@ -1,13 +1,13 @@
 -- The modules of a command, and what the kernel hands each of them. How many there can be, and how much
 -- they are handed, is this project's own profile.
-use Rattle.std.specs.Prelude.{ℕ, suc, ◌+◌, ◌*◌, ◌≤◌, List, [], ◌∷◌, ◌++◌, length}
+use Rattle.std.specs.Prelude.{ℕ, suc, ◌+◌, ◌*◌, ◌≤◌, List, [], ◌∷◌, ◌++◌, length, drop}
 use Rattle.iop_base.specs.Numbers.{wrapped, bytes_of}
 use Rattle.iop_exec.specs.declared.cpu.Cpu.{Cpu}
 use Rattle.iop_exec.specs.Row.{with_reg}
 use Rattle.iop_thread.specs.States.{zeroed_at}
 use Rattle.iop_modload.specs.declared.limits.TheConstants.{LONGEST_FILE}
 use Rattle.iop_modload.specs.declared.loaded.Loaded.{Loaded}
-use Rattle.iop_script.specs.Scripts.{Args, Named, words_for}
+use Rattle.iop_script.specs.Scripts.{Args, Named, Script, words_for}
 pub use Rattle.iop_saved_script.specs.Files.{NamedFile}
 use Rattle.iop_machine.specs.declared.arguments.TheConstants.{ARGUMENTS, LOADER_STACK_TOP, MODULE_RETURN, MOST_WORDS, MOST_WORD_BYTES}
 
@@ -30,6 +30,38 @@ modules_from args named number (first ∷ rest) =
       file = first.file;
     }
     ∷ modules_from args named (suc number) rest
+
+-- the modules that were not loaded yet
+pub record ModulesLeft : Type 0 where
+  -- the script's words for modules by their numbers: in a run they stay as they are
+  pub args : List Args
+  -- those for modules by their names, which stay, too
+  pub named : List Named
+  -- the number of the first module that is left
+  pub next : ℕ
+  -- the modules that are left, in order, as the command names them
+  pub files : List NamedFile
+
+-- each with its number and with the words that it is handed
+abbrev pub modules_of : ModulesLeft → List Module
+modules_of left = modules_from left.args left.named left.next left.files
+
+-- these modules and this script, where none was loaded: their numbers begin at 1
+abbrev pub none_loaded : Script → List NamedFile → ModulesLeft
+none_loaded script files =
+    record { args = script.args; named = script.named; next = 1; files = files }
+
+-- the number behind that of the first of these modules: where there is none, the same
+abbrev pub next_behind : ℕ → List NamedFile → ℕ
+next_behind next [] = next
+next_behind next (first ∷ rest) = suc next
+
+-- the first module is taken out, where one is left
+abbrev pub without_first : ModulesLeft → ModulesLeft
+without_first left = record left {
+  next = next_behind left.next left.files;
+  files = drop 1 left.files;
+}
 
 -- the address of each word, the words standing one after the other from an address on
 abbrev pub addresses : ℕ → List (List ℕ) → List ℕ

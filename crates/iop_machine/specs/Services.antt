@@ -15,6 +15,7 @@ use Rattle.iop_modload.specs.Finishing.{Leaves, finishes}
 use Rattle.iop_thread.specs.Operations as threads
 use Rattle.iop_machine.specs.declared.begun_module.BegunModule.{BegunModule}
 use Rattle.iop_machine.specs.Loading.{loads_first}
+use Rattle.iop_machine.specs.Modules.{modules_of}
 use Rattle.iop_machine.specs.Registers.{ends_call}
 use Rattle.iop_machine.specs.Iop.{Iop, Transition, silent, and_then, with_state, with_threads, system_of, with_system}
 
@@ -42,7 +43,7 @@ unfoldable pub ends_module : Iop → BegunModule → ℕ → Transition Iop
 ends_module s m value =
     and_then
     (leaves s (finishes s.kernel.clock s.memory s.blocks s.libraries m.number m.place value))
-    (λ v. with_state (λ u. goes_on_by u u.begun) (loads_first v.modules v))
+    (λ v. with_state (λ u. goes_on_by u u.begun) (loads_first (modules_of v.modules) v))
 
 -- the loader's thread returned
 abbrev pub returns_by : Iop → Option BegunModule → ℕ → Transition Iop

@@ -13,7 +13,7 @@ use Rattle.iop_stubs.specs.declared.live_stub.Stub.{Stub}
 use Rattle.iop_machine.specs.Iop.{Iop, silent}
 use Rattle.iop_machine.specs.Laws.{IsMachine}
 use Rattle.iop_machine.specs.Looking.{takes_events}
-use Rattle.iop_machine.specs.Modules.{Module}
+use Rattle.iop_machine.specs.Modules.{ModulesLeft}
 use Rattle.iop_machine.specs.Services.{faults_with}
 use Rattle.iop_machine.specs.Stepping.{step, steps, executes}
 use Rattle.iop_machine.specs.World.{World, booted, beginning}
@@ -112,7 +112,7 @@ pub record ExecutesStub (w : World) (stub : Stub) : Type 0 where
 -- in each state that a run reaches, and for each stub that is live in it
 abbrev pub StubsAreFollowed : Type 0
 StubsAreFollowed =
-    (size : ℕ) (modules : List Module) (events : List Raise) (k : ℕ) (stub : Stub) → IsRamSize size
+    (size : ℕ) (modules : ModulesLeft) (events : List Raise) (k : ℕ) (stub : Stub) → IsRamSize size
     → let w = (steps k (beginning size modules events)).state in
     executes w ≡ true → Contains w.iop.memory.live stub
     → phys (length w.iop.memory.ram) w.iop.cpu.pc ≡ Some stub.at → ExecutesStub w stub

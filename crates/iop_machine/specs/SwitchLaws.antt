@@ -8,7 +8,7 @@ use Rattle.iop_base.specs.declared.line.Line.TheVariants.{Run}
 use Rattle.iop_kernel.specs.Dispatching.{Dispatched}
 use Rattle.iop_kernel.specs.SwitchLaws.{IsNoRun}
 use Rattle.iop_script.specs.declared.raise.Raise.{Raise}
-use Rattle.iop_machine.specs.Modules.{Module}
+use Rattle.iop_machine.specs.Modules.{ModulesLeft}
 use Rattle.iop_machine.specs.Stepping.{Dispatches, turn_of, step, steps}
 use Rattle.iop_machine.specs.World.{World, beginning}
 
@@ -34,7 +34,7 @@ pub record SwitchesByDispatch (w : World) : Type 0 where
 -- in each state that a run reaches
 abbrev pub RunsSwitchByDispatch : Type 0
 RunsSwitchByDispatch =
-    (size : ℕ) (modules : List Module) (events : List Raise) (k : ℕ) → IsRamSize size
+    (size : ℕ) (modules : ModulesLeft) (events : List Raise) (k : ℕ) → IsRamSize size
     → SwitchesByDispatch (steps k (beginning size modules events)).state
 
 -- one of k steps dispatches a thread, which runs from then on
@@ -47,6 +47,6 @@ pub record RunsSince (w : World) (k id : ℕ) : Type 0 where
 -- so it is with each thread that runs behind k steps of a run
 abbrev pub RunningThreadsWereTaken : Type 0
 RunningThreadsWereTaken =
-    (size : ℕ) (modules : List Module) (events : List Raise) (k id : ℕ) → IsRamSize size
+    (size : ℕ) (modules : ModulesLeft) (events : List Raise) (k id : ℕ) → IsRamSize size
     → let first = beginning size modules events in
     running_in (steps k first).state ≡ Some id → RunsSince first k id

@@ -5,7 +5,7 @@ use Rattle.iop_script.specs.declared.raise.Raise.{Raise}
 use Rattle.iop_sysmem.specs.declared.blocks.TheConstants.{KERNEL}
 use Rattle.iop_kernel.specs.System as kernel
 use Rattle.iop_thread.specs.States.{zeroed_at}
-use Rattle.iop_machine.specs.Modules.{Module}
+use Rattle.iop_machine.specs.Modules.{ModulesLeft}
 use Rattle.iop_machine.specs.Iop.{Iop}
 
 pub record World : Type 0 where
@@ -22,7 +22,7 @@ zeros size = replicate size 0
 
 -- the core as it begins, with a memory of zeros in which the kernel's block alone is used: it is to
 -- load these modules, and these events are to come
-abbrev pub reset : ℕ → List Module → List Raise → Iop
+abbrev pub reset : ℕ → ModulesLeft → List Raise → Iop
 reset size modules events = record {
   kernel = kernel.beginning;
   cpu = zeroed_at 0;
@@ -36,5 +36,5 @@ reset size modules events = record {
 }
 
 -- the machine before its first step
-abbrev pub beginning : ℕ → List Module → List Raise → World
+abbrev pub beginning : ℕ → ModulesLeft → List Raise → World
 beginning size modules events = record { is_new = true; iop = reset size modules events }

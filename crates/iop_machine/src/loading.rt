@@ -4,6 +4,7 @@ ghost use Rattle.std.specs.Prelude.{◌≡◌, ◌<◌, [], MatchBool, length};
 ghost use Rattle.std.specs.Bool.{OnTrue};
 ghost use Rattle.iop_machine.specs.Iop.{Iop as State, Takes, Remains};
 ghost use Rattle.iop_machine.specs.Loading.{passes, enters, loads_first, starts_by, boots};
+ghost use Rattle.iop_machine.specs.Modules.{modules_of};
 ghost use Rattle.iop_machine.specs.Standing.{Stands, IsSound};
 
 use crate::arguments::{ARGUMENTS, ARGUMENTS_LEN, argument_block, module_start};
@@ -60,11 +61,13 @@ impl Iop {
         requires same_size { self.old.blocks.size ≡ length self.old.guest.ram }
         ensures loads { (s : State) → Stands self.old s → MatchBool result
             ((v : State) × Stands self.new v
-            × Remains Stands (loads_first s.modules s) (loads_first v.modules v)
+            × Remains Stands (loads_first (modules_of s.modules) s)
+            (loads_first (modules_of v.modules) v)
             (L.output lines.old) (L.output lines.new))
-            (Takes Stands (loads_first s.modules s) self.new
+            (Takes Stands (loads_first (modules_of s.modules) s) self.new
             (L.output lines.old) (L.output lines.new)) }
-        ensures fewer { OnTrue result (length self.new.modules < length self.old.modules) }
+        ensures fewer { OnTrue result
+            (length (modules_of self.new.modules) < length (modules_of self.old.modules)) }
         ensures same_size { OnTrue result (self.new.blocks.size ≡ length self.new.guest.ram) }
     {
         let Some(next) = self.modules.first() else {
@@ -99,7 +102,7 @@ impl Iop {
     pub(crate) fn load_first<L: Lines>(&mut self, lines: &mut L)
         requires same_size { self.old.blocks.size ≡ length self.old.guest.ram }
         ensures { (s : State) → Stands self.old s
-            → Takes Stands (loads_first s.modules s) self.new
+            → Takes Stands (loads_first (modules_of s.modules) s) self.new
             (L.output lines.old) (L.output lines.new) }
     {
         while self.load_next(lines) {}

@@ -4,7 +4,7 @@ ghost use Rattle.iop_base.specs.Places.{IsRamSize};
 ghost use Rattle.iop_ready.specs.KernelReady.{KernelStands};
 ghost use Rattle.iop_thread.specs.Standing.{Lends};
 ghost use Rattle.iop_ram.specs.Windows.{window_of};
-ghost use Rattle.iop_machine.specs.Modules.{HasRoom, modules_from};
+ghost use Rattle.iop_machine.specs.Modules.{HasRoom, modules_from, none_loaded};
 ghost use Rattle.iop_script.specs.declared.statements.TheConstants.{MOST_MODULES};
 ghost use Rattle.iop_machine.specs.Advancing.{Progresses, IsLess, calls_by};
 ghost use Rattle.iop_machine.specs.Events.{CanCome};
@@ -55,11 +55,10 @@ impl Machine {
         requires events { CanCome script.events }
         ensures stands { IfOk result (λ machine.
             StandsForWorld machine
-            (beginning size (modules_from script.args script.named 1 modules.items)
-            script.events)) }
+            (beginning size (none_loaded script modules.items) script.events)) }
         ensures sound { IfOk result IsSoundMachine }
     {
-        let left = ModulesLeft::new(modules, script.args, script.named);
+        let left = ModulesLeft::new(1, modules, script.args, script.named);
         let events = Events::new(script.events);
         Ok(Machine {
             is_new: true,

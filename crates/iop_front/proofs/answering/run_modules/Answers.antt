@@ -1,6 +1,6 @@
 use Rattle.std.proofs.Common.{ℕ, List, ap, sym, ◌∙◌, subst, inr}
 use Rattle.iop_machine.proofs.KeepingMachine.{begins_as_machine}
-use Rattle.iop_machine.specs.Modules.{NamedFile, modules_from}
+use Rattle.iop_machine.specs.Modules.{NamedFile, none_loaded}
 use Rattle.iop_machine.specs.Stepping.{run_of}
 use Rattle.iop_machine.specs.World.{beginning}
 use Rattle.iop_options.specs.Commands.{Command}
@@ -33,12 +33,11 @@ returns-in-Ok-new g c =
     ∙ ap (λ (o : Command). modules_to_load o.generate files) c.options.view_is in
     let size = c.bytes.ensures.exact ∙ ap (λ (o : Command). ram_bytes o.ram) c.options.view_is in
     let first = λ (size : ℕ) (modules : List NamedFile).
-    beginning size (modules_from script.args script.named 1 modules) script.events in
+    beginning size (none_loaded script modules) script.events in
     inr (subst (λ w. Comes (outcome_of_run options.dump (run_of options.budget w))
     c.run_to_end.result (seen c.args.console.now c.args.trace.now)
     (seen c.run_to_end.new.console c.run_to_end.new.trace)) (λ i. first (size i) (are i))
     (c.run_to_end.ensures _ c.in-Ok-new.ensures.stands
-    (begins_as_machine c.bytes.result
-    (modules_from script.args script.named 1 c.in-Ok.modules.items) script.events
+    (begins_as_machine c.bytes.result (none_loaded script c.in-Ok.modules.items) script.events
     c.bytes.ensures.sized
     (record { order = runs.order; ticks = runs.ticks; lines = runs.lines }))))

@@ -1,4 +1,4 @@
-use Rattle.std.proofs.Common.{◌≡◌, Some, None, sym, ◌∙◌, subst}
+use Rattle.std.proofs.Common.{sym, ◌∙◌, subst}
 use Rattle.iop_kernel.proofs.Order.Nothing.{none_of}
 use Rattle.iop_machine.specs.Standing.{Stands}
 use Rattle.iop_machine.proofs.Elements.{there}

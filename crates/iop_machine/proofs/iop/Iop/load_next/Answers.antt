@@ -18,7 +18,7 @@ returns-in-Ok-clause-loads g c =
     let first = sym (ap (option_map module_of) c.in-Some.is) ∙ c.first.ensures.«module» in
     let placed = places_as c.args.self.now c.now.result m c.now.ensures.moment first
     c.load.ensures.answer c.load.ensures.memory c.load.ensures.blocks c.load.ensures.lines
-    c.take_first.ensures in
+    c.take_first.ensures.taken in
     loaded_takes c.args.self.now c.now.result m placed c.in-Ok.loaded _ _ c.in-Ok.is (omega arith)
     (c.deref.ensures.0 ∙ c.argument_block-block.ensures.block
     ∙ ap (λ name. argument_block (name ∷ c.in-Some.next.words.now)) c.as_bytes.ensures.value)
@@ -30,7 +30,7 @@ returns-in-Err-clause-loads g c =
     let first = sym (ap (option_map module_of) c.in-Some.is) ∙ c.first.ensures.«module» in
     let placed = places_as c.args.self.now c.now.result m c.now.ensures.moment first
     c.load.ensures.answer c.load.ensures.memory c.load.ensures.blocks c.load.ensures.lines
-    c.take_first-in-Err.ensures in
+    c.take_first-in-Err.ensures.taken in
     refused_remains c.args.self.now c.now.result m placed c.in-Err.code c.in-Err.is
     (tells_takes _ c.now-in-Err.result c.now-in-Err.ensures.moment
     (Refused m.number c.in-Err.code) c.line.ensures)
