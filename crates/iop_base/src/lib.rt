@@ -26,7 +26,7 @@ pub use guest_fault::GuestFault;
 pub use illegal::Illegal;
 pub use kept::Kept;
 pub use libraries::KERNEL_LIBRARIES;
-pub use limits::{LAST_ID, MOST_WORKERS};
+pub use limits::{LARGE_RAM, LAST_ID, MOST_WORKERS, SMALL_RAM};
 pub use line::Line;
 pub use lines::Lines;
 pub use numbers::{half_at, high_half, sign_extended, word_at};

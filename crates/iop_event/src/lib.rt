@@ -11,4 +11,4 @@ mod wanted;
 pub use event_flag::{EventFlag, MANY_WAITERS};
 pub use event_flags::EventFlags;
 pub use met::Met;
-pub use wanted::{CLEAR, EITHER, Wanted};
+pub use wanted::{CLEAR, EITHER, Wanted, holds};

@@ -20,7 +20,7 @@ pub struct Wanted {
 }
 
 /// Says whether the condition on bits, by a mode, holds of a pattern.
-pub(crate) fn holds(bits: u32, mode: u32, pattern: u32) -> bool
+pub fn holds(bits: u32, mode: u32, pattern: u32) -> bool
     ensures { result ≡ holds bits mode pattern }
 {
     if mode & EITHER != 0 {

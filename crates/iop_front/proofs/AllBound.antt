@@ -14,7 +14,7 @@ use Rattle.iop_machine.specs.Modules.{Module}
 use Rattle.iop_machine.specs.Services.{calls, calls_by, ends_module, returns_by, serves}
 use Rattle.iop_machine.specs.Stepping.{Boots, Executes, step}
 use Rattle.iop_machine.specs.World.{World}
-use Rattle.iop_machine.specs.declared.begun_module.BegunModule.{BegunModule}
+use Rattle.iop_saved_machine.specs.declared.begun_module.BegunModule.{BegunModule}
 use Rattle.iop_modload.specs.Loading.{links_it, loads, loads_at, loads_parts}
 use Rattle.iop_modload.specs.declared.loaded.Loaded.{Loaded}
 use Rattle.iop_registry.specs.declared.registry.Entry.{Entry}

@@ -17,7 +17,7 @@ use Rattle.iop_machine.specs.Modules.{Module, modules_of}
 use Rattle.iop_machine.specs.Services.{calls, calls_by, ends_module, returns_by, serves}
 use Rattle.iop_machine.specs.Stepping.{Turn, Stays, Boots, Delivers, Dispatches, Executes, Waits, performs, step, takes_turn, turn_of}
 use Rattle.iop_machine.specs.World.{World}
-use Rattle.iop_machine.specs.declared.begun_module.BegunModule.{BegunModule}
+use Rattle.iop_saved_machine.specs.declared.begun_module.BegunModule.{BegunModule}
 use Rattle.iop_modload.specs.Loading.{links_it, loaded_at, loads, loads_at, loads_parts}
 use Rattle.iop_modload.specs.Modules.{module_of_file}
 use Rattle.iop_modload.specs.declared.loaded.Loaded.{Loaded}

@@ -14,7 +14,7 @@ use Rattle.iop_machine.specs.Modules.{Module, argument_block, modules_of}
 use Rattle.iop_machine.specs.Services.{calls, calls_by, ends_module, returns_by, serves}
 use Rattle.iop_machine.specs.Stepping.{Turn, Boots, Executes, step, takes_turn, turn_of}
 use Rattle.iop_machine.specs.World.{World}
-use Rattle.iop_machine.specs.declared.begun_module.BegunModule.{BegunModule}
+use Rattle.iop_saved_machine.specs.declared.begun_module.BegunModule.{BegunModule}
 use Rattle.iop_modload.specs.Finishing.{finishes}
 use Rattle.iop_modload.specs.declared.loaded.Loaded.{Loaded}
 use Rattle.iop_front.specs.Loadings.{TellLoading, ComesToLoad, LoadsIn, first, behind, booting, returning, behind_end, served_by}

@@ -12,7 +12,7 @@ use Rattle.iop_machine.specs.Modules.{Module, ModulesLeft, modules_of, without_f
 use Rattle.iop_machine.specs.Services.{calls, calls_by, ends_module, goes_on_by, returns_by, serves}
 use Rattle.iop_machine.specs.Stepping.{Turn, Stays, Boots, Delivers, Dispatches, Executes, Waits, performs, step, takes_turn, turn_of}
 use Rattle.iop_machine.specs.World.{World}
-use Rattle.iop_machine.specs.declared.begun_module.BegunModule.{BegunModule}
+use Rattle.iop_saved_machine.specs.declared.begun_module.BegunModule.{BegunModule}
 use Rattle.iop_machine.proofs.ModulesTaken.{rest_is}
 use Rattle.iop_modload.specs.declared.loaded.Loaded.{Loaded}
 use Rattle.iop_front.specs.Loadings.{ComesToLoad, LoadsIn, LeavesModules, first, behind, booting, returning, answer_to, behind_end, served_by}

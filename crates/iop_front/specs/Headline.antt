@@ -3,8 +3,8 @@
 use Rattle.std.specs.Prelude.{◌≡◌, ◌⊎◌, ◌↔◌, ℕ, ◌<◌, true, false, Option, None, Some, option_map, MatchOption, Ok, List, ◌++◌, length, map, Contains}
 use Rattle.iop_base.specs.Places.{phys}
 use Rattle.iop_base.specs.declared.stop.Stop.{Stop}
-use Rattle.iop_kernel.specs.CodeLaws.{calls_kind, KeepsObjects}
-use Rattle.iop_kernel.specs.Histories.{AreCounted, AreDelivered}
+use Rattle.iop_kernel_laws.specs.CodeLaws.{calls_kind, KeepsObjects}
+use Rattle.iop_kernel_laws.specs.Histories.{AreCounted, AreDelivered}
 use Rattle.iop_kernel.specs.Kinds.{table}
 use Rattle.iop_machine.specs.EventLaws.{TakesItsEvents, ChangesLines, IsNextComing, NothingComes}
 use Rattle.iop_machine.specs.Histories.{call_in, calls_in}

@@ -19,7 +19,7 @@ use Rattle.iop_machine.specs.Modules.{Module, modules_of}
 use Rattle.iop_machine.specs.Services.{leaves, serves, calling}
 use Rattle.iop_machine.specs.Stepping.{Boots, Executes, step, turn_of}
 use Rattle.iop_machine.specs.World.{World}
-use Rattle.iop_machine.specs.declared.begun_module.BegunModule.{BegunModule}
+use Rattle.iop_saved_machine.specs.declared.begun_module.BegunModule.{BegunModule}
 use Rattle.iop_modload.specs.Finishing.{finishes}
 use Rattle.iop_modload.specs.Loading.{loaded_at, with_image}
 use Rattle.iop_modload.specs.Modules.{module_of_file}

@@ -4,6 +4,7 @@ ghost use Rattle.std.specs.Prelude.{◌≡◌, ◌≤◌, Some, None, All, map, 
 ghost use Rattle.iop_script.specs.declared.statements.TheConstants.{MOST_MODULES};
 ghost use Rattle.iop_trace.specs.Outs.{sinks};
 ghost use Rattle.iop_front.specs.Answers.{outside, Answers};
+ghost use Rattle.iop_saved_script.specs.Sizes.{ScriptIsShort};
 ghost use Rattle.iop_script.specs.Laws.{CanRun};
 ghost use Rattle.iop_options.specs.Commands.{command_of};
 ghost use Rattle.iop_front.specs.Inputs.{IsShort};
@@ -29,6 +30,7 @@ fn run_modules<C: Sink, T: Sink>(
     trace: &mut T,
 ) -> Status
     requires runs { CanRun inputs.script }
+    requires short_script { ScriptIsShort inputs.script }
     requires few { length inputs.modules.items ≤ MOST_MODULES }
     requires short { All IsShort inputs.modules.items }
     ensures { Meets (outcome_of_modules options.now inputs.script inputs.modules.items) result

@@ -2,6 +2,7 @@
 
 ghost use Rattle.std.specs.Prelude.{◌≡◌, ◌≤◌, Some, [], ◌∷◌, All, IfOk, MatchResult, length, option_to_list};
 ghost use Rattle.iop_script.specs.declared.statements.TheConstants.{MOST_MODULES};
+ghost use Rattle.iop_saved_script.specs.Sizes.{ScriptIsShort};
 ghost use Rattle.iop_script.specs.Laws.{CanRun};
 ghost use Rattle.iop_script.specs.Reading.{empty_script};
 ghost use Rattle.iop_front.specs.Inputs.{seen, HasScript, HasInputs, HasStopped, IsShort};
@@ -15,6 +16,7 @@ use crate::words::ModuleWords;
 use iop_machine::Module;
 use iop_options::Options;
 use iop_ports::Files;
+use iop_saved_script::laws::short_texts_give_short_scripts;
 use iop_script::{Script, parse};
 use std::alloc::Global;
 
@@ -29,6 +31,7 @@ pub(crate) struct Inputs {
 fn no_script(alloc: Global) -> Script
     ensures script { result ≡ empty_script }
     ensures runs { CanRun result }
+    ensures short { ScriptIsShort result }
 {
     Script {
         events: Vec::new(alloc),
@@ -51,9 +54,11 @@ fn read_script<'a, F: Files>(
         (λ unread. HasStopped AsScript (name.now ∷ []) unread
         (seen F.told F.faults files.old) (seen F.told F.faults files.new)) }
     ensures runs { IfOk result CanRun }
+    ensures short { IfOk result ScriptIsShort }
     ensures buffer { length buffer.new ≡ read_limit }
 {
     let len = read_whole(name, buffer, files)?;
+    short_texts_give_short_scripts();
     Ok(parse(alloc, &buffer[..len])?)
 }
 
@@ -72,6 +77,7 @@ fn read_script_of<'a, F: Files>(
         (λ unread. HasStopped (kind_by named) (option_to_list named) unread
         (seen F.told F.faults files.old) (seen F.told F.faults files.new)) }
     ensures runs { IfOk result CanRun }
+    ensures short { IfOk result ScriptIsShort }
     ensures buffer { length buffer.new ≡ read_limit }
 {
     match &options.script {
@@ -95,6 +101,7 @@ pub(crate) fn read_inputs<'a, F: Files>(
         (λ unread. HasStopped (first_kind options.now) (files_of options.now) unread
         (seen F.told F.faults files.old) (seen F.told F.faults files.new)) }
     ensures runs { IfOk result (λ inputs. CanRun inputs.script) }
+    ensures short_script { IfOk result (λ inputs. ScriptIsShort inputs.script) }
     ensures few { IfOk result (λ inputs. length inputs.modules.items ≤ MOST_MODULES) }
     ensures short { IfOk result (λ inputs. All IsShort inputs.modules.items) }
 {

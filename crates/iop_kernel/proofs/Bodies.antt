@@ -10,4 +10,3 @@ pub mod Refusals
 pub mod StackBlocks
 pub mod Standing
 pub mod ThreadStatus
-pub mod Worlds

@@ -1,16 +1,5 @@
-pub mod Blocks
 pub mod Core
-pub mod Faulting
-pub mod Goes
-pub mod GoingOn
-pub mod Handlers
-pub mod Leaving
 pub mod Meetings
 pub mod Memory
-pub mod Moves
-pub mod Outcomes
 pub mod RunningThread
-pub mod Services
-pub mod Settled
 pub mod Steps
-pub mod Stores

@@ -1,4 +1,2 @@
 pub mod Kernels
 pub mod Kinds
-pub mod Meeting
-pub mod Services

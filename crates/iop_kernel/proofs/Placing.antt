@@ -2,7 +2,6 @@ pub mod Basics
 pub mod Kinds
 pub mod Live
 pub mod Moves
-pub mod ObjectsKept
 pub mod Opening
 pub mod Priorities
 pub mod QueuedPriorities

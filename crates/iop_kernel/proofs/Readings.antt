@@ -1,6 +1,1 @@
-pub mod Patterns
-pub mod Statuses
-pub mod Tests
-pub mod Times
 pub mod WordBytes
-pub mod Words

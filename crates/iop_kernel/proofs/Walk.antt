@@ -4,7 +4,6 @@ pub mod EventFlags
 pub mod FixedPools
 pub mod Interrupts
 pub mod Libraries
-pub mod Looks
 pub mod Mailboxes
 pub mod Meeting
 pub mod Moves

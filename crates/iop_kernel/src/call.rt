@@ -15,9 +15,14 @@ pub const MODULE_RETURN_CALL: u32 = 0xF02;
 
 /// What a `syscall` calls.
 #[derive(Clone, Copy, Debug, PartialEq, Eq)]
-pub(crate) enum Call {
+pub enum Call {
     /// A number of a kernel library.
-    Library { library: u32, number: u32 },
+    Library {
+        /// The library's place among `KERNEL_LIBRARIES` of iop_base.
+        library: u32,
+        /// The number: below `SERVICES` of iop_services.
+        number: u32,
+    },
     /// The thread returns.
     ThreadReturn,
     /// The handler returns.

@@ -23,10 +23,10 @@ use iop_stubs::Guest;
 use iop_thread::{Kind, Wait};
 
 /// How many words ask for an event flag: attribute, option, first pattern.
-const FLAG_WORDS: u32 = 3;
+pub const FLAG_WORDS: u32 = 3;
 
 /// How many words the status of an event flag has.
-const FLAG_STATUS_WORDS: u32 = 5;
+pub const FLAG_STATUS_WORDS: u32 = 5;
 
 impl<R: Ready> Kernel<R> {
     /// Makes an event flag of the three words at `at`: attribute, option, first pattern. It

@@ -28,10 +28,10 @@ use iop_sysmem::Blocks;
 use iop_thread::{Kind, Wait};
 
 /// How many words ask for a fixed pool: attribute, option, size of a block, how many blocks.
-const FPL_WORDS: u32 = 4;
+pub const FPL_WORDS: u32 = 4;
 
 /// How many words the status of a fixed pool has.
-const FPL_STATUS_WORDS: u32 = 6;
+pub const FPL_STATUS_WORDS: u32 = 6;
 
 impl<R: Ready> Kernel<R> {
     /// Makes a fixed pool of blocks that have so many bytes in all, on the first block of memory

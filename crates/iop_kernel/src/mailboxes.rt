@@ -20,10 +20,10 @@ use iop_stubs::Guest;
 use iop_thread::{Kind, Wait};
 
 /// How many words ask for a mailbox: attribute, option.
-const MAILBOX_WORDS: u32 = 2;
+pub const MAILBOX_WORDS: u32 = 2;
 
 /// How many words the status of a mailbox has.
-const MAILBOX_STATUS_WORDS: u32 = 5;
+pub const MAILBOX_STATUS_WORDS: u32 = 5;
 
 /// The place of its priority in a message (ps2sdk: thmsgbx.h, `iop_message_t`).
 pub(crate) const PRIORITY_OFFSET: u32 = 4;

@@ -7,7 +7,7 @@ ghost use Rattle.iop_kernel.specs.PoolServices.{takes_memory};
 use iop_sysmem::Blocks;
 
 /// The mode that takes the least free place for a block.
-pub(crate) const FROM_BELOW: u32 = 0;
+pub const FROM_BELOW: u32 = 0;
 
 /// Takes the memory of a pool, the first block of so many bytes that is free, where there is room
 /// for one more pool. None where there is no room, or no such block; nothing changes then.

@@ -19,10 +19,10 @@ use iop_stubs::Guest;
 use iop_thread::{Kind, Wait};
 
 /// How many words ask for a semaphore: attribute, option, first count, most.
-const SEMAPHORE_WORDS: u32 = 4;
+pub const SEMAPHORE_WORDS: u32 = 4;
 
 /// How many words the status of a semaphore has.
-const SEMAPHORE_STATUS_WORDS: u32 = 6;
+pub const SEMAPHORE_STATUS_WORDS: u32 = 6;
 
 impl<R: Ready> Kernel<R> {
     /// Makes a semaphore of the four words at `at`: attribute, option, first count, most. It

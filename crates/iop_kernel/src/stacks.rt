@@ -27,16 +27,16 @@ use iop_thread::{LOADER, Param};
 use irx_tables::word;
 
 /// The attributes that a thread may have (ps2sdk: thbase.h, `TH_ASM` and `TH_C`).
-pub(crate) const ATTRIBUTES: u32 = 0x0300_0000;
+pub const ATTRIBUTES: u32 = 0x0300_0000;
 
 /// The fewest bytes that the stack of a thread may have.
-pub(crate) const LEAST_STACK: u32 = 256;
+pub const LEAST_STACK: u32 = 256;
 
 /// How many words ask for a thread.
-pub(crate) const PARAM_WORDS: u32 = 5;
+pub const PARAM_WORDS: u32 = 5;
 
 /// The mode that takes the greatest free place for a block.
-pub(crate) const FROM_ABOVE: u32 = 1;
+pub const FROM_ABOVE: u32 = 1;
 
 /// Says what the words of CreateThread ask for, or why no thread is made.
 fn param(attr: u32, option: u32, entry: u32, size: u32, priority: u32) -> Result<Param, Code>

@@ -23,10 +23,10 @@ use iop_time::{micros_of, moment_after, ticks_of};
 use irx_tables::word;
 
 /// How many words a time in ticks has: the lower one and then the higher one.
-pub(crate) const TIME_WORDS: u32 = 2;
+pub const TIME_WORDS: u32 = 2;
 
 /// How many microseconds a second has.
-pub(crate) const MICROS_OF_SECOND: u64 = 1_000_000;
+pub const MICROS_OF_SECOND: u64 = 1_000_000;
 
 /// Tells the words of a time in ticks.
 fn time_words(ticks: u64) -> [u32; 2]

@@ -21,7 +21,7 @@ use iop_stubs::Guest;
 use iop_thread::{Thread, Wait};
 
 /// How many words the status of a thread has.
-pub(crate) const STATUS_WORDS: usize = 12;
+pub const STATUS_WORDS: usize = 12;
 
 /// Tells the words of a thread's status.
 fn status_words(thread: &Thread) -> [u32; STATUS_WORDS]

@@ -30,10 +30,10 @@ use iop_sysmem::Blocks;
 use iop_thread::{Kind, Wait};
 
 /// How many words ask for a variable pool: attribute, option, size.
-const VPL_WORDS: u32 = 3;
+pub const VPL_WORDS: u32 = 3;
 
 /// How many words the status of a variable pool has.
-const VPL_STATUS_WORDS: u32 = 6;
+pub const VPL_STATUS_WORDS: u32 = 6;
 
 impl<R: Ready> Kernel<R> {
     /// Makes a variable pool of a size that has so many bytes, on the first block of memory that is

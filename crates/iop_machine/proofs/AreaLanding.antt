@@ -8,7 +8,7 @@ use Rattle.iop_modload.specs.declared.loaded.Loaded.{Loaded}
 use Rattle.iop_modload.proofs.LoadingLemmas.{loading_keeps}
 use Rattle.iop_sysmem.specs.declared.blocks.TheConstants.{KERNEL}
 use Rattle.iop_machine.specs.declared.arguments.TheConstants.{ARGUMENTS, ARGUMENTS_LEN}
-use Rattle.iop_machine.specs.declared.begun_module.BegunModule.{BegunModule}
+use Rattle.iop_saved_machine.specs.declared.begun_module.BegunModule.{BegunModule}
 use Rattle.iop_machine.specs.AreaLaws.{HasKernel, BootingKeepsKernel}
 use Rattle.iop_machine.specs.Iop.{Iop, Transition}
 use Rattle.iop_machine.specs.Loading.{with_kernel, loading_of, places, passes, enters_or, loads_first, starts_by, boots}

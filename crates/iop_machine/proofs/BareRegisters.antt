@@ -25,11 +25,12 @@ use Rattle.iop_machine.specs.Iop.{Iop, core_of}
 use Rattle.iop_machine.specs.Loading.{loads_first, with_kernel, starts_by, boots}
 use Rattle.iop_machine.specs.Looking.{takes_events, next_coming}
 use Rattle.iop_machine.specs.Modules.{modules_of}
-use Rattle.iop_machine.specs.Registers.{nobodys, IsBare, ends_call}
+use Rattle.iop_kernel.specs.Registers.{nobodys, IsBare}
+use Rattle.iop_machine.specs.Registers.{ends_call}
 use Rattle.iop_machine.specs.Services.{calls, calls_by, calling, serves, returns_by}
 use Rattle.iop_machine.specs.Stepping.{Turn, takes_turn, performs, waits_by}
 use Rattle.iop_machine.specs.World.{World}
-use Rattle.iop_machine.specs.declared.begun_module.BegunModule.{BegunModule}
+use Rattle.iop_saved_machine.specs.declared.begun_module.BegunModule.{BegunModule}
 use Rattle.iop_machine.proofs.Forgetting.{forgets_bare}
 use Rattle.iop_machine.proofs.LoadingLands.{loads_first_lands}
 use Rattle.iop_machine.proofs.Moving.{takes_core}

@@ -7,8 +7,8 @@ use Rattle.iop_kernel.specs.Deliveries.{delivers, may_deliver, is_in_slot, next_
 use Rattle.iop_kernel.specs.Laws.{IsCore}
 use Rattle.iop_kernel.specs.System.{Core, in_handler, is_active}
 use Rattle.iop_kernel.specs.declared.active_handler.ActiveHandler.{ActiveHandler}
-use Rattle.iop_kernel.proofs.Order.First.{deliveries_are_in_order}
-use Rattle.iop_kernel.proofs.Keeping.Settled.{settled_later}
+use Rattle.iop_kernel_laws.proofs.Order.First.{deliveries_are_in_order}
+use Rattle.iop_kernel_laws.proofs.Keeping.Settled.{settled_later}
 use Rattle.iop_script.specs.declared.raise.Raise.{Raise}
 use Rattle.iop_time.specs.Laws.{Stands, NoneHasCome, IsNextMoment}
 use Rattle.iop_time.specs.Timers.{Timers}

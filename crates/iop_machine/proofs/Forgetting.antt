@@ -15,7 +15,8 @@ use Rattle.iop_kernel.proofs.Placing.Basics.{beside_placed}
 use Rattle.iop_ready.specs.KernelReady.{KernelReady, KernelStands}
 use Rattle.iop_thread.proofs.KeptSteadily.{begun_steady}
 use Rattle.iop_machine.specs.Iop.{Iop, core_of, with_core}
-use Rattle.iop_machine.specs.Registers.{nobodys, if_had, keeps_for, forgets, forgotten, IsBare, RegistersAreForgotten}
+use Rattle.iop_kernel.specs.Registers.{nobodys, IsBare}
+use Rattle.iop_machine.specs.Registers.{if_had, keeps_for, forgets, forgotten, RegistersAreForgotten}
 use Rattle.iop_machine.specs.Standing.{Stands}
 use Rattle.iop_machine.specs.declared.iop.Iop.{Iop as Program}
 use Rattle.iop_machine.proofs.LoadingLemmas.{stands_unhad}

@@ -2,16 +2,16 @@
 use Rattle.std.proofs.Common.{◌≡◌, ℕ, zero, suc, Option, List, [], refl, sym, arith, subst}
 use Rattle.std.proofs.lemmas.List.{append-nil}
 use Rattle.iop_base.specs.Places.{IsRamSize}
-use Rattle.iop_kernel.specs.Histories.{Called, called}
+use Rattle.iop_kernel_laws.specs.Histories.{Called, called}
 use Rattle.iop_kernel.specs.Laws.{IsCore}
 use Rattle.iop_kernel.specs.Serving.{services}
 use Rattle.iop_kernel.specs.System.{Kernel, System, beginning as kernel_beginning}
 use Rattle.iop_kernel.specs.WaiterPlaces.{HavePlacesFor, HavePlaces}
-use Rattle.iop_kernel.proofs.Histories.CountedHistories.{IsHistory, history_grows}
-use Rattle.iop_kernel.proofs.Histories.Counts.{services_count}
-use Rattle.iop_kernel.proofs.Histories.DeliveredHistories.{IsDeliveryHistory, delivery_history_grows}
-use Rattle.iop_kernel.proofs.Histories.Messages.{services_deliver}
-use Rattle.iop_kernel.proofs.Histories.Telling.{longer}
+use Rattle.iop_kernel_laws.proofs.Histories.CountedHistories.{IsHistory, history_grows}
+use Rattle.iop_kernel_laws.proofs.Histories.Counts.{services_count}
+use Rattle.iop_kernel_laws.proofs.Histories.DeliveredHistories.{IsDeliveryHistory, delivery_history_grows}
+use Rattle.iop_kernel_laws.proofs.Histories.Messages.{services_deliver}
+use Rattle.iop_kernel_laws.proofs.Histories.Telling.{longer}
 use Rattle.iop_script.specs.declared.raise.Raise.{Raise}
 use Rattle.iop_thread.specs.declared.kind.Kind.TheVariants.{Semaphore, Mailbox}
 use Rattle.iop_machine.specs.Histories.{calls_in}

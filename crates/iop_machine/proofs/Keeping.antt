@@ -13,7 +13,7 @@ use Rattle.iop_kernel.specs.Serving.{services}
 use Rattle.iop_kernel.specs.System.{System, Served, is_active}
 use Rattle.iop_kernel.specs.declared.after.After.{After}
 use Rattle.iop_kernel.specs.declared.after.After.TheVariants.{Resume, Switch, ModuleReturned, Fault}
-use Rattle.iop_kernel.proofs.Keeping.Services.{services_keep}
+use Rattle.iop_kernel_laws.proofs.Keeping.Services.{services_keep}
 use Rattle.iop_modload.specs.Finishing.{finishes}
 use Rattle.iop_modload.specs.Laws.{HasBlocks, IsLiveOrTold, Keeps as LoadingKeeps}
 use Rattle.iop_modload.specs.declared.loaded.Loaded.{Loaded}
@@ -30,7 +30,7 @@ use Rattle.iop_machine.specs.Services.{calls, calls_by, serves, calling, leaves,
 use Rattle.iop_machine.specs.Stepping.{performs, stores_it, waits_by}
 use Rattle.iop_machine.specs.Storing.{stores_bytes, fills}
 use Rattle.iop_machine.specs.declared.arguments.TheConstants.{ARGUMENTS, ARGUMENTS_LEN}
-use Rattle.iop_machine.specs.declared.begun_module.BegunModule.{BegunModule}
+use Rattle.iop_saved_machine.specs.declared.begun_module.BegunModule.{BegunModule}
 use Rattle.iop_machine.proofs.Elements.{fails_or_passes}
 use Rattle.iop_machine.proofs.Storing.{LiesInside, LieInside, range_by, number_inside, first_inside, others_inside, length-after_store}
 

@@ -9,8 +9,8 @@ use Rattle.iop_kernel.specs.System as kernel
 use Rattle.iop_kernel.specs.PoolMemory.{AreSound, PoolsAreSound}
 use Rattle.iop_kernel.specs.WaiterPlaces.{HasPlace, HavePlacesFor, HavePlaces}
 use Rattle.iop_kernel.proofs.Keeping.Steps.{opening_core}
-use Rattle.iop_kernel.proofs.KeptPlaces.{places_in, services_have_places}
-use Rattle.iop_kernel.proofs.SoundPools.{services_sound}
+use Rattle.iop_kernel_laws.proofs.KeptPlaces.{places_in, services_have_places}
+use Rattle.iop_kernel_laws.proofs.SoundPools.{services_sound}
 use Rattle.iop_modload.specs.Laws.{HasBlocks}
 use Rattle.iop_script.specs.declared.raise.Raise.{Raise}
 use Rattle.iop_stubs.specs.Binding.{IsBound}

@@ -2,11 +2,11 @@ mod Elements
 mod Forgetting
 mod EventLemmas
 mod DueEvents
-mod LinesAside
+pub mod LinesAside
 mod LookingLemmas
 mod Coming
 mod StandingLemmas
-mod Stepping
+pub mod Stepping
 pub mod Reaching
 mod CallsLeft
 mod LoadingLands
@@ -47,3 +47,6 @@ mod AreaHolding
 mod AreaReading
 mod AreaLanding
 mod ArgumentReading
+mod ListsLeft
+pub mod RestoredMachines
+pub mod SavedMachines

@@ -17,9 +17,9 @@ use Rattle.iop_thread.specs.ThreadTable.{ThreadTable}
 use Rattle.iop_machine.specs.Iop.{Iop, Transition, with_threads}
 use Rattle.iop_machine.specs.Loading.{loading_of, places, enters_or, loads_first, with_kernel, starts_by, boots}
 use Rattle.iop_machine.specs.Modules.{Module, module_start, modules_of}
-use Rattle.iop_machine.specs.Registers.{nobodys}
+use Rattle.iop_kernel.specs.Registers.{nobodys}
 use Rattle.iop_machine.specs.Services.{leaves, goes_on_by, ends_module, returns_by, calls, calls_by, serves, calling}
-use Rattle.iop_machine.specs.declared.begun_module.BegunModule.{BegunModule}
+use Rattle.iop_saved_machine.specs.declared.begun_module.BegunModule.{BegunModule}
 use Rattle.iop_machine.specs.Looking.{takes_events}
 use Rattle.iop_machine.specs.Stepping.{performs, waits_by, Turn, Stays, Boots, Delivers, Dispatches, Executes, Waits, takes_turn}
 use Rattle.iop_machine.specs.World.{World}

@@ -24,10 +24,10 @@ use Rattle.iop_machine.specs.Iop.{Iop, Transition, Takes, Remains, silent, tells
 use Rattle.iop_machine.specs.KernelArea.{kernel_area}
 use Rattle.iop_machine.specs.Loading.{with_kernel, boots, loading_of, places, begins, enters, enters_or, loads_first, starts_by, starts}
 use Rattle.iop_machine.specs.Modules.{Module, ModulesLeft, argument_block, module_start, modules_of, without_first}
-use Rattle.iop_machine.specs.Registers.{nobodys}
+use Rattle.iop_kernel.specs.Registers.{nobodys}
 use Rattle.iop_machine.specs.Standing.{iop_of, Stands}
 use Rattle.iop_machine.specs.World.{reset, zeros}
-use Rattle.iop_machine.specs.declared.begun_module.BegunModule.{BegunModule}
+use Rattle.iop_saved_machine.specs.declared.begun_module.BegunModule.{BegunModule}
 use Rattle.iop_machine.specs.declared.iop.Iop.{Iop as Program}
 use Rattle.iop_machine.proofs.Elements.{there}
 use Rattle.iop_machine.proofs.ModulesTaken.{rest_is}

@@ -7,8 +7,8 @@ use Rattle.iop_base.specs.Piece.{Traced}
 use Rattle.iop_base.specs.Text.{line_bytes}
 use Rattle.iop_base.specs.declared.code.Code.{Code}
 use Rattle.iop_base.specs.declared.line.Line.TheVariants as lines
-use Rattle.iop_kernel.proofs.Switching.{stores_run_none}
-use Rattle.iop_kernel.specs.SwitchLaws.{IsNoRun, line}
+use Rattle.iop_kernel_laws.proofs.Switching.{stores_run_none}
+use Rattle.iop_kernel_laws.specs.SwitchLaws.{IsNoRun, line}
 use Rattle.iop_modload.proofs.Lines.{loads_tell, finishes_tell}
 use Rattle.iop_modload.specs.Finishing.{finishes}
 use Rattle.iop_modload.specs.declared.loaded.Loaded.{Loaded}
@@ -18,7 +18,7 @@ use Rattle.iop_machine.specs.Loading.{loading_of, places, passes, enters_or, loa
 use Rattle.iop_machine.specs.Modules.{Module, argument_block}
 use Rattle.iop_machine.specs.Storing.{stores_bytes, fills}
 use Rattle.iop_machine.specs.declared.arguments.TheConstants.{ARGUMENTS, ARGUMENTS_LEN}
-use Rattle.iop_machine.specs.declared.begun_module.BegunModule.{BegunModule}
+use Rattle.iop_saved_machine.specs.declared.begun_module.BegunModule.{BegunModule}
 
 -- no line of a loading tells of a thread
 loads_run_none : (s : Iop) (m : Module) → All IsNoRun (loading_of s m).pieces

@@ -3,10 +3,12 @@ use Rattle.std.proofs.Common.{◌≡◌, ℕ, suc, ◌+◌, ◌<◌, ◌≤◌, 
 use Rattle.std.specs.Prelude.{All, option_map, unwrap_or}
 use Rattle.std.specs.Option.{option_or}
 use Rattle.std.specs.List.{slice_get}
-use Rattle.std.proofs.lemmas.List.{drop_all, drop_more}
+use Rattle.std.proofs.lemmas.List.{drop_all, drop_more, length-append}
+use Rattle.std.proofs.lemmas.List.Elements.{All-nil, All-cons, All-head, All-tail}
 use Rattle.std.proofs.lemmas.Option.{get_or_from_slice_get, slice_get_within}
 use Rattle.iop_script.specs.Scripts.{Args, Named, words_for}
-use Rattle.iop_machine.specs.Modules.{NamedFile, Module, ModulesLeft, HasRoom, modules_from, modules_of, next_behind, without_first}
+use Rattle.iop_saved_script.specs.Sizes.{FileIsShort}
+use Rattle.iop_machine.specs.Modules.{NamedFile, Module, ModulesLeft, HasRoom, modules_from, modules_of, next_behind, strings, without_first}
 use Rattle.iop_machine.specs.ModulesLeft.{modules_left, module_of}
 use Rattle.iop_machine.specs.declared.modules_left.Next.{Next}
 use Rattle.iop_machine.specs.declared.modules_left.ModulesLeft.TheInside.{Inside}
@@ -39,6 +41,28 @@ module _ (args : List Args) (named : List Named) where
       ≡ drop 1 (modules_from args named number files)
   rest_modules number [] = refl
   rest_modules number (first ∷ rest) = refl
+
+  -- modules that have room have names and files that can be counted
+  first_short : (number : ℕ) (first : NamedFile) → HasRoom (module_at args named number first)
+      → FileIsShort first
+  first_short number first room = record {
+    name = omega (
+      arith,
+      room.strings,
+      length-append first.name (0 ∷ strings (words_for args named number first.name)),
+    );
+    file = omega (arith, room.file);
+  }
+
+  pub files_short : (number : ℕ) (files : List NamedFile)
+      → All HasRoom (modules_from args named number files) → All FileIsShort files
+  files_short number [] room = All-nil FileIsShort
+  files_short number (first ∷ rest) room =
+      let first_of = module_at args named number first in
+      let later = modules_from args named (suc number) rest in
+      All-cons FileIsShort first rest
+      (first_short number first (All-head HasRoom first_of later room))
+      (files_short (suc number) rest (All-tail HasRoom first_of later room))
 
 -- the modules behind the first one
 pub rest_is : (left : ModulesLeft) → modules_of (without_first left) ≡ drop 1 (modules_of left)

@@ -6,10 +6,10 @@ use Rattle.iop_exec.specs.Laws.{IsSteady, cpu_after}
 use Rattle.iop_exec.specs.Row.{Row, Goes, Serves, Faults, behind_syscall, row}
 use Rattle.iop_exec.proofs.WritingBack.{pending-after_write_back}
 use Rattle.iop_exec.specs.declared.cpu.Cpu.{Cpu}
-use Rattle.iop_kernel.proofs.Keeping.Services.{services_keep}
+use Rattle.iop_kernel_laws.proofs.Keeping.Services.{services_keep}
 use Rattle.iop_kernel.proofs.Keeping.Steps.{core_steps}
-use Rattle.iop_kernel.proofs.Keeping.Outcomes.{returning_opens}
-use Rattle.iop_kernel.proofs.Order.First.{deliveries_are_in_order}
+use Rattle.iop_kernel_laws.proofs.Keeping.Outcomes.{returning_opens}
+use Rattle.iop_kernel_laws.proofs.Order.First.{deliveries_are_in_order}
 use Rattle.iop_kernel.proofs.Order.Strict.{dispatches_are_strict}
 use Rattle.iop_kernel.specs.Deliveries.{Delivered}
 use Rattle.iop_kernel.specs.DeliveryLaws.{DeliversFirst}
@@ -29,7 +29,7 @@ use Rattle.iop_machine.specs.Services.{calls, calls_by, serves, calling, leaves,
 use Rattle.iop_machine.specs.Registers.{forgotten, ends_call}
 use Rattle.iop_machine.specs.Stepping.{Turn, takes_turn, is_execution, step, executes, stores_it, performs, waits_by}
 use Rattle.iop_machine.specs.World.{World}
-use Rattle.iop_machine.specs.declared.begun_module.BegunModule.{BegunModule}
+use Rattle.iop_saved_machine.specs.declared.begun_module.BegunModule.{BegunModule}
 use Rattle.iop_machine.proofs.Coming.{IsComing, coming_later}
 use Rattle.iop_machine.proofs.Forgetting.{nobodys_steady, forgets_core}
 use Rattle.iop_machine.proofs.LoadingLands.{Lands, loads_first_lands, boots_leave, returns_leave}

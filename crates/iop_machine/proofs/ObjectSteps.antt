@@ -6,15 +6,15 @@ use Rattle.iop_event.specs.EventFlags.{EventFlags}
 use Rattle.iop_exec.specs.Laws.{IsSteady, cpu_after}
 use Rattle.iop_exec.specs.Row.{Row, Goes, Serves, Faults, behind_syscall, row}
 use Rattle.iop_exec.proofs.RowKeeps.{rows_stay_steady}
-use Rattle.iop_kernel.specs.Histories.{Called, called}
+use Rattle.iop_kernel_laws.specs.Histories.{Called, called}
 use Rattle.iop_kernel.specs.Kinds.{Table, of_kind}
 use Rattle.iop_kernel.specs.Laws.{IsCore}
 use Rattle.iop_kernel.specs.Serving.{services}
 use Rattle.iop_kernel.specs.System.{Kernel, System, Served}
 use Rattle.iop_kernel.specs.declared.after.After.{After}
 use Rattle.iop_kernel.specs.declared.after.After.TheVariants.{Resume, Switch, ModuleReturned, Fault}
-use Rattle.iop_kernel.proofs.Keeping.Outcomes.{services_alone}
-use Rattle.iop_kernel.proofs.Order.First.{deliveries_are_in_order}
+use Rattle.iop_kernel_laws.proofs.Keeping.Outcomes.{services_alone}
+use Rattle.iop_kernel_laws.proofs.Order.First.{deliveries_are_in_order}
 use Rattle.iop_mbx.specs.Mailboxes.{Mailboxes}
 use Rattle.iop_pools.specs.FixedPools.{FixedPools}
 use Rattle.iop_pools.specs.VariablePools.{VariablePools}

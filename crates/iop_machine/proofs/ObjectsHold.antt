@@ -1,6 +1,6 @@
 -- What holds of the objects of each kind holds after a step, if it does after each service.
 use Rattle.std.proofs.Common.{◌≡◌, ℕ, Option, sym, subst}
-use Rattle.iop_kernel.specs.Histories.{Called}
+use Rattle.iop_kernel_laws.specs.Histories.{Called}
 use Rattle.iop_kernel.specs.Kinds.{Table, table}
 use Rattle.iop_kernel.specs.Serving.{services}
 use Rattle.iop_kernel.specs.System.{Kernel}

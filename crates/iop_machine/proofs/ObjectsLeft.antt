@@ -1,12 +1,12 @@
 -- What a step leaves of the objects of a kind where it calls no service of their library.
 use Rattle.std.proofs.Common.{◌≡◌, false, Option, ap, sym, subst}
-use Rattle.iop_kernel.specs.CodeLaws.{calls_kind, KeepsObjects}
-use Rattle.iop_kernel.specs.Histories.{Called}
+use Rattle.iop_kernel_laws.specs.CodeLaws.{calls_kind, KeepsObjects}
+use Rattle.iop_kernel_laws.specs.Histories.{Called}
 use Rattle.iop_kernel.specs.Kinds.{Table, table}
 use Rattle.iop_kernel.specs.Serving.{services}
 use Rattle.iop_kernel.specs.System.{Kernel}
-use Rattle.iop_kernel.proofs.Codes.Objects.{code_keeps_objects}
-use Rattle.iop_kernel.proofs.Placing.ObjectsKept.{same_objects}
+use Rattle.iop_kernel_laws.proofs.Codes.Objects.{code_keeps_objects}
+use Rattle.iop_kernel_laws.proofs.Placing.ObjectsKept.{same_objects}
 use Rattle.iop_thread.specs.declared.kind.Kind.{Kind}
 use Rattle.iop_machine.specs.Iop.{Iop}
 use Rattle.iop_machine.specs.Looking.{takes_events}

@@ -20,15 +20,16 @@ use Rattle.iop_machine.proofs.Advancing.{progresses_as, then_advances, then_stop
 use Rattle.iop_machine.proofs.CallsLeft.{calls_left, few_turns, is_less}
 use Rattle.iop_machine.proofs.KeepingMachine.{steps_keep_machine, steps_clock}
 use Rattle.iop_machine.proofs.LoadingLands.{boots_leave}
+use Rattle.iop_machine.proofs.StandingLemmas.{noted}
 
 -- what the booted machine does of a run, the whole machine does
 pub progresses_booted : (m : Machine) (new : Program) (p : Progress) (budget : ℕ) (a b : Output)
     → m.is_new ≡ false → (w : World) → StandsForWorld m w
     → Progresses StandsBooted p (booted w.iop) budget new a b
-    → Progresses StandsForWorld p w budget (record { is_new = m.is_new; iop = new }) a b
+    → Progresses StandsForWorld p w budget (record m { iop = new }) a b
 progresses_booted m new p budget a b old w h progresses =
     let is : w ≡ booted w.iop = ap (λ x. record { is_new = x; iop = w.iop }) (h.is_new ∙ old) in
-    progresses_as StandsBooted StandsForWorld new (record { is_new = m.is_new; iop = new })
+    progresses_as StandsBooted StandsForWorld new (record m { iop = new })
     (λ v k. record { is_new = ap (λ (x : World). x.is_new) k.0 ∙ sym old; iop = k.1 })
     w budget a b p
     (subst (λ (x : World). Progresses StandsBooted p x budget new a b) (sym is) progresses)
@@ -48,6 +49,14 @@ module _ {w : World} {most i budget : ℕ} {now : Machine} {a b : Output}
       let h = f (steps i w).state r.state reached_machine in (i + h.0, then_stops r h.1)
   then_progresses (Advanced left) new c f =
       let h = f (steps i w).state r.state reached_machine in (i + h.0, then_advances r h.1)
+
+-- what is noted of how a run ended says nothing of the run
+pub noted_progresses : (p : Progress) (w : World) (budget : ℕ) (new : Machine) (at_budget : Bool)
+    (a b : Output) → Progresses StandsForWorld p w budget new a b
+    → Progresses StandsForWorld p w budget (record new { at_budget = at_budget }) a b
+noted_progresses p w budget new at_budget a b =
+    progresses_as StandsForWorld StandsForWorld new (record new { at_budget = at_budget })
+    (λ v k. noted at_budget k) w budget a b p
 
 -- what a run leaves stands for a machine that can be
 pub progressed_sound : (p : Progress) (w : World) (most : ℕ) (new : Machine) (a c : Output)

@@ -10,8 +10,8 @@ use Rattle.iop_kernel.specs.Deliveries.{Delivered, delivers, may_deliver}
 use Rattle.iop_kernel.specs.Dispatching.{Dispatched, dispatches}
 use Rattle.iop_kernel.specs.Laws.{IsCore}
 use Rattle.iop_kernel.specs.System.{Kernel, Core, is_active}
-use Rattle.iop_kernel.proofs.Order.First.{deliveries_are_in_order}
-use Rattle.iop_kernel.proofs.Keeping.Settled.{settled_later}
+use Rattle.iop_kernel_laws.proofs.Order.First.{deliveries_are_in_order}
+use Rattle.iop_kernel_laws.proofs.Keeping.Settled.{settled_later}
 use Rattle.iop_kernel.proofs.Order.Strict.{dispatches_are_strict}
 use Rattle.iop_time.specs.Laws.{NoneHasCome}
 use Rattle.iop_machine.specs.Iop.{Iop, core_of, with_core}

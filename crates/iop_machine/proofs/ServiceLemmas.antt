@@ -12,8 +12,8 @@ use Rattle.iop_kernel.specs.System.{Kernel, Served, is_active}
 use Rattle.iop_kernel.specs.declared.after.After.{After}
 use Rattle.iop_kernel.specs.declared.after.After.TheVariants.{Fault}
 use Rattle.iop_kernel.specs.declared.kernel.Kernel.{Kernel as Kernels}
-use Rattle.iop_kernel.proofs.Keeping.Outcomes.{services_alone}
-use Rattle.iop_kernel.proofs.Keeping.Services.{services_keep}
+use Rattle.iop_kernel_laws.proofs.Keeping.Outcomes.{services_alone}
+use Rattle.iop_kernel_laws.proofs.Keeping.Services.{services_keep}
 use Rattle.iop_kernel.proofs.Order.Nothing.{none_of}
 use Rattle.iop_modload.specs.Finishing.{finishes}
 use Rattle.iop_ready.specs.KernelReady.{KernelReady, KernelStands}
@@ -26,7 +26,7 @@ use Rattle.iop_machine.specs.Loading.{loads_first}
 use Rattle.iop_machine.specs.Modules.{modules_of}
 use Rattle.iop_machine.specs.Services.{faults_with, leaves, goes_on_by, ends_module, returns_by, serves, calls_by, calling, calls}
 use Rattle.iop_machine.specs.Standing.{iop_of, Stands}
-use Rattle.iop_machine.specs.declared.begun_module.BegunModule.{BegunModule}
+use Rattle.iop_saved_machine.specs.declared.begun_module.BegunModule.{BegunModule}
 use Rattle.iop_machine.specs.declared.iop.Iop.{Iop as Program}
 use Rattle.iop_machine.proofs.Elements.{there}
 use Rattle.iop_machine.proofs.Storing.{length-after_stores}

@@ -8,7 +8,7 @@ use Rattle.iop_base.proofs.Giving.{gives_then, nothing_fails}
 use Rattle.iop_kernel.specs.Deliveries.{Delivered, delivers}
 use Rattle.iop_kernel.specs.Dispatching.{Dispatched, dispatches}
 use Rattle.iop_kernel.specs.System.{Kernel}
-use Rattle.iop_kernel.proofs.Keeping.Settled.{dispatch_settles}
+use Rattle.iop_kernel_laws.proofs.Keeping.Settled.{dispatch_settles}
 use Rattle.iop_machine.specs.Advancing.{Reached, Advances, Delivers, Dispatches, IsSettled, Settles, IsLess, calls_by}
 use Rattle.iop_machine.specs.Iop.{Iop, Transition, core_of, with_core}
 use Rattle.iop_machine.specs.Looking.{takes_events}

@@ -1,6 +1,6 @@
 -- How what is said of each state that the program's machine stands for is proved of one, and how
 -- transitions that calls took follow one another.
-use Rattle.std.proofs.Common.{◌≡◌, ℕ, Option, None, [], ◌∷◌, refl, ap, sym, ◌∙◌, subst}
+use Rattle.std.proofs.Common.{◌≡◌, ℕ, Bool, Option, None, [], ◌∷◌, refl, ap, sym, ◌∙◌, subst}
 use Rattle.iop_base.specs.Output.{Output, Gives}
 use Rattle.iop_base.specs.Piece.{Traced}
 use Rattle.iop_base.specs.Text.{line_bytes}
@@ -13,8 +13,10 @@ use Rattle.iop_kernel.specs.System.{Kernel, Core}
 use Rattle.iop_kernel.specs.declared.kernel.Kernel.{Kernel as Kernels}
 use Rattle.iop_ready.specs.KernelReady.{KernelReady, KernelStands}
 use Rattle.iop_machine.specs.Iop.{Iop, Takes, tells, with_core, Transition, silent, and_then, with_state}
-use Rattle.iop_machine.specs.Standing.{iop_of, Stands, IsSound}
+use Rattle.iop_machine.specs.Standing.{iop_of, Stands, IsSound, IsSoundMachine, StandsForWorld}
+use Rattle.iop_machine.specs.World.{World}
 use Rattle.iop_machine.specs.declared.iop.Iop.{Iop as Program}
+use Rattle.iop_machine.specs.declared.machine.Machine.{Machine}
 
 -- what holds of the state that it is, for each kernel that its kernel stands for, holds of each
 -- that it stands for
@@ -27,6 +29,15 @@ carried m P g s h = subst P (sym h.rest) (g s.kernel h.kernel)
 pub stands_for : (m : Program) (k : Kernel) → kernel.Stands KernelStands m.kernel k
     → Stands m (iop_of m k)
 stands_for m k h = record { kernel = h; rest = refl }
+
+-- how the program's last run ended says nothing of the world that it stands for
+pub noted : {m : Machine} {w : World} (at_budget : Bool) → StandsForWorld m w
+    → StandsForWorld (record m { at_budget = at_budget }) w
+noted at_budget h = record { is_new = h.is_new; iop = h.iop }
+
+pub noted_sound : (m : Machine) (at_budget : Bool) → IsSoundMachine m
+    → IsSoundMachine (record m { at_budget = at_budget })
+noted_sound m at_budget sound = (sound.0, noted at_budget sound.1, sound.2)
 
 -- where the program is not stopped it is not
 pub goes_on : {m : Program} {s : Iop} → Stands m s → m.over ≡ None → s.over ≡ None

@@ -8,7 +8,7 @@ use Rattle.iop_kernel.specs.Deliveries.{delivers}
 use Rattle.iop_kernel.specs.Dispatching.{dispatches}
 use Rattle.iop_kernel.specs.Laws.{IsCore}
 use Rattle.iop_kernel.specs.System.{Core, in_handler, is_active, may_dispatch}
-use Rattle.iop_kernel.proofs.Order.First.{deliveries_are_in_order}
+use Rattle.iop_kernel_laws.proofs.Order.First.{deliveries_are_in_order}
 use Rattle.iop_kernel.proofs.Order.Strict.{dispatches_are_strict}
 use Rattle.iop_machine.specs.Iop.{Iop, Transition, core_of, with_core, with_state}
 use Rattle.iop_machine.specs.Laws.{IsMachine, StepsTo, IsStrict, RunsAreStrict, RunsAreOnTime, IsAwake, RunsAreAwake}

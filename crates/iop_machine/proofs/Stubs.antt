@@ -21,7 +21,7 @@ use Rattle.iop_isa.specs.Words.{opcode_of, rs_of, rt_of, imm_of, target_of}
 use Rattle.iop_isa.specs.declared.instruction.Inst.TheVariants.{Addiu, J}
 use Rattle.iop_kernel.specs.Deliveries.{may_deliver, delivers}
 use Rattle.iop_kernel.specs.System.{Core, in_handler}
-use Rattle.iop_kernel.proofs.Keeping.Settled.{settled_later}
+use Rattle.iop_kernel_laws.proofs.Keeping.Settled.{settled_later}
 use Rattle.iop_kernel.proofs.Order.Nothing.{delivers_some, none_of}
 use Rattle.iop_stubs.specs.Binding.{IsBound, IsSound}
 use Rattle.iop_stubs.specs.Stubs.{Memory}

@@ -10,13 +10,13 @@ use Rattle.iop_base.specs.Places.{IsRamSize}
 use Rattle.iop_base.specs.Text.{line_bytes}
 use Rattle.iop_base.specs.declared.line.Line.TheVariants as lines
 use Rattle.iop_exec.specs.Row.{Row, Goes, Serves, Faults, row}
-use Rattle.iop_kernel.proofs.Keeping.Services.{services_keep}
+use Rattle.iop_kernel_laws.proofs.Keeping.Services.{services_keep}
 use Rattle.iop_kernel.proofs.Order.Strict.{dispatches_are_strict}
-use Rattle.iop_kernel.proofs.Switching.{dispatches_alone_switch, stores_run_none, same_runs, none_runs}
+use Rattle.iop_kernel_laws.proofs.Switching.{dispatches_alone_switch, stores_run_none, same_runs, none_runs}
 use Rattle.iop_kernel.specs.Dispatching.{Dispatched}
 use Rattle.iop_kernel.specs.Laws.{IsCore}
 use Rattle.iop_kernel.specs.Serving.{services}
-use Rattle.iop_kernel.specs.SwitchLaws.{IsNoRun, SwitchesNone}
+use Rattle.iop_kernel_laws.specs.SwitchLaws.{IsNoRun, SwitchesNone}
 use Rattle.iop_kernel.specs.System.{Kernel, Core, Served, is_active}
 use Rattle.iop_kernel.specs.declared.after.After.{After}
 use Rattle.iop_kernel.specs.declared.after.After.TheVariants.{Resume, Switch, ModuleReturned, Fault}
@@ -34,7 +34,7 @@ use Rattle.iop_machine.specs.Services.{calls, calls_by, serves, calling, leaves,
 use Rattle.iop_machine.specs.Stepping.{Turn, Dispatches, turn_of, takes_turn, step, steps, performs, waits_by}
 use Rattle.iop_machine.specs.SwitchLaws.{running_in, IsTaken, SwitchesByDispatch, RunsSwitchByDispatch, RunsSince, RunningThreadsWereTaken}
 use Rattle.iop_machine.specs.World.{World, beginning}
-use Rattle.iop_machine.specs.declared.begun_module.BegunModule.{BegunModule}
+use Rattle.iop_saved_machine.specs.declared.begun_module.BegunModule.{BegunModule}
 use Rattle.iop_machine.proofs.Landing.{runs_stay_sound}
 use Rattle.iop_machine.proofs.LoadingLands.{loads_first_lands}
 use Rattle.iop_machine.proofs.LoadingLines.{finishes_run_none, loads_first_run_none}

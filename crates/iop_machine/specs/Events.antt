@@ -2,6 +2,7 @@
 -- at its tick. That those that are due are all taken together is this project's own profile.
 use Rattle.std.specs.Prelude.{◌≡◌, ℕ, ◌<◌, ◌≤◌, min, nat_le, not, Bool, Option, Some, None, List, ◌∷◌, [], filter, fold, length, drop, All, AllPairs}
 use Rattle.iop_intr.specs.declared.irqs.TheConstants.{IRQ_LINES}
+use Rattle.iop_saved_script.specs.Sizes.{IsShort}
 use Rattle.iop_script.specs.declared.raise.Raise.{Raise}
 use Rattle.iop_time.specs.declared.ticks.TheConstants.{NEVER}
 use Rattle.iop_machine.specs.declared.events.Events.TheInside.{Inside}
@@ -41,6 +42,15 @@ next_tick events = fold earlier_with None events
 -- the events that the program has not taken yet
 abbrev pub events_of : Inside → List Raise
 events_of e = drop e.taken e.events.items
+
+-- what always holds of them
+pub record AreLeft (e : Inside) : Type 0 where
+  -- those that are left can come
+  pub come : CanCome (events_of e)
+  -- all have room in the count of a snapshot
+  pub short : IsShort e.events.items
+  -- no more were taken than there were
+  pub taken : e.taken ≤ length e.events.items
 
 -- this is the next event, which was taken, or none was due
 abbrev pub TakesDue : Option Raise → (moment : ℕ) → (old new : List Raise) → Type 0

@@ -1,7 +1,7 @@
 -- The history of a run: the calls of services that its steps make.
 use Rattle.std.specs.Prelude.{ℕ, zero, suc, Bool, true, false, Option, None, option_to_list, List, [], ◌++◌}
 use Rattle.iop_exec.specs.Row.{Row, Serves, row}
-use Rattle.iop_kernel.specs.Histories.{Called, called}
+use Rattle.iop_kernel_laws.specs.Histories.{Called, called}
 use Rattle.iop_machine.specs.Iop.{Iop}
 use Rattle.iop_machine.specs.Looking.{takes_events}
 use Rattle.iop_machine.specs.Services.{calling}

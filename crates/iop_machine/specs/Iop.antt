@@ -15,7 +15,7 @@ use Rattle.iop_sysmem.specs.BlockMap.{BlockMap}
 use Rattle.iop_machine.specs.Modules.{ModulesLeft}
 use Rattle.iop_kernel.specs.System.{Kernel, Core, System}
 use Rattle.iop_thread.specs.ThreadTable.{ThreadTable}
-use Rattle.iop_machine.specs.declared.begun_module.BegunModule.{BegunModule}
+use Rattle.iop_saved_machine.specs.declared.begun_module.BegunModule.{BegunModule}
 
 pub record Iop : Type 0 where
   pub kernel : Kernel

@@ -13,11 +13,11 @@ use Rattle.iop_pools.specs.Pools.{Pool}
 use Rattle.iop_machine.specs.Histories.{calls_in}
 use Rattle.iop_machine.specs.Events.{CanCome}
 use Rattle.iop_machine.specs.Looking.{takes_events, next_coming, at_moment}
-use Rattle.iop_machine.specs.Registers.{IsBare}
+use Rattle.iop_kernel.specs.Registers.{IsBare}
 use Rattle.iop_machine.specs.Running.{Ends}
 use Rattle.iop_machine.specs.Stepping.{step, steps, executes, most_steps, run_of}
 use Rattle.iop_machine.specs.World.{World, booted, beginning}
-use Rattle.iop_kernel.specs.Histories.{AreCounted, AreDelivered}
+use Rattle.iop_kernel_laws.specs.Histories.{AreCounted, AreDelivered}
 use Rattle.iop_kernel.specs.Laws.{IsCore, IsSwitch}
 use Rattle.iop_kernel.specs.Deliveries.{Delivered, delivers}
 use Rattle.iop_kernel.specs.Dispatching.{Dispatched, dispatches}

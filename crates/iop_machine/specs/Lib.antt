@@ -5,6 +5,7 @@ pub mod Registers
 pub mod Events
 pub mod Looking
 pub mod World
+pub mod Restoring
 pub mod Storing
 pub mod Services
 pub mod Loading
@@ -13,6 +14,7 @@ pub mod Histories
 pub mod Running
 pub mod Advancing
 pub mod Laws
+pub mod RestoringLaws
 pub mod StubLaws
 pub mod EventLaws
 pub mod Standing

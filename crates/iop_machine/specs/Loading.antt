@@ -8,10 +8,10 @@ use Rattle.iop_modload.specs.Loading.{Loads, loads}
 use Rattle.iop_modload.specs.declared.loaded.Loaded.{Loaded}
 use Rattle.iop_machine.specs.declared.arguments.TheConstants.{ARGUMENTS, ARGUMENTS_LEN}
 use Rattle.iop_thread.specs.Operations as threads
-use Rattle.iop_machine.specs.declared.begun_module.BegunModule.{BegunModule}
+use Rattle.iop_saved_machine.specs.declared.begun_module.BegunModule.{BegunModule}
 use Rattle.iop_machine.specs.KernelArea.{kernel_area}
 use Rattle.iop_machine.specs.Modules.{Module, modules_of, without_first, argument_block, module_start}
-use Rattle.iop_machine.specs.Registers.{nobodys}
+use Rattle.iop_kernel.specs.Registers.{nobodys}
 use Rattle.iop_machine.specs.Storing.{stores_bytes, fills}
 use Rattle.iop_machine.specs.Iop.{Iop, Transition, silent, tells, and_then, with_state, with_threads}
 

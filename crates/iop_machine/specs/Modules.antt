@@ -1,6 +1,6 @@
 -- The modules of a command, and what the kernel hands each of them. How many there can be, and how much
 -- they are handed, is this project's own profile.
-use Rattle.std.specs.Prelude.{ℕ, suc, ◌+◌, ◌*◌, ◌≤◌, List, [], ◌∷◌, ◌++◌, length, drop}
+use Rattle.std.specs.Prelude.{ℕ, suc, ◌+◌, ◌*◌, ◌≤◌, List, [], ◌∷◌, ◌++◌, length, drop, All}
 use Rattle.iop_base.specs.Numbers.{wrapped, bytes_of}
 use Rattle.iop_exec.specs.declared.cpu.Cpu.{Cpu}
 use Rattle.iop_exec.specs.Row.{with_reg}
@@ -8,6 +8,7 @@ use Rattle.iop_thread.specs.States.{zeroed_at}
 use Rattle.iop_modload.specs.declared.limits.TheConstants.{LONGEST_FILE}
 use Rattle.iop_modload.specs.declared.loaded.Loaded.{Loaded}
 use Rattle.iop_script.specs.Scripts.{Args, Named, Script, words_for}
+use Rattle.iop_script.specs.declared.statements.TheConstants.{MOST_MODULES}
 pub use Rattle.iop_saved_script.specs.Files.{NamedFile}
 use Rattle.iop_machine.specs.declared.arguments.TheConstants.{ARGUMENTS, LOADER_STACK_TOP, MODULE_RETURN, MOST_WORDS, MOST_WORD_BYTES}
 
@@ -83,6 +84,12 @@ pub record HasRoom (m : Module) : Type 0 where
   pub file : length m.file ≤ LONGEST_FILE
   pub words : length m.words ≤ MOST_WORDS
   pub strings : length (strings m.words) ≤ MOST_WORD_BYTES
+
+-- modules that can be left: their numbers are some, and each has room
+pub record CanBeLeft (left : ModulesLeft) : Type 0 where
+  pub some : 1 ≤ left.next
+  pub few : left.next + length left.files ≤ MOST_MODULES + 1
+  pub room : All HasRoom (modules_of left)
 
 -- the loader's thread as a module begins that is handed so many words: `$a0`, how many; `$a1`, where they
 -- stand; `$gp`; the loader's stack in `$sp`; and the module's return in `$ra`. The registers are those of the

@@ -1,7 +1,7 @@
 -- What the law of objects says: a step that calls no service of an object's library leaves the
 -- objects of its kind, but that it takes threads out of those that wait, or moves them.
 use Rattle.std.specs.Prelude.{◌≡◌, false}
-use Rattle.iop_kernel.specs.CodeLaws.{calls_kind, KeepsObjects}
+use Rattle.iop_kernel_laws.specs.CodeLaws.{calls_kind, KeepsObjects}
 use Rattle.iop_kernel.specs.Kinds.{table}
 use Rattle.iop_thread.specs.declared.kind.Kind.{Kind}
 use Rattle.iop_machine.specs.Histories.{call_in}

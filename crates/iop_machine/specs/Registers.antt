@@ -1,15 +1,10 @@
--- Registers that nobody has: those of the processor where no thread runs and no handler is active,
--- and those that a handler keeps where no thread runs. They are zero, so that a machine has nothing
--- but what somebody has. This project's own profile.
-use Rattle.std.specs.Prelude.{◌≡◌, ℕ, Bool, true, false, Option, Some, None, IfSome, option_map}
+-- How registers that nobody has are forgotten: this project's own profile.
+use Rattle.std.specs.Prelude.{◌≡◌, ℕ, Bool, true, false, Option, Some, None, option_map}
 use Rattle.iop_exec.specs.declared.cpu.Cpu.{Cpu}
 use Rattle.iop_kernel.specs.System.{Core, in_handler, is_active}
 use Rattle.iop_kernel.specs.declared.active_handler.ActiveHandler.{ActiveHandler}
-use Rattle.iop_thread.specs.States.{zeroed_at}
+use Rattle.iop_kernel.specs.Registers.{nobodys, IsBare}
 use Rattle.iop_machine.specs.Iop.{Iop, core_of, with_core, later}
-
-abbrev pub nobodys : Cpu
-nobodys = zeroed_at 0
 
 -- registers that somebody has, or nobody
 abbrev pub if_had : (had : Bool) → Cpu → Cpu
@@ -32,13 +27,6 @@ forgets c = record {
 
 abbrev pub forgotten : Iop → Iop
 forgotten s = with_core s (forgets (core_of s))
-
--- the processor's are zero where nothing executes, and those that a handler keeps where no thread
--- runs
-pub record IsBare (c : Core) : Type 0 where
-  pub processor : is_active c.kernel ≡ false → c.cpu ≡ nobodys
-  pub kept : IfSome c.kernel.handler
-      (λ handler. c.kernel.threads.running ≡ None → handler.kept ≡ nobodys)
 
 -- a call has ended: a moment later, with no registers that nobody has
 abbrev pub ends_call : Iop → Iop

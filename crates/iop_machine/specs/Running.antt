@@ -1,8 +1,10 @@
 -- What the runs of a machine give: this project's profile.
-use Rattle.std.specs.Prelude.{◌≡◌, ℕ, suc, ◌+◌, ◌-◌, ◌^◌, ◌<◌, max, true, Some, None, List, [], ◌∷◌, ◌++◌, All}
+use Rattle.std.specs.Prelude.{◌≡◌, ℕ, suc, ◌+◌, ◌-◌, ◌^◌, ◌<◌, max, Bool, true, false, Some, None, Result, Ok, List, [], ◌∷◌, ◌++◌, All}
 use Rattle.iop_base.specs.Piece.{Piece, IsPartOf}
 use Rattle.iop_base.specs.Output.{Output, Adds, HasNoFault, FailsAt}
 use Rattle.iop_base.specs.declared.stop.Stop.{Stop}
+use Rattle.iop_base.specs.declared.stop.Stop.TheVariants.{Budget}
+use Rattle.iop_base.specs.declared.write_fault.WriteFault.{WriteFault}
 use Rattle.iop_exec.specs.declared.cpu.Cpu.{Cpu}
 use Rattle.iop_kernel.specs.Deliveries.{delivers}
 use Rattle.iop_kernel.specs.Dispatching.{dispatches}
@@ -28,6 +30,11 @@ pub record RunsFor (s : Iop) (most : ℕ) : Type 0 where
   pub now : Runs s
   pub ahead : (cpu : Cpu) (moment : ℕ) → s.kernel.clock < moment
       → moment < s.kernel.clock + most → Runs (moved s cpu moment)
+
+-- whether a run ended with its budget
+abbrev pub is_by_budget : Result Stop WriteFault → Bool
+is_by_budget (Ok Budget) = true
+is_by_budget other = false
 
 -- there is time for a run by so many instructions, also where the clock goes on to the last moment
 -- that comes: neither it nor the count of alarms and delays passes 2^64

@@ -13,7 +13,7 @@ use Rattle.iop_kernel.specs.declared.after.After.{After}
 use Rattle.iop_kernel.specs.declared.after.After.TheVariants.{Resume, Switch, ModuleReturned, Fault}
 use Rattle.iop_modload.specs.Finishing.{Leaves, finishes}
 use Rattle.iop_thread.specs.Operations as threads
-use Rattle.iop_machine.specs.declared.begun_module.BegunModule.{BegunModule}
+use Rattle.iop_saved_machine.specs.declared.begun_module.BegunModule.{BegunModule}
 use Rattle.iop_machine.specs.Loading.{loads_first}
 use Rattle.iop_machine.specs.Modules.{modules_of}
 use Rattle.iop_machine.specs.Registers.{ends_call}

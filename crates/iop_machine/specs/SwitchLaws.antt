@@ -6,7 +6,7 @@ use Rattle.iop_base.specs.Places.{IsRamSize}
 use Rattle.iop_base.specs.Text.{line_bytes}
 use Rattle.iop_base.specs.declared.line.Line.TheVariants.{Run}
 use Rattle.iop_kernel.specs.Dispatching.{Dispatched}
-use Rattle.iop_kernel.specs.SwitchLaws.{IsNoRun}
+use Rattle.iop_kernel_laws.specs.SwitchLaws.{IsNoRun}
 use Rattle.iop_script.specs.declared.raise.Raise.{Raise}
 use Rattle.iop_machine.specs.Modules.{ModulesLeft}
 use Rattle.iop_machine.specs.Stepping.{Dispatches, turn_of, step, steps}

@@ -2,6 +2,7 @@ ghost use Rattle.std.specs.Prelude.{◌≡◌, ◌<◌, nat_lt, IfSome, All, pos
 ghost use Rattle.iop_intr.specs.declared.irqs.TheConstants.{IRQ_LINES};
 ghost use Rattle.iop_time.specs.declared.ticks.TheConstants.{NEVER};
 ghost use Rattle.iop_machine.specs.Events.{CanCome, TakesDue, due_events, next_tick};
+ghost use Rattle.iop_saved_script.specs.Sizes.{IsShort};
 
 use iop_script::Raise;
 use std::marker::Model;
@@ -15,15 +16,15 @@ pub(crate) struct Events {
 }
 
 impl Model for Events {
-    ghost use Rattle.std.specs.Prelude.{◌≤◌, List, length};
+    ghost use Rattle.std.specs.Prelude.{List};
     ghost use Rattle.iop_script.specs.declared.raise.Raise.{Raise as Event};
-    ghost use Rattle.iop_machine.specs.Events.{CanCome, events_of};
+    ghost use Rattle.iop_machine.specs.Events.{AreLeft, events_of};
 
     ghost Value = { List Event };
 
     ghost view = { events_of };
 
-    ghost invariant = { λ e. CanCome (events_of e) × (e.taken ≤ length e.events.items) };
+    ghost invariant = { AreLeft };
 }
 
 /// Finds the first event that is later than a moment.
@@ -37,16 +38,18 @@ impl Events {
     /// Makes them of the events of a script: in the order of their ticks, which are below 2^63, and
     /// of lines below 64.
     pub(crate) fn new(events: Vec<Raise>) -> Self
-        requires { CanCome events.items }
+        requires come { CanCome events.items }
+        requires short { IsShort events.items }
         ensures { result ≡ events.items }
     {
         Events { events, taken: 0 }
     }
 
     /// Lends those that were not taken yet.
-    fn left(&self) -> &[Raise]
+    pub(crate) fn left(&self) -> &[Raise]
         ensures left { result.now ≡ self.now }
         ensures come { CanCome result.now }
+        ensures short { IsShort result.now }
     {
         &self.events[self.taken..]
     }

@@ -3,7 +3,6 @@ ghost use Rattle.iop_base.specs.Places.{IsRamSize};
 ghost use Rattle.iop_machine.specs.Standing.{Stands};
 ghost use Rattle.iop_machine.specs.World.{reset};
 
-use crate::begun_module::BegunModule;
 use crate::events::Events;
 use crate::modules_left::ModulesLeft;
 use iop_base::Stop;
@@ -11,6 +10,7 @@ use iop_exec::Cpu;
 use iop_kernel::Kernel;
 use iop_ready::KernelReady;
 use iop_registry::Registry;
+use iop_saved_machine::BegunModule;
 use iop_stubs::Guest;
 use iop_sysmem::Blocks;
 use iop_thread::registers_at;

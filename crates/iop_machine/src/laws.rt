@@ -8,7 +8,11 @@ ghost use Rattle.iop_machine.specs.ObjectLaws.{StepsKeepObjects};
 ghost use Rattle.iop_machine.specs.SwitchLaws.{RunsSwitchByDispatch, RunningThreadsWereTaken};
 ghost use Rattle.iop_machine.specs.Laws.{StepsCompose, RunsCompose, RunsAreDetermined, OverStays, RunsBeginAsMachines, RunsStayMachines, RunsEnd, RunsAreComputed, RunsStaySound, RunsAreStrict, RunsAreOnTime, RunsAreAwake, RunsKeepEvents, RunsAreCounted, RunsAreDelivered};
 ghost use Rattle.iop_machine.specs.Registers.{RegistersAreForgotten};
+ghost use Rattle.iop_machine.specs.RestoringLaws.{RestoredMachinesAreMachines};
 ghost use Rattle.iop_machine.specs.StubLaws.{StubsReachTheirFunctions, StubsLeaveWithTheirLine, RunsKeepStubs, RunsTellStubs, StubsAreFollowed};
+
+use iop_saved_checks::laws::agreeing_cores_are_sound;
+use iop_saved_machine::laws::{machines_are_lawful, machines_are_read, machines_tell_what_was_put};
 
 /// The steps of a run are those of its first part, and then those of the rest.
 pub fn steps_compose()
@@ -211,3 +215,13 @@ pub fn runs_are_counted()
 pub fn runs_are_delivered()
     ensures { RunsAreDelivered }
 {}
+
+/// What was put back from the bytes of a snapshot is a machine, and its snapshot has these bytes.
+pub fn restored_machines_are_machines()
+    ensures { RestoredMachinesAreMachines }
+{
+    machines_are_lawful();
+    machines_tell_what_was_put();
+    machines_are_read();
+    agreeing_cores_are_sound();
+}

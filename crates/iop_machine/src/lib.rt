@@ -2,7 +2,6 @@
 #![tactic(auto)]
 
 mod arguments;
-mod begun_module;
 mod burst;
 mod events;
 mod guest_bus;
@@ -15,7 +14,9 @@ mod machine;
 mod modules_left;
 mod progress;
 mod registers;
+mod restoring;
 mod services;
+mod snapshots;
 
 pub use arguments::{MOST_WORD_BYTES, MOST_WORDS};
 pub use iop_saved_script::Module;

@@ -8,11 +8,11 @@ ghost use Rattle.iop_machine.specs.Modules.{modules_of};
 ghost use Rattle.iop_machine.specs.Standing.{Stands, IsSound};
 
 use crate::arguments::{ARGUMENTS, ARGUMENTS_LEN, argument_block, module_start};
-use crate::begun_module::BegunModule;
 use crate::iop::Iop;
 use crate::kernel_area::write_kernel_area;
 use iop_base::{Line, Lines};
 use iop_modload::{Loaded, load};
+use iop_saved_machine::BegunModule;
 use iop_thread::registers_at;
 
 impl Iop {

@@ -5,11 +5,12 @@ ghost use Rattle.iop_ready.specs.KernelReady.{KernelStands};
 ghost use Rattle.iop_thread.specs.Standing.{Lends};
 ghost use Rattle.iop_ram.specs.Windows.{window_of};
 ghost use Rattle.iop_machine.specs.Modules.{HasRoom, modules_from, none_loaded};
+ghost use Rattle.iop_saved_script.specs.Sizes.{ScriptIsShort};
 ghost use Rattle.iop_script.specs.declared.statements.TheConstants.{MOST_MODULES};
 ghost use Rattle.iop_machine.specs.Advancing.{Progresses, IsLess, calls_by};
 ghost use Rattle.iop_machine.specs.Events.{CanCome};
 ghost use Rattle.iop_machine.specs.Laws.{IsMachine};
-ghost use Rattle.iop_machine.specs.Running.{Finishes, Faults, HasTime};
+ghost use Rattle.iop_machine.specs.Running.{Finishes, Faults, HasTime, is_by_budget};
 ghost use Rattle.iop_machine.specs.Standing.{StandsForWorld, IsSoundMachine};
 ghost use Rattle.iop_machine.specs.Stepping.{steps, most_between};
 ghost use Rattle.iop_machine.specs.World.{World, beginning};
@@ -32,8 +33,10 @@ use std::alloc::{AllocError, Global};
 #[derive(Drop)]
 pub struct Machine {
     /// Whether it is still to be booted.
-    is_new: bool,
-    iop: Iop,
+    pub(crate) is_new: bool,
+    /// Whether it was put back and has not run since, or its last run ended with its budget.
+    pub(crate) at_budget: bool,
+    pub(crate) iop: Iop,
 }
 
 impl Machine {
@@ -42,7 +45,7 @@ impl Machine {
     /// for it. They are at most `MOST_MODULES` of iop_script, no file has more than `LONGEST_FILE`
     /// bytes, and the words of each have room in the argument block: at most `MOST_WORDS`, which
     /// take `MOST_WORD_BYTES` bytes. The script raises and lowers interrupt lines below 64, in the
-    /// order of their ticks, which are below 2^63.
+    /// order of their ticks, which are below 2^63, and each of its lists has fewer than 2^32 items.
     pub fn new(
         alloc: Global,
         size: u32,
@@ -53,6 +56,7 @@ impl Machine {
         requires few { length modules.items ≤ MOST_MODULES }
         requires room { All HasRoom (modules_from script.args script.named 1 modules.items) }
         requires events { CanCome script.events }
+        requires short { ScriptIsShort script }
         ensures stands { IfOk result (λ machine.
             StandsForWorld machine
             (beginning size (none_loaded script modules.items) script.events)) }
@@ -62,6 +66,7 @@ impl Machine {
         let events = Events::new(script.events);
         Ok(Machine {
             is_new: true,
+            at_budget: false,
             iop: Iop::new(alloc, size, left, events)?,
         })
     }
@@ -103,6 +108,7 @@ impl Machine {
         ensures less { IsLess result (has_failed out.new) self.new.iop.over self.new.is_new
             self.new.iop.kernel (most_between * budget
             + calls_by self.old.iop.over self.old.is_new self.old.iop.kernel) }
+        ensures at_budget { self.new.at_budget ≡ self.old.at_budget }
     {
         if let Some(stop) = self.iop.over {
             return Progress::Stopped(stop);
@@ -123,7 +129,8 @@ impl Machine {
     ///
     /// The first run boots: it begins with the loading of the first module that loads. After
     /// `Quiet` or a fault another run gives the same at once. `WriteFault` comes exactly where a
-    /// write fails; the machine then stands after the step in which it failed.
+    /// write fails; the machine then stands after the step in which it failed. Behind `Budget`
+    /// alone it can be saved.
     pub fn run<C: Sink, T: Sink>(
         &mut self,
         budget: u64,
@@ -133,6 +140,7 @@ impl Machine {
         requires sound { IsSoundMachine self.old }
         requires time { HasTime self.old.iop.kernel.clock budget }
         ensures sound { IsSoundMachine self.new }
+        ensures at_budget { self.new.at_budget ≡ is_by_budget result }
         ensures whole { IfOk result (λ stop. (w : World) → StandsForWorld self.old w → IsMachine w
             → (k : ℕ) × StandsForWorld self.new (steps k w).state
             × Finishes w budget k stop
@@ -144,11 +152,15 @@ impl Machine {
             (sinks C.told T.told console.old trace.old)
             (sinks C.told T.told console.new trace.new)) }
     {
+        self.at_budget = false;
         let mut out = Out::new(console, trace);
         let mut left = budget;
         'steps: loop {
             left = match self.advance(left, &mut out) {
-                Progress::Stopped(stop) => return Ok(stop),
+                Progress::Stopped(stop) => {
+                    self.at_budget = matches!(stop, Stop::Budget);
+                    return Ok(stop);
+                }
                 Progress::Advanced(_) if out.failed() => return Err(WriteFault),
                 Progress::Advanced(rest) => rest,
             };

@@ -4,7 +4,7 @@ ghost use Rattle.std.specs.Prelude.{◌≡◌, ◌+◌, ◌≤◌, [], All, IfSo
 ghost use Rattle.std.specs.List.{slice_get};
 ghost use Rattle.iop_script.specs.Scripts.{words_of_number, words_of_name, words_for};
 ghost use Rattle.iop_machine.specs.Modules.{modules_from, modules_of, without_first, HasRoom};
-ghost use Rattle.iop_machine.specs.ModulesLeft.{module_of};
+ghost use Rattle.iop_machine.specs.ModulesLeft.{module_of, ArgsHaveCounts, NamedHaveCounts, FilesHaveCounts};
 ghost use Rattle.iop_script.specs.declared.statements.TheConstants.{MOST_MODULES};
 
 use iop_saved_script::Module;
@@ -69,7 +69,12 @@ fn words_of_number<'a>(args: &'a [Args], number: u32, others: &'a [Word]) -> &'a
 
 /// Finds the words that the script has for a module: those of its number, else those of its name,
 /// else none.
-fn words_for<'a>(args: &'a [Args], named: &'a [Named], number: u32, name: &[u8]) -> &'a [Word]
+pub(crate) fn words_for<'a>(
+    args: &'a [Args],
+    named: &'a [Named],
+    number: u32,
+    name: &[u8],
+) -> &'a [Word]
     ensures { result.now ≡ words_for args.now named.now number name.now }
 {
     words_of_number(args, number, words_of_name(named, name))
@@ -86,6 +91,8 @@ impl ModulesLeft {
     ) -> Self
         requires room { All HasRoom
             (modules_from args.items named.items first_number modules.items) }
+        requires args { ArgsHaveCounts args.items }
+        requires named { NamedHaveCounts named.items }
         requires number { 1 ≤ first_number }
         requires few { first_number + length modules.items ≤ MOST_MODULES + 1 }
         ensures { result ≡ record {
@@ -106,14 +113,16 @@ impl ModulesLeft {
 
     /// Lends the words that the script has for modules by their numbers.
     pub(crate) fn words_by_number(&self) -> &[Args]
-        ensures { result.now ≡ self.now.args }
+        ensures words { result.now ≡ self.now.args }
+        ensures short { ArgsHaveCounts result.now }
     {
         &self.args
     }
 
     /// Lends the words that the script has for modules by their names.
     pub(crate) fn words_by_name(&self) -> &[Named]
-        ensures { result.now ≡ self.now.named }
+        ensures words { result.now ≡ self.now.named }
+        ensures short { NamedHaveCounts result.now }
     {
         &self.named
     }
@@ -131,6 +140,7 @@ impl ModulesLeft {
     /// Lends the modules that are left, in order.
     pub(crate) fn files(&self) -> &[Module]
         ensures files { result.now ≡ self.now.files }
+        ensures short { FilesHaveCounts result.now }
         ensures room { All HasRoom (modules_of self.now) }
     {
         &self.modules[self.taken..]

@@ -8,12 +8,12 @@ ghost use Rattle.iop_kernel.specs.System.{is_active};
 ghost use Rattle.iop_machine.specs.Services.{faults_with, returns_by, ends_module, calls, concludes};
 ghost use Rattle.iop_machine.specs.Standing.{Stands, IsSound};
 
-use crate::begun_module::BegunModule;
 use crate::iop::Iop;
 use iop_base::{GuestFault, Lines, Stop};
 use iop_exec::Event;
 use iop_kernel::After;
 use iop_modload::finish;
+use iop_saved_machine::BegunModule;
 
 impl Iop {
     /// Stops it with a fault of the instruction at pc.

@@ -1,5 +1,5 @@
 -- What each call keeps of a table of mailboxes that can be put back.
-use Rattle.std.proofs.Common.{◌≡◌, ℕ, ◌+◌, ◌<◌, ◌≤◌, ◌==◌, ◌&&◌, nat_lt, Bool, true, false, not, if◌then◌else◌, Option, Some, None, option_map, Result, Ok, Err, List, [], ◌∷◌, ◌++◌, length, sum_by, refl, ap, subst, sym, ◌∙◌, arith}
+use Rattle.std.proofs.Common.{◌≡◌, ℕ, ◌+◌, ◌<◌, ◌≤◌, ◌==◌, Bool, true, not, Option, Some, None, option_map, Result, List, [], ◌∷◌, ◌++◌, length, sum_by, refl, ap, sym, ◌∙◌, arith}
 use Rattle.std.proofs.lemmas.Bool.{and_parts, cond_both}
 use Rattle.std.proofs.lemmas.Bool.Decides.{nat_tests}
 use Rattle.std.proofs.lemmas.List.{length_push}
@@ -11,14 +11,13 @@ use Rattle.iop_queues.specs.Queue.{Choice, chooses}
 use Rattle.iop_queues.specs.declared.queued.Queued.{Queued}
 use Rattle.iop_objects.specs.Objects as objects
 use Rattle.iop_objects.specs.Objects.{Object, no_objects, object_of, state_of, waiters_of, waiting, changes, with_state, with_waiters}
-use Rattle.iop_objects.specs.declared.objects.TheConstants.{MOST_WAITERS}
 use Rattle.iop_objects.specs.declared.waiter.Waiter.{Waiter}
 use Rattle.iop_objects.proofs.Chosen.{taken_by, all_but_taken, fewer_others}
 use Rattle.iop_objects.proofs.EachLeft.{all_of_each, each_of_all}
 use Rattle.iop_objects.proofs.Holding as table
 use Rattle.iop_objects.proofs.OtherWaiters.{AreLeft, left_taken, left_without, left_requeued}
 use Rattle.iop_objects.proofs.Sums.{sum_changed}
-use Rattle.iop_mbx.specs.Mailboxes.{Mailbox, Mailboxes, is_attribute, messages_by_priority, with_messages, next_message, message_count, has_room, creates, deletes_it, takes_waiter, is_by_priority, puts_it, gets_it, gets_by, waits}
+use Rattle.iop_mbx.specs.Mailboxes.{Mailbox, Mailboxes, is_attribute, messages_by_priority, with_messages, next_message, message_count, has_room, creates, deletes_it, takes_waiter, waiter_for, is_by_priority, puts_it, gets_it, gets_by}
 use Rattle.iop_mbx.specs.Restoring.{can_have, empty_mailbox, IsSoundMailbox, CanBeRestored, StayRestorable, MailboxesStayRestorable}
 use Rattle.iop_mbx.specs.declared.mailbox.Mailbox as declared
 use Rattle.iop_mbx.specs.declared.mailboxes.TheConstants.{MOST_MESSAGES}
@@ -168,11 +167,17 @@ module _ (s : Mailboxes) (r : CanBeRestored s) where
   gets id None known = r
   gets id (Some x) known = got id x known (next_message x) refl
 
+  taken_of : (id : ℕ) (o : Option Mailbox) → state_of s id ≡ o
+      → CanBeRestored (waiter_for s o (takes_waiter s id)).1
+  taken_of id None known = r
+  taken_of id (Some x) known = taken id (is_by_priority s id) _ refl
+
   stay : StayRestorable s
   stay = record {
     creates = created;
     deletes = λ id. deleted id (state_of s id);
     takes_waiter = λ id. taken id (is_by_priority s id) _ refl;
+    takes_waiter_of = λ id. taken_of id (state_of s id) refl;
     puts = λ id message priority can.
         put id (record { priority = priority; item = message }) (state_of s id) refl can;
     gets = λ id. gets id (state_of s id) refl;

@@ -3,7 +3,7 @@
 -- and then with its messages, in the order in which they were queued. It is this project's own
 -- profile.
 use Rattle.std.specs.Prelude.{◌≡◌, ℕ, ◌<◌, ◌≤◌, ◌==◌, Bool, true, false, ◌&&◌, ◌||◌, if◌then◌else◌, Option, Some, None, option_map, option_and_then, unwrap_or, List, [], ◌∷◌, All}
-use Rattle.iop_mbx.specs.Mailboxes.{Mailbox, Mailboxes, is_attribute, messages_by_priority, without_messages, message_count, has_room, is_by_priority, creates, deletes, takes_waiter, puts, gets, waits}
+use Rattle.iop_mbx.specs.Mailboxes.{Mailbox, Mailboxes, is_attribute, messages_by_priority, without_messages, message_count, has_room, is_by_priority, creates, deletes, takes_waiter, takes_waiter_of, puts, gets, waits}
 use Rattle.iop_mbx.specs.declared.mailbox.Mailbox as declared
 use Rattle.iop_mbx.specs.declared.mailboxes.TheConstants.{MOST_MESSAGES}
 use Rattle.iop_objects.specs.Objects.{Object, no_objects, state_of, waiting, drops, requeues}
@@ -84,6 +84,7 @@ pub record StayRestorable (s : Mailboxes) : Type 0 where
   pub creates : (attr option : ℕ) → CanBeRestored (creates s attr option).1
   pub deletes : (id : ℕ) → CanBeRestored (deletes s id).1
   pub takes_waiter : (id : ℕ) → CanBeRestored (takes_waiter s id).1
+  pub takes_waiter_of : (id : ℕ) → CanBeRestored (takes_waiter_of s id).1
   -- a message is queued with a priority that it can have there
   pub puts : (id message priority : ℕ)
       → ((x : Mailbox) → state_of s id ≡ Some x → can_have x.attr priority ≡ true)

@@ -2,6 +2,8 @@ ghost use Rattle.std.specs.Prelude.{◌≡◌};
 ghost use Rattle.iop_base.specs.Places.{IsRamSize};
 ghost use Rattle.iop_options.specs.Values.{ram_bytes};
 
+use iop_base::{LARGE_RAM, SMALL_RAM};
+
 /// How much memory the machine has.
 #[derive(Clone, Copy, Debug, PartialEq, Eq)]
 pub enum RamSize {
@@ -18,8 +20,8 @@ impl RamSize {
         ensures sized { IsRamSize result }
     {
         match self {
-            RamSize::TwoMiB => 0x20_0000,
-            RamSize::EightMiB => 0x80_0000,
+            RamSize::TwoMiB => SMALL_RAM,
+            RamSize::EightMiB => LARGE_RAM,
         }
     }
 }

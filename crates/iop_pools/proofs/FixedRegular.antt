@@ -31,9 +31,9 @@ use Rattle.iop_pools.proofs.Sizes.{fixed_units, fixed_stands}
 use Rattle.iop_pools.proofs.UnitBlocks.{blocks_are_units}
 
 -- a pool as it can stand, whichever blocks are out
-record IsLaidOut (x : Pool) : Type 0 where
-  sound : IsPool MOST_BLOCKS x
-  layout : may_stand (layout_of x) ≡ true
+pub record IsLaidOut (x : Pool) : Type 0 where
+  pub sound : IsPool MOST_BLOCKS x
+  pub layout : may_stand (layout_of x) ≡ true
 
 abbrev LaidOut : Pool → List (Queued (Waiter ⊤)) → Type 0
 LaidOut x ws = IsLaidOut x
@@ -69,14 +69,14 @@ to_table s h blocks =
     }
 
 -- a size and a count that a pool can be made with
-record CanBeMade (attr size count : ℕ) : Type 0 where
-  attribute : is_attribute attr ≡ true
-  some : 0 < size
-  most : size ≤ MOST_BLOCK_BYTES
-  blocks : 0 < count
-  few : count ≤ MOST_BLOCKS
+pub record CanBeMade (attr size count : ℕ) : Type 0 where
+  pub attribute : is_attribute attr ≡ true
+  pub some : 0 < size
+  pub most : size ≤ MOST_BLOCK_BYTES
+  pub blocks : 0 < count
+  pub few : count ≤ MOST_BLOCKS
 
-can_be_made : (attr size count length : ℕ) → bytes attr size count ≡ Ok length
+pub can_be_made : (attr size count length : ℕ) → bytes attr size count ≡ Ok length
     → CanBeMade attr size count
 can_be_made attr size count length = by (is_attribute attr) bad refl refl
   where
@@ -109,7 +109,7 @@ module _ (attr option size count length base : ℕ) (sized : bytes attr size cou
     ranges = [];
   }
 
-  made_so : IsLaidOut made
+  pub made_so : IsLaidOut made
   made_so =
       let can = can_be_made attr size count length sized in
       let units = fixed_units attr size count length sized in

@@ -34,4 +34,4 @@ mod Giving
 mod Takes
 mod RegularTables
 mod VariableRegular
-mod FixedRegular
+pub mod FixedRegular

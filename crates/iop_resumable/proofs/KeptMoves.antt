@@ -18,7 +18,7 @@ use Rattle.iop_time.specs.Timers.{delays}
 use Rattle.iop_kernel.specs.Waits.{wakes_with}
 use Rattle.iop_kernel.specs.declared.active_handler.ActiveHandler.{ActiveHandler}
 use Rattle.iop_kernel.specs.declared.after.After.{After}
-use Rattle.iop_kernel.proofs.Keeping.Handlers.{gives_to}
+use Rattle.iop_kernel_laws.proofs.Keeping.Handlers.{gives_to}
 use Rattle.iop_kernel.proofs.Keeping.Meetings.{met_of, threads_met}
 use Rattle.iop_kernel.proofs.Walk.Meeting.{all_met}
 use Rattle.iop_kernel.proofs.Walk.Moves.{Moves, CallMoves}

@@ -24,7 +24,7 @@ use Rattle.iop_kernel.specs.System.{Kernel, Core, System, in_handler, caller, wi
 use Rattle.iop_kernel.specs.Waits.{wakes_all}
 use Rattle.iop_kernel.specs.declared.active_handler.ActiveHandler.{ActiveHandler}
 use Rattle.iop_kernel.specs.declared.after.After.{After}
-use Rattle.iop_kernel.proofs.Keeping.Handlers.{gives_to}
+use Rattle.iop_kernel_laws.proofs.Keeping.Handlers.{gives_to}
 use Rattle.iop_kernel.proofs.Keeping.Meetings.{met_of, threads_met}
 use Rattle.iop_kernel.proofs.Walk.Libraries.{loadcore_goes, sysmem_goes, stdio_goes, intrman_goes, thsemap_goes, thevent_goes, thmsgbx_goes, thvpool_goes, thfpool_goes}
 use Rattle.iop_kernel.proofs.Walk.Meeting.{all_met, wakes_met}

@@ -8,7 +8,7 @@ use Rattle.iop_kernel.specs.Placing.{IsPlaced}
 use Rattle.iop_kernel.specs.Serving.{serves, calls_row, calls_library, services}
 use Rattle.iop_kernel.specs.System.{Kernel, System, in_handler, caller}
 use Rattle.iop_kernel.specs.declared.active_handler.ActiveHandler.{ActiveHandler}
-use Rattle.iop_kernel.proofs.Keeping.Handlers.{gives_to}
+use Rattle.iop_kernel_laws.proofs.Keeping.Handlers.{gives_to}
 use Rattle.iop_kernel.proofs.Walk.Libraries.{loadcore_goes, sysmem_goes, stdio_goes, intrman_goes, thbase_goes, thsemap_goes, thevent_goes}
 use Rattle.iop_kernel.proofs.Walk.Moves.{EachMoves, CoreEnds, Ends}
 use Rattle.iop_kernel.proofs.Walk.Sysclib.{sysclib_goes}

@@ -2,7 +2,7 @@
 
 ghost use Rattle.std.specs.Prelude.{◌≡◌, ℕ, nat_lt, Bool, true, not, List, length, slice_get, is_some};
 ghost use Rattle.std.specs.List.{list_all};
-ghost use Rattle.iop_event.specs.WakeConditions.{holds, is_met};
+ghost use Rattle.iop_event.specs.WakeConditions.{is_met};
 ghost use Rattle.iop_kernel.specs.System.{words_place};
 ghost use Rattle.iop_objects.specs.Objects.{state_of, waiters_of};
 ghost use Rattle.iop_objects.specs.declared.waiter.Waiter.{Waiter as Waiting};
@@ -15,7 +15,7 @@ ghost use Rattle.iop_stubs.specs.Stubs.{Memory};
 ghost use Rattle.iop_thread.specs.declared.kind.Kind.{Kind as WaitKind};
 ghost use Rattle.iop_thread.specs.declared.kind.Kind.TheVariants.{Semaphore, EventFlag, Mailbox, VariablePool, FixedPool};
 
-use iop_event::{EITHER, EventFlags, Wanted};
+use iop_event::{EventFlags, Wanted, holds};
 use iop_mbx::Mailboxes;
 use iop_objects::Waiter;
 use iop_pools::{FixedPools, VariablePools};
@@ -292,22 +292,12 @@ fn none_is_met(waiters: Option<Walk<'_, Waiter<Wanted>>>, pattern: u32) -> bool
         return true;
     };
     while let Some(queued) = walk.next() {
-        if holds(queued.item.wants, pattern) {
+        let wants = queued.item.wants;
+        if holds(wants.bits, wants.mode, pattern) {
             return false;
         }
     }
     true
-}
-
-/// Says whether the condition for which a thread waits holds on a pattern.
-fn holds(wanted: Wanted, pattern: u32) -> bool
-    ensures { result ≡ holds wanted.bits wanted.mode pattern }
-{
-    if wanted.mode & EITHER != 0 {
-        pattern & wanted.bits != 0
-    } else {
-        pattern & wanted.bits == wanted.bits
-    }
 }
 
 /// Says whether all those that wait want more than so many bytes.

@@ -1,5 +1,6 @@
 -- The form of a whole machine is lawful.
 use Rattle.std.proofs.Common.{◌≡◌, ℕ, Bool, true, false, cond, eqb, is_some, Option, Some, None, List, [], ◌∷◌, ◌++◌, get_or, refl, sym, ap, subst, ◌∙◌, inl, inr}
+use Rattle.std.specs.List.{list_all}
 use Rattle.std.specs.Str.{bytes_eq}
 use Rattle.std.proofs.lemmas.Bool.{and_parts, or_cases, eqb-true}
 use Rattle.std.proofs.lemmas.Option.{same_Some}
@@ -18,37 +19,38 @@ use Rattle.iop_snapshot.specs.Forms.{IsLawful, item, bytes, both, present, fits_
 use Rattle.iop_snapshot.specs.declared.widths.TheConstants.{HEAD, MODULE_PRESENT, MODULE, NEXT_MODULE}
 use Rattle.iop_saved_machine.specs.Back.{stubs_go_back, machine_form}
 use Rattle.iop_saved_machine.specs.Heads.{head_numbers, size_in, is_ram_size, head_form}
-use Rattle.iop_saved_machine.specs.Loading.{flag_numbers, flag_in, flag_form, begun_numbers, begun_of, module_form, begun_nest, flagged, begun_form, next_module_form, loading_with, loading_nest_of, loading_nest, loading_form}
+use Rattle.iop_saved_machine.specs.BegunModules.{flag_numbers, flag_in, flag_form, begun_numbers, begun_of, module_form, begun_nest, flagged, begun_form}
+use Rattle.iop_saved_machine.specs.Loading.{next_module_form, loading_with, loading_nest_of, loading_nest, loading_form}
 use Rattle.iop_saved_machine.specs.Laws.{MachinesAreLawful}
-use Rattle.iop_saved_machine.specs.Parts.{MachineParts, machine_with, nest_of_machine, rest_form, machine_nest, parts_form, written_machine, read_machine}
+use Rattle.iop_saved_machine.specs.Parts.{MachineParts, machine_with, nest_of_machine, is_byte, ram_form, rest_form, machine_nest, parts_form, written_machine, read_machine}
 use Rattle.iop_saved_machine.specs.Tables.{tables_with, table_lists, tables_nest, tables_form, kernel_alone, libraries_form, stubs_form, written_tables, read_tables}
 use Rattle.iop_saved_machine.specs.declared.begun_module.BegunModule.{BegunModule}
-use Rattle.iop_saved_machine.specs.declared.head.TheConstants.{SMALL, LARGE}
+use Rattle.iop_base.specs.declared.limits.TheConstants.{SMALL_RAM, LARGE_RAM}
 
 -- ---- the head
 
 head_again : (size : ℕ) → is_ram_size size ≡ true → size_in (head_numbers size) ≡ Some size
 head_again size is =
-    elim (or_cases (eqb size SMALL) (eqb size LARGE) is) [
+    elim (or_cases (eqb size SMALL_RAM) (eqb size LARGE_RAM) is) [
       | inl small ↦
-          subst (λ n. size_in (head_numbers n) ≡ Some n) (sym (eqb-true size SMALL small)) refl
+          subst (λ n. size_in (head_numbers n) ≡ Some n) (sym (eqb-true size SMALL_RAM small)) refl
       | inr large ↦
-          subst (λ n. size_in (head_numbers n) ≡ Some n) (sym (eqb-true size LARGE large)) refl
+          subst (λ n. size_in (head_numbers n) ≡ Some n) (sym (eqb-true size LARGE_RAM large)) refl
     ]
 
 head_back : (ns : List ℕ) (size : ℕ) → size_in ns ≡ Some size → head_numbers size ≡ ns
 head_back ns size e =
-    by (bytes_eq ns (head_numbers SMALL)) (bytes_eq ns (head_numbers LARGE))
-    (bytes_eq-Decides ns (head_numbers SMALL)).0 (bytes_eq-Decides ns (head_numbers LARGE)).0 e
+    by (bytes_eq ns (head_numbers SMALL_RAM)) (bytes_eq ns (head_numbers LARGE_RAM))
+    (bytes_eq-Decides ns (head_numbers SMALL_RAM)).0 (bytes_eq-Decides ns (head_numbers LARGE_RAM)).0 e
   where
-    by : (small large : Bool) → (small ≡ true → ns ≡ head_numbers SMALL)
-        → (large ≡ true → ns ≡ head_numbers LARGE)
-        → cond small (Some SMALL) (cond large (Some LARGE) None) ≡ Some size
+    by : (small large : Bool) → (small ≡ true → ns ≡ head_numbers SMALL_RAM)
+        → (large ≡ true → ns ≡ head_numbers LARGE_RAM)
+        → cond small (Some SMALL_RAM) (cond large (Some LARGE_RAM) None) ≡ Some size
         → head_numbers size ≡ ns
     by true large is_small is_large e =
-        ap head_numbers (sym (same_Some SMALL size e)) ∙ sym (is_small refl)
+        ap head_numbers (sym (same_Some SMALL_RAM size e)) ∙ sym (is_small refl)
     by false true is_small is_large e =
-        ap head_numbers (sym (same_Some LARGE size e)) ∙ sym (is_large refl)
+        ap head_numbers (sym (same_Some LARGE_RAM size e)) ∙ sym (is_large refl)
     by false false is_small is_large e = absurd cc
 
 head_lawful : IsLawful head_form
@@ -134,11 +136,15 @@ tables_are_lawful size =
 
 -- ---- the whole
 
+ram_lawful : (size : ℕ) → IsLawful (ram_form size)
+unfolding ram_form
+ram_lawful size = tested_lawful (bytes size) (list_all is_byte) (bytes_lawful size)
+
 rest_lawful : (size : ℕ) → IsLawful (rest_form (read_tables size) size)
 rest_lawful size =
-    both_lawful (read_tables size) (λ _. both loading_form (λ _. bytes size))
+    both_lawful (read_tables size) (λ _. both loading_form (λ _. ram_form size))
     (tables_are_lawful size)
-    (λ t. both_lawful loading_form (λ _. bytes size) loading_lawful (λ l. bytes_lawful size))
+    (λ t. both_lawful loading_form (λ _. ram_form size) loading_lawful (λ l. ram_lawful size))
 
 parts_lawful : IsLawful read_machine
 unfolding parts_form
@@ -161,7 +167,7 @@ machine_spelled : (p : MachineParts) → machine_form.spell p ≡ written_machin
 unfolding machine_form parts_form tables_form
 machine_spelled p =
     ap (λ core. head_form.spell p.size ++ (core ++ (written_tables.spell p.tables
-    ++ (loading_form.spell p.loading ++ (bytes p.size).spell p.ram))))
+    ++ (loading_form.spell p.loading ++ (ram_form p.size).spell p.ram))))
     (parts_are_lawful.same p.core)
 
 pub machines_lawful : MachinesAreLawful

@@ -1,8 +1,12 @@
+pub mod Sending
+pub mod Blocks
 pub mod Lending
 pub mod Readings
 pub mod Whole
 pub mod Lawful
-pub mod Telling
 pub mod ComingBack
 pub mod Fitting
 pub mod ReadingBack
+pub mod Keeping
+pub mod ReadAgain
+pub mod Telling

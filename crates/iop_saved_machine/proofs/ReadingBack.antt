@@ -6,21 +6,20 @@ use Rattle.iop_saved_kernel.specs.Parts.{steady_form_of_parts, core_back, core_f
 use Rattle.iop_saved_script.specs.Forms.{list_of}
 use Rattle.iop_saved_tables.specs.Records.{block_form, library_form, stub_form}
 use Rattle.iop_saved_tables.specs.Tables.{put_library, put_used, unopened, used_form}
-use Rattle.iop_snapshot.proofs.Combining.{then_some, map_some}
-use Rattle.iop_snapshot.specs.Forms.{bytes, fits_list, series}
+use Rattle.iop_snapshot.specs.Forms.{fits_list, series}
 use Rattle.iop_snapshot.specs.Items.{fits_item}
 use Rattle.iop_snapshot.specs.Putting.{put_all, next_form}
 use Rattle.iop_snapshot.specs.declared.widths.TheConstants.{COUNT}
 use Rattle.iop_stubs.specs.declared.live_stub.Stub.{Stub}
 use Rattle.iop_sysmem.specs.declared.block.Block.{Block}
-use Rattle.iop_saved_machine.specs.Back.{used_back, libraries_back, bare, stubs_back, state_with, machine_back, stubs_go_back, machine_form}
+use Rattle.iop_saved_machine.specs.Back.{used_back, libraries_back, bare, stubs_back, machine_back, stubs_go_back, machine_form}
 use Rattle.iop_saved_machine.specs.Heads.{head_form}
 use Rattle.iop_saved_machine.specs.Laws.{PartsAreReadWhereBack}
 use Rattle.iop_saved_machine.specs.Loading.{loading_form}
-use Rattle.iop_saved_machine.specs.Parts.{MachineParts, parts_form, read_machine, plain_machine}
+use Rattle.iop_saved_machine.specs.Parts.{MachineParts, ram_form, parts_form, read_machine, plain_machine}
 use Rattle.iop_saved_machine.specs.Tables.{tables_form, kernel_alone, libraries_form, stubs_form, written_tables, read_tables}
 use Rattle.iop_saved_machine.proofs.Fitting.{list_fits, opened_where, stubs_fit}
-use Rattle.iop_saved_machine.proofs.Whole.{machine_is_back}
+use Rattle.iop_saved_machine.proofs.Whole.{machine_is_back, were_put}
 
 -- what is there
 some_of : {A : Type 0} (o : Option A) → is_some o ≡ true → (x : A) × (o ≡ Some x)
@@ -28,30 +27,30 @@ some_of None e = absurd cc
 some_of (Some x) e = (x, refl)
 
 -- what parts have that can be read, by the one way of saying it and by the other
-record Back (p : MachineParts) : Type 0 where
+pub record Back (p : MachineParts) : Type 0 where
   pub core : is_some (core_back p.core) ≡ true
   pub used : is_some (used_back p.size p.tables.used) ≡ true
   pub libraries : is_some (libraries_back p.tables.libraries) ≡ true
   pub stubs : is_some (stubs_back p.ram p.tables.stubs) ≡ true
 
-record Plain (p : MachineParts) : Type 0 where
+pub record Plain (p : MachineParts) : Type 0 where
   pub head : head_form.fits p.size ≡ true
   pub core : steady_form_of_parts.fits p.core ≡ true
   pub used : (list_of block_form).fits p.tables.used ≡ true
   pub libraries : (list_of library_form).fits p.tables.libraries ≡ true
   pub stubs : (list_of stub_form).fits p.tables.stubs ≡ true
   pub loading : loading_form.fits p.loading ≡ true
-  pub ram : (bytes p.size).fits p.ram ≡ true
+  pub ram : (ram_form p.size).fits p.ram ≡ true
 
 -- ---- plain forms
 
-plain_of : (p : MachineParts) → plain_machine.fits p ≡ true → Plain p
+pub plain_of : (p : MachineParts) → plain_machine.fits p ≡ true → Plain p
 unfolding parts_form tables_form
 plain_of p fits =
     let one = and_parts (head_form.fits p.size) _ fits in
     let two = and_parts (steady_form_of_parts.fits p.core) _ one.1 in
     let three = and_parts (written_tables.fits p.tables) _ two.1 in
-    let four = and_parts (loading_form.fits p.loading) ((bytes p.size).fits p.ram) three.1 in
+    let four = and_parts (loading_form.fits p.loading) ((ram_form p.size).fits p.ram) three.1 in
     let used = and_parts ((list_of block_form).fits p.tables.used) _ three.0 in
     let rest = and_parts ((list_of library_form).fits p.tables.libraries) _ used.1 in
     record {
@@ -64,7 +63,7 @@ plain_of p fits =
       ram = four.1;
     }
 
-plain_from : (p : MachineParts) → Plain p → plain_machine.fits p ≡ true
+pub plain_from : (p : MachineParts) → Plain p → plain_machine.fits p ≡ true
 unfolding parts_form tables_form
 plain_from p h =
     and_from _ _ h.head
@@ -75,20 +74,14 @@ plain_from p h =
 -- ---- all is put back
 
 back_of : (p : MachineParts) → is_some (machine_back p) ≡ true → Back p
-unfolding machine_back
 back_of p is =
     let (m, back) = some_of (machine_back p) is in
-    let core = then_some (core_back p.core) _ m back in
-    let used = then_some (used_back p.size p.tables.used) _ m core.2 in
-    let libraries = then_some (libraries_back p.tables.libraries) _ m used.2 in
-    let memory =
-    map_some (stubs_back p.ram p.tables.stubs)
-    (state_with core.0 used.0 libraries.0 p.loading) m libraries.2 in
+    let were = were_put p m back in
     record {
-      core = ap is_some core.1;
-      used = ap is_some used.1;
-      libraries = ap is_some libraries.1;
-      stubs = ap is_some memory.1;
+      core = ap is_some were.core;
+      used = ap is_some were.blocks;
+      libraries = ap is_some were.libraries;
+      stubs = ap is_some were.memory;
     }
 
 back_from : (p : MachineParts) → Back p → is_some (machine_back p) ≡ true
@@ -133,14 +126,14 @@ stubs_same ram stubs is =
 
 -- ---- the law
 
-split : (p : MachineParts) → machine_form.fits p ≡ true → Plain p × Back p
+pub split : (p : MachineParts) → machine_form.fits p ≡ true → Plain p × Back p
 unfolding machine_form parts_form tables_form core_form
 split p fits =
     let all = and_parts (read_machine.fits p) (stubs_go_back p) fits in
     let one = and_parts (head_form.fits p.size) _ all.0 in
     let two = and_parts (core_form.fits p.core) _ one.1 in
     let three = and_parts ((read_tables p.size).fits p.tables) _ two.1 in
-    let four = and_parts (loading_form.fits p.loading) ((bytes p.size).fits p.ram) three.1 in
+    let four = and_parts (loading_form.fits p.loading) ((ram_form p.size).fits p.ram) three.1 in
     let core = and_parts (steady_form_of_parts.fits p.core) (is_some (core_back p.core)) two.0 in
     let tables = and_parts ((used_form (kernel_alone p.size)).fits p.tables.used) _ three.0 in
     let rest =

@@ -49,15 +49,14 @@ PutsUsed map result before rest =
 -- the map has the blocks that were put
 pub used_now : (size : ℕ) (used : List Block) (now : BlockMap)
     → put_all put_used (unopened (kernel_alone size)) used ≡ Some (came now)
-    → now.used ≡ used
+    → now ≡ record { size = size; used = used }
 used_now size [] now put =
     let has : false ≡ true =
     ap (λ (o : Opened). o.has_kernel)
     (same_Some (unopened (kernel_alone size)) (came now) put) in
     absurd cc
 used_now size (x ∷ xs) now put =
-    ap (λ (map : BlockMap). map.used)
-    (tables_tell.blocks size (x ∷ xs) (came now) put (omega arith))
+    tables_tell.blocks size (x ∷ xs) (came now) put (omega arith)
 
 module _ (size : ℕ) (old : BlockMap) (same : old ≡ kernel_alone size) (before rest : List ℕ) where
   pub used_reads : (result : Result BlockMap SnapFault) → PutsUsed old result before rest
@@ -72,7 +71,7 @@ module _ (size : ℕ) (old : BlockMap) (same : old ≡ kernel_alone size) (befor
           (λ made. (used_form (kernel_alone size)).read before ≡ Some (made.used, rest))
           (GivesNone ((used_form (kernel_alone size)).read before))
       by (Ok made) h =
-          h.2 ∙ ap (λ (used : List Block). Some (used, rest)) (sym (used_now size h.0 made h.1))
+          h.2 ∙ ap (λ (map : BlockMap). Some (map.used, rest)) (sym (used_now size h.0 made h.1))
       by (Err fault) h = h
 
   pub used_is_back : (result : Result BlockMap SnapFault) → PutsUsed old result before rest
@@ -83,7 +82,7 @@ module _ (size : ℕ) (old : BlockMap) (same : old ≡ kernel_alone size) (befor
       by : (r : Result BlockMap SnapFault) → PutsUsed (kernel_alone size) r before rest
           → IfOk r (λ made. used_back size made.used ≡ Some made)
       by (Ok made) h =
-          subst (λ (used : List Block). used_back size used ≡ Some made)
+          subst (λ (map : BlockMap). used_back size map.used ≡ Some made)
           (sym (used_now size h.0 made h.1)) (rw h.1 refl)
       by (Err fault) h = tt
 

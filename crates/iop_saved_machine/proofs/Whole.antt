@@ -7,12 +7,13 @@ use Rattle.iop_ready.specs.declared.entry.Entry.{Entry}
 use Rattle.iop_registry.specs.declared.registry.Entry.{Entry as Library}
 use Rattle.iop_saved_kernel.proofs.Stages.{gives_none}
 use Rattle.iop_saved_kernel.specs.Parts.{Parts, core_back, core_form}
+use Rattle.iop_snapshot.proofs.Combining.{then_some, map_some}
 use Rattle.iop_snapshot.specs.Forms.{if_last, read_whole}
 use Rattle.iop_snapshot.specs.Reading.{GivesNone}
 use Rattle.iop_snapshot.specs.declared.fault.SnapFault.{SnapFault}
 use Rattle.iop_stubs.specs.Stubs.{Memory}
 use Rattle.iop_sysmem.specs.BlockMap.{BlockMap}
-use Rattle.iop_saved_machine.specs.Back.{used_back, libraries_back, stubs_back, state_with, machine_back, stubs_go_back, machine_form}
+use Rattle.iop_saved_machine.specs.Back.{MachineState, used_back, libraries_back, stubs_back, state_with, machine_back, stubs_go_back, machine_form}
 use Rattle.iop_saved_machine.specs.Heads.{head_form}
 use Rattle.iop_saved_machine.specs.Parts.{MachineParts, rest_form, parts_form, read_machine}
 use Rattle.iop_saved_machine.specs.Restored.{RestoresWhole}
@@ -92,3 +93,28 @@ pub machine_is_back : (p : MachineParts) (c : Core) (blocks : BlockMap)
 unfolding machine_back
 machine_is_back p c blocks libraries memory core used libs stubs =
     rw (core, used, libs, stubs) refl
+
+-- and where the machine is, each part was put back
+pub record WerePut (p : MachineParts) (m : MachineState) : Type 0 where
+  pub core : core_back p.core ≡ Some m.system.core
+  pub blocks : used_back p.size p.tables.used ≡ Some m.system.blocks
+  pub libraries : libraries_back p.tables.libraries ≡ Some m.system.libraries
+  pub memory : stubs_back p.ram p.tables.stubs ≡ Some m.system.memory
+  pub loading : p.loading ≡ m.loading
+
+pub were_put : (p : MachineParts) (m : MachineState) → machine_back p ≡ Some m → WerePut p m
+unfolding machine_back
+were_put p m back =
+    let core = then_some (core_back p.core) _ m back in
+    let blocks = then_some (used_back p.size p.tables.used) _ m core.2 in
+    let libraries = then_some (libraries_back p.tables.libraries) _ m blocks.2 in
+    let memory =
+    map_some (stubs_back p.ram p.tables.stubs)
+    (state_with core.0 blocks.0 libraries.0 p.loading) m libraries.2 in
+    subst (WerePut p) memory.2 (record {
+      core = core.1;
+      blocks = blocks.1;
+      libraries = libraries.1;
+      memory = memory.1;
+      loading = refl;
+    })

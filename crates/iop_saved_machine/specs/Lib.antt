@@ -1,5 +1,6 @@
 pub mod Heads
 pub mod Tables
+pub mod BegunModules
 pub mod Loading
 pub mod Parts
 pub mod Back

@@ -1,7 +1,8 @@
 -- The parts of a whole machine, and how a snapshot spells them. This project's own profile.
-use Rattle.std.specs.Prelude.{ℕ, Some, List}
+use Rattle.std.specs.Prelude.{ℕ, ◌^◌, nat_lt, Bool, Some, List}
+use Rattle.std.specs.List.{list_all}
 use Rattle.iop_saved_kernel.specs.Parts.{Parts, written_form, steady_form_of_parts, core_form}
-use Rattle.iop_snapshot.specs.Forms.{Form, bytes, both, seen_as}
+use Rattle.iop_snapshot.specs.Forms.{Form, bytes, both, seen_as, tested}
 use Rattle.iop_saved_machine.specs.Heads.{head_form}
 use Rattle.iop_saved_machine.specs.Loading.{LoadingParts, loading_form}
 use Rattle.iop_saved_machine.specs.Tables.{TableParts, written_tables, read_tables}
@@ -38,9 +39,16 @@ machine_with nest = record {
 abbrev pub nest_of_machine : MachineParts → MachineNest
 nest_of_machine p = (p.size, (p.core, (p.tables, (p.loading, p.ram))))
 
+abbrev pub is_byte : ℕ → Bool
+is_byte n = nat_lt n (2 ^ 8)
+
+-- so many bytes of RAM
+unfoldable pub ram_form : (size : ℕ) → Form (List ℕ)
+ram_form size = tested (bytes size) (list_all is_byte)
+
 -- they stand one behind the other, the tables by a form, and so many bytes of RAM
 abbrev pub rest_form : Form TableParts → (size : ℕ) → Form RestNest
-rest_form tables size = both tables (λ _. both loading_form (λ _. bytes size))
+rest_form tables size = both tables (λ _. both loading_form (λ _. ram_form size))
 
 abbrev pub machine_nest : Form Parts → (ℕ → Form TableParts) → Form MachineNest
 machine_nest core tables =

@@ -8,7 +8,7 @@ ghost use Rattle.iop_snapshot.specs.Writing.{place_of, Writes};
 ghost use Rattle.iop_snapshot.specs.declared.widths.TheConstants.{HEAD as WIDTHS};
 ghost use Rattle.iop_saved_machine.specs.Heads.{head_numbers, size_in, is_ram_size, head_form};
 
-use iop_base::WriteFault;
+use iop_base::{LARGE_RAM, SMALL_RAM, WriteFault};
 use iop_ports::Sink;
 use iop_snapshot::widths::HEAD;
 use iop_snapshot::{Decoder, Encoder};
@@ -18,12 +18,6 @@ pub(crate) const LETTERS: [u8; 8] = *b"IOPSNAP1";
 
 /// How many bytes a MiB has.
 pub(crate) const MIB: u32 = 0x10_0000;
-
-/// How many bytes the smaller RAM has.
-pub(crate) const SMALL: u32 = 2 * MIB;
-
-/// How many bytes the larger RAM has.
-pub(crate) const LARGE: u32 = 8 * MIB;
 
 /// Writes the head of a machine whose RAM has so many bytes, 2 MiB or 8 MiB.
 #[tactic(auto, unfolding(crate::specs::Heads::head_form, iop_snapshot::specs::Forms::item))]
@@ -73,11 +67,11 @@ fn size_in(numbers: &[u64; 9]) -> Option<u32>
     ensures passes { IfSome result (λ size. is_ram_size size ≡ true) }
     ensures sized { IfSome result IsRamSize }
 {
-    if *numbers == numbers_of_head(SMALL) {
-        return Some(SMALL);
+    if *numbers == numbers_of_head(SMALL_RAM) {
+        return Some(SMALL_RAM);
     }
-    if *numbers == numbers_of_head(LARGE) {
-        return Some(LARGE);
+    if *numbers == numbers_of_head(LARGE_RAM) {
+        return Some(LARGE_RAM);
     }
     None
 }

@@ -1,20 +1,19 @@
 //! The whole machine, written.
 
-ghost use Rattle.std.specs.Prelude.{◌≡◌, ◌<◌, ◌^◌, true, length, OnOk};
+ghost use Rattle.std.specs.Prelude.{◌≡◌, true, length, OnOk};
 ghost use Rattle.iop_kernel.specs.Standing.{Holds, IsHeld};
 ghost use Rattle.iop_kernel.specs.System.{Kernel as State};
-ghost use Rattle.iop_snapshot.specs.Forms.{bytes as raw};
 ghost use Rattle.iop_snapshot.specs.Writing.{place_of, Writes};
 ghost use Rattle.iop_saved_machine.specs.Back.{parts_of};
 ghost use Rattle.iop_saved_machine.specs.Heads.{head_form};
 ghost use Rattle.iop_saved_machine.specs.Lent.{tables_lent, loading_lent, state_lent};
 ghost use Rattle.iop_saved_machine.specs.Loading.{LoadingIsShort, loading_form};
-ghost use Rattle.iop_saved_machine.specs.Parts.{written_machine};
+ghost use Rattle.iop_saved_machine.specs.Parts.{written_machine, ram_form};
 ghost use Rattle.iop_saved_machine.specs.Tables.{written_tables};
 
-use crate::begun_module::BegunModule;
+use crate::begun_module::{BegunModule, save_begun};
 use crate::head::save_head;
-use crate::loading::{save_begun, save_next};
+use crate::loading::save_next;
 use crate::memory::ram_of;
 use iop_base::WriteFault;
 use iop_exec::Cpu;
@@ -62,7 +61,6 @@ impl<R: Ready> LentMachine<'_, R> {
     /// which has then taken a front of the bytes.
     pub fn save<S: Sink>(&self, encoder: &mut Encoder<'_, S>) -> Result<(), WriteFault>
         requires sound { IsHeld R.stands self.now.kernel.now }
-        requires few { length self.now.blocks.now.used < 2 ^ 32 }
         requires short { LoadingIsShort (loading_lent self.now) }
         ensures written { (k : State) → Holds R.stands self.now.kernel.now k
             → Writes result (written_machine.spell (parts_of (state_lent k self.now)))
@@ -87,20 +85,20 @@ impl<R: Ready> LentMachine<'_, R> {
     }
 
     /// Writes the blocks, the libraries and the stubs.
-    #[tactic(auto, using(iop_snapshot::proofs::Sending::writes_then, iop_snapshot::proofs::Sending::writes_exit), unfolding(crate::specs::Tables::tables_form))]
+    #[tactic(auto, using(crate::proofs::Sending::writing), unfolding(crate::specs::Tables::tables_form))]
     fn save_tables<S: Sink>(&self, encoder: &mut Encoder<'_, S>) -> Result<(), WriteFault>
-        requires few { length self.now.blocks.now.used < 2 ^ 32 }
         ensures written { Writes result (written_tables.spell (tables_lent self.now))
             (place_of S.told encoder.old) (place_of S.told encoder.new) }
         ensures fits { OnOk result (written_tables.fits (tables_lent self.now) ≡ true) }
     {
+        prove!(self.blocks.used().len() <= self.blocks.size() as usize);
         save_blocks(self.blocks, encoder)?;
         save_libraries(self.registry, encoder)?;
         save_stubs(self.guest, encoder)
     }
 
     /// Writes what is still to be loaded, and what is still to come of the script.
-    #[tactic(auto, using(iop_snapshot::proofs::Sending::writes_then, iop_snapshot::proofs::Sending::writes_exit), unfolding(crate::specs::Loading::loading_form))]
+    #[tactic(auto, using(crate::proofs::Sending::writing), unfolding(crate::specs::Loading::loading_form))]
     fn save_loading<S: Sink>(&self, encoder: &mut Encoder<'_, S>) -> Result<(), WriteFault>
         requires short { LoadingIsShort (loading_lent self.now) }
         ensures written { Writes result (loading_form.spell (loading_lent self.now))
@@ -116,12 +114,13 @@ impl<R: Ready> LentMachine<'_, R> {
     }
 
     /// Writes all bytes of RAM.
-    #[tactic(auto, unfolding(iop_snapshot::specs::Forms::bytes))]
+    #[tactic(auto, unfolding(crate::specs::Parts::ram_form, iop_snapshot::specs::Forms::bytes))]
     fn save_ram<S: Sink>(&self, encoder: &mut Encoder<'_, S>) -> Result<(), WriteFault>
         ensures written { Writes result
-            ((raw (length self.now.guest.now.ram)).spell self.now.guest.now.ram)
+            ((ram_form (length self.now.guest.now.ram)).spell self.now.guest.now.ram)
             (place_of S.told encoder.old) (place_of S.told encoder.new) }
-        ensures fits { (raw (length self.now.guest.now.ram)).fits self.now.guest.now.ram ≡ true }
+        ensures fits { (ram_form (length self.now.guest.now.ram)).fits self.now.guest.now.ram
+            ≡ true }
     {
         encoder.bytes(ram_of(self.guest))
     }

@@ -1,6 +1,6 @@
 //! The whole machine, read from the bytes of a file and put back.
 
-ghost use Rattle.std.specs.Prelude.{◌≡◌, [], Some, IfOk, MatchResult};
+ghost use Rattle.std.specs.Prelude.{◌≡◌, ℕ, [], Some, IfOk, MatchResult};
 ghost use Rattle.iop_kernel.specs.System.{Core};
 ghost use Rattle.iop_saved_kernel.specs.Parts.{Parts, core_back, core_form};
 ghost use Rattle.iop_saved_kernel.specs.Restored.{HoldsCore};
@@ -40,7 +40,6 @@ pub struct RestoredMachine<R> {
 /// All parts of a machine, in whose RAM no stub is live yet.
 #[derive(Drop)]
 struct Unfinished<R> {
-    size: u32,
     core: RestoredKernel<R>,
     rest: Rest,
 }
@@ -63,7 +62,7 @@ pub fn restore_machine<R: Ready + Drop>(
     if decoder.left() != 0 {
         return Err(SnapFault::Bad);
     }
-    let Unfinished { core, rest, .. } = made;
+    let Unfinished { core, rest } = made;
     let Rest {
         tables,
         loading,
@@ -97,11 +96,10 @@ fn restore_parts<R: Ready + Drop>(
     requires none { R.stands ready [] }
     ensures read { let read = read_machine.read decoder.old in
         MatchResult result
-        (λ made. (p : Parts) × (c : Core) × HoldsCore R.stands made.core c
-        × (core_back p ≡ Some c)
-        × (read ≡ Some (machine_with (made.size, (p, rest_parts made.rest)), decoder.new)))
+        (λ made. (size : ℕ) × (p : Parts) × (c : Core) × HoldsCore R.stands made.core c
+        × (core_back p ≡ Some c) × TablesAreBack size made.rest.tables
+        × (read ≡ Some (machine_with (size, (p, rest_parts made.rest)), decoder.new)))
         (GivesNone read) }
-    ensures back { IfOk result (λ made. TablesAreBack made.size made.rest.tables) }
     ensures bare { IfOk result (λ made. made.rest.guest ≡ bare made.rest.guest.ram) }
 {
     let Some(size) = restore_head(decoder) else {
@@ -109,7 +107,7 @@ fn restore_parts<R: Ready + Drop>(
     };
     let core = restore_core(alloc, ready, decoder)?;
     let rest = restore_rest(alloc, size, decoder)?;
-    Ok(Unfinished { size, core, rest })
+    Ok(Unfinished { core, rest })
 }
 
 /// Reads a kernel and its processor and puts them back, beside a list of ready threads in which

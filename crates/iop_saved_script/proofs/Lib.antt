@@ -1,3 +1,4 @@
 pub mod Texts
 pub mod Lawful
 pub mod Shortness
+pub mod ShortScripts

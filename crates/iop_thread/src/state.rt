@@ -61,7 +61,7 @@ impl State {
     }
 
     /// Says whether the thread is ready.
-    pub(crate) fn is_ready(&self) -> bool
+    pub fn is_ready(&self) -> bool
         ensures { result ≡ is_ready self.now }
     {
         matches!(self, State::Ready(_))

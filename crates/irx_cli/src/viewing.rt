@@ -7,6 +7,7 @@ ghost use Rattle.iop_modload.specs.declared.limits.TheConstants.{LONGEST_FILE};
 use crate::files::read_file;
 use crate::numbers::FIRST_BASE;
 use anyhow::{Result, bail, ensure};
+use iop_base::SMALL_RAM;
 use iop_disasm::listing;
 use iop_modload::LONGEST_FILE;
 use iop_ports::StreamSink;
@@ -17,7 +18,7 @@ use std::io::{BufWriter, Write};
 use std::process::ExitCode;
 
 /// How many bytes of memory the words of a raw file are listed in: 2 MiB.
-const LISTED_MEMORY: u32 = 0x20_0000;
+const LISTED_MEMORY: u32 = SMALL_RAM;
 
 /// The most bytes that a raw file may have.
 const LONGEST_RAW: u32 = 65_536;

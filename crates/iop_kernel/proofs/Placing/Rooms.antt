@@ -104,13 +104,13 @@ module _ {A W : Type 0} where
               omega (arith, all, first ∙ ap one_if is, others)
 
     -- so it is for each list of objects
-    waits_once : (live : List (Object A W)) → HaveRisingIds live → IsOnce live
+    pub waits_once : (live : List (Object A W)) → HaveRisingIds live → IsOnce live
     waits_once [] own = λ wait each. omega arith
     waits_once (o ∷ live) own =
         one_more o live own (waits_once live (AllPairs-tail (λ a b. a.id < b.id) o live own))
 
 -- those that wait for all objects together
-length-waiting : {A W : Type 0} (live : List (Object A W))
+pub length-waiting : {A W : Type 0} (live : List (Object A W))
     → length (flat_map threads_of live) ≡ waiting (record { live = live; next = 0 })
 length-waiting [] = refl
 length-waiting (o ∷ live) =

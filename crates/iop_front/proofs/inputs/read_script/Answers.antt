@@ -27,3 +27,10 @@ returns-clause-read g c =
     (seen_by c.args.files.now) (seen_by c.read_whole.new.files)
     (omega (arith, length-take c.in_ok-len.len buffer, read.short)) (read.read AsScript)
     c.in_ok-parse.field-0 c.in_ok-parse.ensures.script
+
+pub returns-clause-short : goal.returns-clause-short
+returns-clause-short g c =
+    let buffer = c.read_whole.new.buffer in
+    c.short_texts_give_short_scripts.ensures (take c.in_ok-len.len buffer) c.in_ok-parse.field-0
+    (omega (arith, length-take c.in_ok-len.len buffer, c.in_ok-len.ensures.short))
+    c.in_ok-parse.ensures.script

@@ -22,17 +22,17 @@ returns-in_err-made g c =
 pub returns-then-left-ne0 : goal.returns-then-left-ne0
 returns-then-left-ne0 g c =
     let u = c.in_ok-made.made in
-    let (parts, core, holds, core_back, read) = c.in_ok-made.ensures.read in
+    let (size, parts, core, holds, core_back, back, read) = c.in_ok-made.ensures.read in
     subst (λ (all : List ℕ). read_whole machine_form all ≡ None) c.new-decoder.ensures
-    (whole_too_long c.new-decoder.result (machine_with (u.size, (parts, rest_parts u.rest)))
+    (whole_too_long c.new-decoder.result (machine_with (size, (parts, rest_parts u.rest)))
     c.restore_parts.new.decoder read c.left.result c.left.ensures c.if-left-ne0.true)
 
 pub returns-in_default : goal.returns-in_default
 returns-in_default g c =
     let u = c.in_ok-made.made in
-    let (parts, core, holds, core_back, read) = c.in_ok-made.ensures.read in
+    let (size, parts, core, holds, core_back, back, read) = c.in_ok-made.ensures.read in
     subst (λ (all : List ℕ). read_whole machine_form all ≡ None) c.new-decoder.ensures
-    (whole_stubs_fail c.new-decoder.result (machine_with (u.size, (parts, rest_parts u.rest)))
+    (whole_stubs_fail c.new-decoder.result (machine_with (size, (parts, rest_parts u.rest)))
     c.restore_parts.new.decoder read
     (ap (λ (memory : Memory). put_all put_stub memory u.rest.tables.stubs.items)
     (sym c.in_ok-made.ensures.bare)
@@ -41,9 +41,8 @@ returns-in_default g c =
 pub returns : goal.returns
 returns g c =
     let u = c.in_ok-made.made in
-    let (parts, core, holds, core_back, read) = c.in_ok-made.ensures.read in
-    let p = machine_with (u.size, (parts, rest_parts u.rest)) in
-    let back = c.in_ok-made.ensures.back in
+    let (size, parts, core, holds, core_back, back, read) = c.in_ok-made.ensures.read in
+    let p = machine_with (size, (parts, rest_parts u.rest)) in
     let guest = c.in-Some.guest in
     let stubs =
     ap (λ (memory : Memory). put_all put_stub memory u.rest.tables.stubs.items)

@@ -19,5 +19,12 @@ returns-in_err-rest-clause-read g c =
 pub returns-clause-read : goal.returns-clause-read
 unfolding parts_form
 returns-clause-read g c =
-    let (p, core, holds, back, read) = c.in_ok-core.ensures in
-    (p, core, holds, back, rw (c.in-Some.ensures.read, read, c.in_ok-rest.ensures.read) refl)
+    let (p, core, holds, back, read) = c.in_ok-core.ensures in (
+      c.in-Some.size,
+      p,
+      core,
+      holds,
+      back,
+      c.in_ok-rest.ensures.back,
+      rw (c.in-Some.ensures.read, read, c.in_ok-rest.ensures.read) refl,
+    )

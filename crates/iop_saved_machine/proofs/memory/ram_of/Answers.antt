@@ -10,8 +10,9 @@ returns-in-Some c =
     lent_all ram c.size.result c.window.result c.size.ensures.sized c.size.ensures.value
     c.window.ensures.window in
     record {
-      bytes = same_Some c.in-Some.bytes.now ram (ap option_copied (sym c.in-Some.is) ∙ all)
+      ram = same_Some c.in-Some.bytes.now ram (ap option_copied (sym c.in-Some.is) ∙ all)
           ∙ c.ram-ram.ensures.value;
+      bytes = c.ram-ram.ensures.bytes;
     }
 
 pub returns-in-None : goal.returns-in-None

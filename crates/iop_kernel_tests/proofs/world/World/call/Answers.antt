@@ -1,7 +1,7 @@
 use Rattle.std.proofs.Common.{◌≡◌, true, ap, sym, ◌∙◌, arith, rules}
 use Rattle.iop_ready.specs.KernelReady.{KernelStands}
 use Rattle.iop_time.specs.Timers.{Timers}
-use Rattle.iop_kernel.proofs.Bodies.Worlds.{next_served}
+use Rattle.iop_kernel_laws.proofs.Worlds.{next_served}
 use Rattle.iop_kernel_tests.proofs.world.World.call.Goals as goal
 
 pub service-after-requires-clause-active : goal.service-after-requires-clause-active

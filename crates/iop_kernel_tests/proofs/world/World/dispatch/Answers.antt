@@ -4,7 +4,7 @@ use Rattle.iop_time.specs.Timers.{Timers}
 use Rattle.iop_kernel.specs.Dispatching.{dispatches}
 use Rattle.iop_kernel.specs.Standing.{core}
 use Rattle.iop_kernel.proofs.Bodies.Standing.{sound_after_dispatch}
-use Rattle.iop_kernel.proofs.Bodies.Worlds.{next_dispatched}
+use Rattle.iop_kernel_laws.proofs.Worlds.{next_dispatched}
 use Rattle.iop_kernel_tests.proofs.world.World.dispatch.Goals as goal
 
 pub returns : goal.returns

@@ -11,7 +11,7 @@ returns-then-event-moment c =
     let at = looked_up c.deref.ensures.value c.get.ensures.lookup c.in_ok-event.was in (
       refl,
       ap (due_events c.args.moment) (sym c.self.view_is)
-          ∙ not_taken c.self.inside c.in_ok-event.field-0.now at c.self.invariant.0 c.args.moment
+          ∙ not_taken c.self.inside c.in_ok-event.field-0.now at c.self.invariant.come c.args.moment
           c.if-event-moment.true,
     )
 
@@ -19,10 +19,11 @@ pub invariant_of-self : goal.invariant_of-self
 invariant_of-self c =
     let at = looked_up c.deref.ensures.value c.get.ensures.lookup c.in_ok-event.was in
     let within = slice_get_within c.self.inside.events.items c.self.inside.taken
-    c.in_ok-event.field-0.now at in (
-      behind_comes c.self.inside c.in_ok-event.field-0.now at c.self.invariant.0,
-      omega (arith, within),
-    )
+    c.in_ok-event.field-0.now at in record {
+      come = behind_comes c.self.inside c.in_ok-event.field-0.now at c.self.invariant.come;
+      short = c.self.invariant.short;
+      taken = omega (arith, within);
+    }
 
 pub returns : goal.returns
 returns c =
@@ -30,4 +31,4 @@ returns c =
     let event = c.in_ok-event.field-0.now in
     subst (λ (old : List Raise). TakesDue (Some event) c.args.moment old
     (events_of (record c.self.inside { taken = c.self.inside.taken + 1 }))) c.self.view_is
-    (one_taken c.self.inside event at c.self.invariant.0 c.args.moment c.if-event-moment.false)
+    (one_taken c.self.inside event at c.self.invariant.come c.args.moment c.if-event-moment.false)

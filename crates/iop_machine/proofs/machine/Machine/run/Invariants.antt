@@ -1,4 +1,4 @@
-use Rattle.std.proofs.Common.{ℕ, ◌+◌, ◌*◌}
+use Rattle.std.proofs.Common.{◌≡◌, ℕ, ◌+◌, ◌*◌, false}
 use Rattle.iop_trace.specs.Outs.{output_of}
 use Rattle.iop_machine.specs.Advancing.{Reached, calls_by}
 use Rattle.iop_machine.specs.Laws.{IsMachine}
@@ -11,6 +11,7 @@ use Rattle.iop_machine.proofs.machine.Machine.run.Given as goal
 abbrev pub invariant-steps : goal.invariant-steps
 invariant-steps g l = record {
   time : HasTime l.self.iop.kernel.clock l.left;
+  at_budget : l.self.at_budget ≡ false;
   reached : (w : World) → StandsForWorld l.fn.self w → IsMachine w
       → (k : ℕ) × Reached StandsForWorld w l.fn.budget k l.left l.self
       (output_of g.C.Sink.told g.T.Sink.told l.initial.out)

@@ -12,8 +12,8 @@ returns-clause-module c =
     let name = c.as_bytes.result.now in
     let words = c.words_for-words.ensures
     ∙ ap (λ x. words_for x c.words_by_name.result.now number name)
-    c.words_by_number-by_number.ensures
-    ∙ ap (λ x. words_for left.args x number name) c.words_by_name.ensures
+    c.words_by_number-by_number.ensures.words
+    ∙ ap (λ x. words_for left.args x number name) c.words_by_name.ensures.words
     ∙ ap (words_for left.args left.named number)
     (c.as_bytes.ensures.value ∙ ap (λ (x : NamedFile). x.name) c.module.view_is) in
     next_is left c.in_ok-module.module.now

@@ -14,6 +14,8 @@ invariant_of-self c =
       room = subst (All HasRoom)
           (sym (ap modules_of taken ∙ rest_is (modules_left w)))
           (All-drop HasRoom 1 _ c.self.invariant.room);
+      args = c.self.invariant.args;
+      named = c.self.invariant.named;
       some = c.self.invariant.some;
       few = c.self.invariant.few;
       taken = omega (arith, c.len.ensures, c.if-self-len.true);

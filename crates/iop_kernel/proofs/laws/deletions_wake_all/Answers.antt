@@ -1,5 +1,0 @@
-use Rattle.iop_kernel.proofs.WaitsEnd.Deletions.{deletions_wake_all}
-use Rattle.iop_kernel.proofs.laws.deletions_wake_all.Goals as goal
-
-pub returns : goal.returns
-returns c = deletions_wake_all

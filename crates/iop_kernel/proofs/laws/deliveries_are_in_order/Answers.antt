@@ -1,5 +1,0 @@
-use Rattle.iop_kernel.proofs.Order.First.{deliveries_are_in_order}
-use Rattle.iop_kernel.proofs.laws.deliveries_are_in_order.Goals as goal
-
-pub returns : goal.returns
-returns c = deliveries_are_in_order

@@ -1,5 +1,0 @@
-use Rattle.iop_kernel.proofs.Keeping.Faulting.{libraries_fault_at_addresses}
-use Rattle.iop_kernel.proofs.laws.libraries_fault_at_addresses.Goals as goal
-
-pub returns : goal.returns
-returns c = libraries_fault_at_addresses

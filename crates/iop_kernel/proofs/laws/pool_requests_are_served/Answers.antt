@@ -1,5 +1,0 @@
-use Rattle.iop_kernel.proofs.PoolRequests.{pool_requests_are_served}
-use Rattle.iop_kernel.proofs.laws.pool_requests_are_served.Goals as goal
-
-pub returns : goal.returns
-returns c = pool_requests_are_served

@@ -1,5 +1,0 @@
-use Rattle.iop_kernel.proofs.PoolRequests.{pools_are_made}
-use Rattle.iop_kernel.proofs.laws.pools_are_made.Goals as goal
-
-pub returns : goal.returns
-returns c = pools_are_made

@@ -1,5 +1,0 @@
-use Rattle.iop_kernel.proofs.PoolRequests.{pools_write_nothing}
-use Rattle.iop_kernel.proofs.laws.pools_write_nothing.Goals as goal
-
-pub returns : goal.returns
-returns c = pools_write_nothing

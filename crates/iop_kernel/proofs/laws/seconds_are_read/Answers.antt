@@ -1,5 +1,0 @@
-use Rattle.iop_kernel.proofs.Readings.Times.{seconds_are_read}
-use Rattle.iop_kernel.proofs.laws.seconds_are_read.Goals as goal
-
-pub returns : goal.returns
-returns c = seconds_are_read

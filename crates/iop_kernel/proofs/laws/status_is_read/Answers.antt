@@ -1,5 +1,0 @@
-use Rattle.iop_kernel.proofs.Readings.Statuses.{status_is_read}
-use Rattle.iop_kernel.proofs.laws.status_is_read.Goals as goal
-
-pub returns : goal.returns
-returns c = status_is_read

@@ -1,5 +1,0 @@
-use Rattle.iop_kernel.proofs.Readings.Times.{ticks_are_read}
-use Rattle.iop_kernel.proofs.laws.ticks_are_read.Goals as goal
-
-pub returns : goal.returns
-returns c = ticks_are_read

@@ -1,5 +1,0 @@
-use Rattle.iop_kernel.proofs.WaitsBegin.Begins.{waits_begin_where}
-use Rattle.iop_kernel.proofs.laws.waits_begin_where.Goals as goal
-
-pub returns : goal.returns
-returns c = waits_begin_where

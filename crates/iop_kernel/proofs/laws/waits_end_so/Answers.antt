@@ -1,5 +1,0 @@
-use Rattle.iop_kernel.proofs.WaitsEnd.Services.{waits_end_so}
-use Rattle.iop_kernel.proofs.laws.waits_end_so.Goals as goal
-
-pub returns : goal.returns
-returns c = waits_end_so

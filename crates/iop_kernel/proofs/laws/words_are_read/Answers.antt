@@ -1,5 +1,0 @@
-use Rattle.iop_kernel.proofs.Readings.Words.{words_are_read}
-use Rattle.iop_kernel.proofs.laws.words_are_read.Goals as goal
-
-pub returns : goal.returns
-returns c = words_are_read

@@ -1,0 +1,11 @@
+pub mod Blocks
+pub mod Faulting
+pub mod Goes
+pub mod GoingOn
+pub mod Handlers
+pub mod Leaving
+pub mod Moves
+pub mod Outcomes
+pub mod Services
+pub mod Settled
+pub mod Stores

@@ -1,0 +1,16 @@
+pub mod HandlerLaws
+pub mod MakerLaws
+pub mod InterruptRequests
+pub mod LibraryNames
+pub mod LibraryRequests
+pub mod ObjectRequests
+pub mod ThreadRequests
+pub mod StatusLaws
+pub mod TimeLaws
+pub mod WordLaws
+pub mod WaitingLaws
+pub mod WakingLaws
+pub mod SwitchLaws
+pub mod CodeLaws
+pub mod PoolLaws
+pub mod Histories

@@ -1,0 +1,4 @@
+//! Laws of the kernel: facts about its definitions that no call computes.
+#![tactic(auto)]
+
+pub mod laws;

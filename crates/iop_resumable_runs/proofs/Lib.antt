@@ -1,0 +1,12 @@
+pub mod Readable
+pub mod Loader
+pub mod Still
+pub mod Cores
+pub mod Left
+pub mod Libraries
+pub mod Beside
+pub mod Resuming
+pub mod Settled
+pub mod GoingOn
+pub mod ComingBack
+pub mod Resumed

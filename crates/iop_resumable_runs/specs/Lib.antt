@@ -1,0 +1,2 @@
+pub mod Resumable
+pub mod Laws
