@@ -33,7 +33,7 @@ class Report:
 
     def show_next(self, moment, found):
         """Shows who ran, and the instruction that is next."""
-        print("who      ", who_ran(lines_before_end(moment), found.is_thread))
+        print("who      ", who_ran(lines_before_end(moment), found.is_thread, self.run.command.began))
         if found.address is None:
             print("address   not told")
             return
@@ -86,10 +86,11 @@ def rows(start, dump):
     return [f"{start + n:08x}: {dump[n:n + 16].hex()}" for n in range(0, len(dump), 16)]
 
 
-def who_ran(lines, is_thread):
-    """Who ran behind these lines; whether it was a thread is known where an interrupt was delivered."""
+def who_ran(lines, is_thread, began):
+    """Who ran behind these lines, or before any thread was taken to run; whether it was a thread is known where an
+    interrupt was delivered."""
     last = max((n for n, line in enumerate(lines) if kind_of(line) == "run"), default=None)
-    thread = f"thread {lines[last].split(' ')[2]}" if last is not None else "no thread"
+    thread = f"thread {lines[last].split(' ')[2]}" if last is not None else began
     handlers = [line.split(" ", 1)[1] for line in lines[last or 0:] if kind_of(line) in ("line", "alarm")]
     if is_thread or not handlers:
         return thread

@@ -62,10 +62,10 @@ def lines_before_end(moment):
 
 
 class Command:
-    """The words of ./iop, without --budget and --dump."""
+    """The words of ./iop, without --budget, --dump and --save."""
 
     def __init__(self, words):
-        self.given = dict.fromkeys(("--budget", "--script", "--dump", "--ram", "--generate"))
+        self.given = dict.fromkeys(("--budget", "--script", "--dump", "--ram", "--generate", "--save", "--restore"))
         self.modules = []
         self.read(list(words))
         budget = self.given["--budget"] or str(BUDGET)
@@ -90,8 +90,15 @@ class Command:
                 self.given[name] = value if is_joined else words.pop(0)
 
     def name_of(self, number):
-        """The name of a module, by its number."""
+        """The name of a module, by its number; none where a snapshot has it."""
+        if self.given["--restore"]:
+            return ""
         return self.modules[number - 1] if self.modules else "generated"
+
+    @property
+    def began(self):
+        """What runs where no thread was taken to run yet."""
+        return "what ran in the snapshot" if self.given["--restore"] else "no thread"
 
     @property
     def ram(self):
@@ -101,7 +108,8 @@ class Command:
     def words(self, budget, dump=None, script=None, watcher=None):
         """The words of a run of so many instructions, with a watcher before the modules if there is one."""
         options = {"--budget": str(budget), "--dump": dump, "--ram": self.given["--ram"],
-                   "--script": script or self.given["--script"], "--generate": self.given["--generate"]}
+                   "--script": script or self.given["--script"], "--generate": self.given["--generate"],
+                   "--restore": self.given["--restore"]}
         modules = ([watcher] if watcher else []) + self.modules
         return [f"{name}={value}" for name, value in options.items() if value is not None] + ["--", *modules]
 

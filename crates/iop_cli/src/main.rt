@@ -2,7 +2,7 @@
 #![tactic(auto)]
 
 use iop_front::{Status, iop_main};
-use iop_ports::{DiskFiles, StreamSink};
+use iop_ports::{DiskFiles, DiskKeep, StreamSink};
 use std::alloc::AllocError;
 use std::env;
 use std::env::FillError;
@@ -56,5 +56,13 @@ fn main(rt: HostRuntime) -> ExitCode {
     let mut console = StreamSink::new(rt.stdout());
     let mut trace = StreamSink::new(rt.stderr());
     let mut files = DiskFiles::new(rt);
-    ExitCode::from(iop_main(alloc, &words, &mut files, &mut console, &mut trace))
+    let mut keep = DiskKeep::new(rt);
+    ExitCode::from(iop_main(
+        alloc,
+        &words,
+        &mut files,
+        &mut keep,
+        &mut console,
+        &mut trace,
+    ))
 }

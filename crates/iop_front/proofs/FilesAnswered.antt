@@ -1,4 +1,5 @@
--- What each answer shows where files of the command were read, all of them or as many as decide it.
+-- What each answer shows where files of a command whose run begins were read, all of them or as
+-- many as decide it.
 use Rattle.std.proofs.Common.{◌≡◌, ◌⊎◌, ℕ, ◌<◌, ◌≤◌, true, false, Option, Some, None, option_to_list, IfSome, is_some, Err, is_ok, List, [], ◌∷◌, ◌++◌, Contains, map, length, take, append-nil, refl, ap, sym, ◌∙◌, subst, arith, inl, inr}
 use Rattle.std.proofs.lemmas.List.Elements.{All-contains, Contains-append_left}
 use Rattle.std.proofs.lemmas.Bool.Decides.{nat_tests}
@@ -8,13 +9,14 @@ use Rattle.iop_modload.specs.declared.limits.TheConstants.{LONGEST_FILE}
 use Rattle.iop_options.specs.Commands.{Command}
 use Rattle.iop_ports.specs.Files.{FilesTold}
 use Rattle.iop_script.specs.Reading.{BadLine, script_of}
-use Rattle.iop_front.specs.Answers.{Outside, AreFilesOf, AreGoodFiles, EndsReading, FilesRead, HasReadInputs, HasRun, HasBadScript, IsTooLong, IsNameAsked}
-use Rattle.iop_front.specs.Named.{first_kind, files_of, AsScript, kind_by}
-use Rattle.iop_front.specs.Outcome.{Meets, outcome_of_inputs, OpensInOrder, none, more, read_limit}
+use Rattle.iop_front.specs.Answers.{Outside, AreFilesOf, AreGoodFiles, EndsReading, FilesRead, HasReadInputs, HasBegun, HasRun, HasBadScript, IsTooLong, IsNameAsked}
+use Rattle.iop_front.specs.Named.{first_kind, files_of, inputs_of, AsScript, kind_by, longest}
+use Rattle.iop_front.specs.Outcome.{Meets, Refuses, outcome_of_inputs, OpensInOrder, none, more, read_limit, too_long_line}
 use Rattle.iop_front.specs.Reading.{file_named}
 use Rattle.iop_front.specs.Statuses.{status_code, IsRunCode, IsRanCode}
 use Rattle.iop_front.specs.declared.status.Status.{Status}
-use Rattle.iop_front.proofs.Endings.{IsRun, Shows, ended, shows, IsBadScript}
+use Rattle.iop_front.proofs.CommandFiles.{ReadsFiles, longest_input, reads_inputs}
+use Rattle.iop_front.proofs.Endings.{IsRun, Shows, ended, runs_or_short, shows, IsBadScript}
 use Rattle.iop_front.proofs.OpeningLemmas.{is_named, long_read, names_of, name_asked, short_whole, whole_front}
 
 -- behind a bad script no file was opened
@@ -76,7 +78,7 @@ kind_named (Some name) e = refl
 bad_first : (command : Command) (names left : List (List ℕ)) (files : List NamedFile)
     (named : NamedFile) (found : BadLine) (faults : ℕ) (old new : Option FilesTold)
     → length named.file ≤ LONGEST_FILE → script_of named.file ≡ Err found
-    → files_of command ≡ names ++ left → is_some command.script ≡ true
+    → inputs_of command ≡ names ++ left → is_some command.script ≡ true
     → AreFilesOf names (named ∷ files) old → FilesRead AsScript names faults old new
     → IsBadOf command named.name found faults old new
 bad_first command names left files named found faults old new short bad are_names is are read =
@@ -99,10 +101,10 @@ bad_first command names left files named found faults old new short bad are_name
 bad_read : (command : Command) (names left : List (List ℕ)) (script : Option NamedFile)
     (files : List NamedFile) (named : NamedFile) (found : BadLine) (faults : ℕ)
     (old new : Option FilesTold)
-    → IsBadScript script named found → files_of command ≡ names ++ left
+    → IsBadScript script named found → inputs_of command ≡ names ++ left
     → is_some script ≡ is_some command.script
     → AreFilesOf names (option_to_list script ++ files) old
-    → FilesRead (first_kind command) names faults old new
+    → FilesRead (kind_by command.script) names faults old new
     → IsBadOf command named.name found faults old new
 bad_read command names left script files named found faults old new bad are_names is are read =
     let test = bad.short in
@@ -126,8 +128,8 @@ none_left script files left ends run =
 
 -- so all were opened
 all_opened : (command : Command) (opened left : List (List ℕ)) (script : Option NamedFile)
-    (files : List NamedFile) → files_of command ≡ opened ++ left → EndsReading script files left
-    → IsRun script files → opened ≡ files_of command
+    (files : List NamedFile) → inputs_of command ≡ opened ++ left → EndsReading script files left
+    → IsRun script files → opened ≡ inputs_of command
 all_opened command opened left script files are ends run =
     sym (append-nil opened)
     ∙ ap (λ t. opened ++ t) (sym (none_left script files left ends run)) ∙ sym are
@@ -139,24 +141,40 @@ module _ {command : Command} {names left : List (List ℕ)} {script : Option Nam
     (ends : EndsReading script files left)
     (h : Meets (outcome_of_inputs command script files) status old.sinks new.sinks) where
   -- what its status shows
-  pub shown : Shows script files status old.sinks new.sinks
+  pub shown : Shows command.save script files status old.sinks new.sinks
   shown = shows (ended command script files status old.sinks new.sinks h)
 
   -- before a run all names were opened
-  opened : IsRanCode (status_code status) → names ≡ files_of command
+  opened : IsRanCode (status_code status) → names ≡ inputs_of command
   opened ran =
       all_opened command names left script files was.are_names ends (shown.ran ran)
 
-  -- and read
+  reads : ReadsFiles command (kind_by command.script) (inputs_of command)
+  reads = reads_inputs command was.begins
+
+  -- files that were read are those of the command
+  read_as : (ns : List (List ℕ))
+      → FilesRead (kind_by command.script) ns old.faults old.told new.told
+      → FilesRead (first_kind command) ns old.faults old.told new.told
+  read_as ns =
+      subst (λ kind. FilesRead kind ns old.faults old.told new.told) (sym reads.kind_is)
+
+  pub read_first : FilesRead (first_kind command) names old.faults old.told new.told
+  read_first = read_as names was.read.read
+
+  pub are_first : files_of command ≡ names ++ left
+  are_first = reads.names_are ∙ was.are_names
+
+  -- and all of them before a run
   pub read_all : IsRanCode (status_code status)
       → FilesRead (first_kind command) (files_of command) old.faults old.told new.told
   read_all ran = subst
       (λ (ns : List (List ℕ)). FilesRead (first_kind command) ns old.faults old.told new.told)
-      (opened ran) was.read.read
+      (opened ran ∙ sym reads.names_are) read_first
 
   -- and what was written is the outcome of these files
-  pub has_run : IsRanCode (status_code status) → HasRun command (status_code status) old new
-  has_run ran = record {
+  has_begun : IsRanCode (status_code status) → HasBegun command (status_code status) old new
+  has_begun ran = record {
     script = script;
     modules = files;
     has_script = was.has_script;
@@ -165,6 +183,11 @@ module _ {command : Command} {names left : List (List ℕ)} {script : Option Nam
         (opened ran) was.read.are_files;
     outcome = (status, refl, h);
   }
+
+  pub has_run : IsRanCode (status_code status)
+      → HasRun command command.restore (status_code status) old new
+  has_run ran =
+      subst (λ r. HasRun command r (status_code status) old new) (sym was.begins) (has_begun ran)
 
   -- 21, and its line
   pub bad_script : status_code status ≡ 21 → HasBadScript command old new
@@ -184,21 +207,27 @@ module _ {command : Command} {names left : List (List ℕ)} {script : Option Nam
       }
 
   -- 23, and its line
-  pub too_long : status_code status ≡ 23 → IsTooLong (files_of command) old new
+  pub too_long : status_code status ≡ 23
+      → IsTooLong (longest (first_kind command)) (files_of command) old new
   too_long s =
+      let most : longest (first_kind command) ≡ LONGEST_FILE =
+      ap longest reads.kind_is ∙ longest_input command.script in
       let all = option_to_list script ++ files in
       let is = shown.too_long s in
-      let last = long_read (first_kind command) names all old.faults old.told new.told is.long
+      let last = long_read (kind_by command.script) names all old.faults old.told new.told is.long
       was.read.are_files was.read.read is.is_first in
       let named = subst (λ (ns : List (List ℕ)). Contains ns is.long.name)
       (names_of names all old.told was.read.are_files) (is_named all is.long is.is_first) in
       record {
         name = is.long.name;
-        named = subst (λ (ns : List (List ℕ)). Contains ns is.long.name) (sym was.are_names)
+        named = subst (λ (ns : List (List ℕ)). Contains ns is.long.name) (sym are_first)
             (Contains-append_left names left is.long.name named);
-        line = is.line;
+        line = subst (λ n. Refuses (too_long_line n is.long.name) old.sinks new.sinks) (sym most)
+            is.line;
         asked = last.asked;
-        long = last.long;
+        long = subst
+            (λ n. IfSome old.told (λ files. n < length (file_named files is.long.name)))
+            (sym most) last.long;
       }
 
   module _ (told : FilesTold) (has : old.told ≡ Some told) (good : AreGoodFiles command told) where
@@ -217,35 +246,17 @@ module _ {command : Command} {names left : List (List ℕ)} {script : Option Nam
     not_too_long : status_code status ≡ 23 → ⊥
     not_too_long e =
         let is = too_long e in
-        let long = subst (λ o. IfSome o (λ files. LONGEST_FILE < length (file_named files is.name)))
+        let most = longest (first_kind command) in
+        let long = subst (λ o. IfSome o (λ files. most < length (file_named files is.name)))
         has is.long in
-        let short = All-contains (λ name. length (file_named told name) ≤ LONGEST_FILE)
+        let short = All-contains (λ name. length (file_named told name) ≤ most)
         (files_of command) is.name good.short is.named in
         omega (arith, long, short)
 
     -- where no write failed either, the command ran
-    pub completes : ¬ HasCause old.sinks.trace_faults new.sinks.trace_faults
-        → ¬ HasCause old.sinks.console_faults new.sinks.console_faults
+    pub completes : ¬ HasCause old.sinks.output.trace_faults new.sinks.output.trace_faults
+        → ¬ HasCause old.sinks.output.console_faults new.sinks.output.console_faults
+        → ¬ HasCause old.sinks.keep.faults new.sinks.keep.faults
         → IsRunCode (status_code status) ⊎ (status_code status ≡ 30)
-    completes traced printed = elim shown.exit [
-      | inl run ↦ inl run
-      | inr others ↦ elim others [
-        | inl refusal ↦ elim refusal [
-          | inl words ↦ absurd (shown.others.0 words)
-          | inr behind ↦ elim behind [
-            | inl bad ↦ absurd (not_bad_script bad)
-            | inr last ↦ elim last [
-              | inl unread ↦ absurd (shown.others.1 unread)
-              | inr long ↦ absurd (not_too_long long)
-            ]
-          ]
-        ]
-        | inr ends ↦ elim ends [
-          | inl cut ↦ elim (shown.cut cut) [
-            | inl cause ↦ absurd (traced cause)
-            | inr cause ↦ absurd (printed cause)
-          ]
-          | inr memory ↦ inr memory
-        ]
-      ]
-    ]
+    completes traced printed saved =
+        runs_or_short shown.code not_bad_script not_too_long shown.no_snapshot traced printed saved

@@ -6,7 +6,6 @@ use Rattle.std.proofs.lemmas.Bool.{lt-ltb}
 use Rattle.std.proofs.lemmas.Bool.Decides.{nat_tests}
 use Rattle.std.proofs.lemmas.List.{length-take, take_all, map-append}
 use Rattle.std.proofs.lemmas.List.Folds.{find-append}
-use Rattle.iop_base.specs.Output.{Output}
 use Rattle.iop_machine.specs.Modules.{NamedFile}
 use Rattle.iop_modload.specs.declared.limits.TheConstants.{LONGEST_FILE}
 use Rattle.iop_options.specs.Commands.{Command}
@@ -14,10 +13,11 @@ use Rattle.iop_ports.specs.Files.{FilesTold}
 use Rattle.iop_script.specs.Reading.{BadLine, empty_script, script_of}
 use Rattle.iop_script.specs.Scripts.{Script}
 use Rattle.iop_front.specs.Answers.{EndsReading}
-use Rattle.iop_front.specs.Outcome.{Outcome, Meets, first_too_long, script_by, outcome_behind, outcome_of_files, outcome_of_inputs, outcome_named, read_limit}
+use Rattle.iop_front.specs.Outcome.{Outcome, Meets, first_too_long, script_by, outcome_behind, outcome_of_files, outcome_from_files, outcome_of_inputs, outcome_named, read_limit}
 use Rattle.iop_front.specs.Reading.{file_named}
 use Rattle.iop_front.specs.declared.status.Status.{Status}
-use Rattle.iop_front.specs.Named.{files_of}
+use Rattle.iop_front.specs.Keeping.{Written}
+use Rattle.iop_front.specs.Named.{inputs_of}
 use Rattle.iop_front.proofs.OutcomeLemmas.{from_long, from_short, long_outcome}
 
 -- the first that is too long is so also before others
@@ -196,11 +196,12 @@ module _ (command : Command) (told : FilesTold) where
       ∙ ap (λ t. outcome_of_inputs command (Some (whole name)) (map whole t)) behind
 
   pub read_outcome : (names left : List (List ℕ)) (script : Option NamedFile)
-      (files : List NamedFile) (status : Status) (old new : Output)
-      → files_of command ≡ names ++ left → is_some script ≡ is_some command.script
+      (files : List NamedFile) (status : Status) (old new : Written) → command.restore ≡ None
+      → inputs_of command ≡ names ++ left → is_some script ≡ is_some command.script
       → option_to_list script ++ files ≡ map front names → EndsReading script files left
       → Meets (outcome_of_inputs command script files) status old new
       → Meets (outcome_named told (Some command)) status old new
-  read_outcome names left script files status old new e is are ends h =
+  read_outcome names left script files status old new begins e is are ends h =
       subst (λ (o : Outcome). Meets o status old new)
-      (inputs_same command.script command.modules names left script files e is are ends) h
+      (inputs_same command.script command.modules names left script files e is are ends
+      ∙ sym (ap (outcome_from_files told command) begins)) h

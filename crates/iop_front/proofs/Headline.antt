@@ -4,8 +4,9 @@ use Rattle.std.proofs.lemmas.Bool.Decides.{nat_tests}
 use Rattle.std.proofs.lemmas.List.Elements.{All-head, All-tail, All-map}
 use Rattle.iop_base.specs.Places.{IsRamSize}
 use Rattle.iop_machine.specs.EventLaws.{EventsChangeTheirLines, NextComingIsLeast, StepsTakeTheirEvents}
-use Rattle.iop_machine.specs.Laws.{IsAwake, IsStrict, RunsAreAwake, RunsAreComputed, RunsAreCounted, RunsAreDelivered, RunsAreOnTime, RunsAreStrict, RunsBeginAsMachines, RunsEnd, RunsKeepEvents, RunsStayMachines, RunsStaySound}
+use Rattle.iop_machine.specs.Laws.{IsAwake, IsMachine, IsStrict, RunsAreAwake, RunsAreComputed, RunsAreCounted, RunsAreDelivered, RunsAreOnTime, RunsAreStrict, RunsBeginAsMachines, RunsEnd, RunsKeepEvents, RunsStayMachines, RunsStaySound}
 use Rattle.iop_machine.specs.ObjectLaws.{StepsKeepObjects}
+use Rattle.iop_machine.specs.RestoringLaws.{RestoredMachinesAreMachines}
 use Rattle.iop_machine.specs.StubLaws.{RunsTellStubs, StubsAreFollowed, StubsLeaveWithTheirLine}
 use Rattle.iop_machine.specs.SwitchLaws.{RunningThreadsWereTaken, RunsSwitchByDispatch}
 use Rattle.iop_machine.specs.Events.{CanCome}
@@ -23,8 +24,9 @@ use Rattle.iop_script.specs.Reading.{BadLine, empty_script, script_of}
 use Rattle.iop_script.specs.Scripts.{Script}
 use Rattle.iop_script.specs.declared.raise.Raise.{Raise}
 use Rattle.iop_front.specs.Answers.{AreGoodFiles}
-use Rattle.iop_front.specs.Headline.{HoldsAfter, HoldsOfRun, HoldsOfWords, HoldsOfFiles, Headline, machine_of}
-use Rattle.iop_front.specs.Outcome.{modules_to_load, named_file, outcome_behind, outcome_by, outcome_named, outcome_of_run, script_by}
+use Rattle.iop_front.specs.Headline.{EndsAs, HoldsIn, HoldsAfter, HoldsOfRun, HoldsOfWords, HoldsOfFiles, machine_of}
+use Rattle.iop_front.specs.Named.{files_by, first_by, inputs_of, kind_by, longest}
+use Rattle.iop_front.specs.Outcome.{modules_to_load, named_file, outcome_behind, outcome_by, outcome_from, outcome_from_files, outcome_named, outcome_of_run, script_by}
 use Rattle.iop_front.specs.Reading.{file_named}
 use Rattle.iop_front.proofs.AllBound.{all_bound}
 use Rattle.iop_front.proofs.Bindings.{is_bound_in}
@@ -34,11 +36,13 @@ use Rattle.iop_front.proofs.ModulesLeft.{leaves_modules}
 use Rattle.iop_front.proofs.OpeningLemmas.{IsNotLong}
 use Rattle.iop_front.proofs.OutcomeLemmas.{from_long, from_short}
 use Rattle.iop_front.proofs.TakingLemmas.{none_too_long}
+use Rattle.iop_front.proofs.CommandFiles.{longest_input}
 
 -- the laws of runs
 pub record RunLaws : Type 0 where
   pub events_change_their_lines : EventsChangeTheirLines
   pub next_coming_is_least : NextComingIsLeast
+  pub restored_machines_are_machines : RestoredMachinesAreMachines
   pub running_threads_were_taken : RunningThreadsWereTaken
   pub runs_are_awake : RunsAreAwake
   pub runs_are_computed : RunsAreComputed
@@ -57,6 +61,34 @@ pub record RunLaws : Type 0 where
   pub steps_take_their_events : StepsTakeTheirEvents
   pub stubs_are_followed : StubsAreFollowed
   pub stubs_leave_with_their_line : StubsLeaveWithTheirLine
+
+-- a machine in each of its states, and in the step from there
+pub holds_in : RunLaws → (w : World) → IsMachine w → HoldsIn w
+holds_in laws w machine = record {
+  loads = λ m s h. (loads_exactly s m, loads_in_tell w h);
+  modules = leaves_modules w;
+  bound = λ stub. (is_bound_in w stub, all_bound w stub);
+  leaves = λ stub. laws.stubs_leave_with_their_line w stub machine;
+  objects = λ kind. laws.steps_keep_objects w kind machine;
+  on_time = laws.runs_are_on_time w;
+  next = laws.next_coming_is_least w.iop;
+  due = laws.steps_take_their_events w;
+  changed = laws.events_change_their_lines w.iop;
+}
+
+-- the run of a command from a machine
+pub ends_as : RunLaws → (command : Command) (first : World) → IsMachine first
+    → EndsAs command first (outcome_from command first)
+ends_as laws command first machine =
+    let run = laws.runs_end first command.budget machine in
+    record {
+      steps_taken = run.0;
+      most = run.2;
+      stop = run.1;
+      ends = run.3;
+      outcome = ap (λ (r : Ran). outcome_of_run command.dump command.save r)
+          (laws.runs_are_computed first command.budget run.0 run.1 machine run.3);
+    }
 
 -- a machine whose events can come
 module _ (laws : RunLaws) (size : ℕ) (sized : IsRamSize size) (modules : ModulesLeft)
@@ -83,27 +115,18 @@ module _ (laws : RunLaws) (size : ℕ) (sized : IsRamSize size) (modules : Modul
   holds_after k =
       let begins = laws.runs_begin_as_machines size modules events sized come in
       let machine = laws.runs_stay_machines first_world k begins in
-      let w = (steps k first_world).state in
       record {
+        now = holds_in laws (steps k first_world).state machine;
         sound = laws.runs_stay_sound size modules events k sized;
-        loads = λ m s h. (loads_exactly s m, loads_in_tell w h);
-        modules = leaves_modules w;
-        bound = λ stub. (is_bound_in w stub, all_bound w stub);
         stubs = λ stub. laws.stubs_are_followed size modules events k stub sized;
         reported = λ stub bound. laws.runs_tell_stubs first_world k stub begins (inr bound);
-        leaves = λ stub. laws.stubs_leave_with_their_line w stub machine;
         switches = laws.runs_switch_by_dispatch size modules events k sized;
         strict = strict_after k;
         taken = λ id. laws.running_threads_were_taken size modules events k id sized;
         counted = laws.runs_are_counted size modules events k sized;
         delivered = laws.runs_are_delivered size modules events k sized;
-        objects = λ kind. laws.steps_keep_objects w kind machine;
-        on_time = laws.runs_are_on_time w;
         awake = awake_after k;
-        next = laws.next_coming_is_least w.iop;
         events = laws.runs_keep_events size modules events k;
-        due = laws.steps_take_their_events w;
-        changed = laws.events_change_their_lines w.iop;
       }
 
 -- the run of a command by a script whose events can come
@@ -113,16 +136,9 @@ holds_of_run laws command script files come =
     let size = ram_bytes command.ram in
     let sized = ram_sized command.ram in
     let modules = none_loaded script (modules_to_load command.generate files) in
-    let first = machine_of command script files in
     let begins = laws.runs_begin_as_machines size modules script.events sized come in
-    let run = laws.runs_end first command.budget begins in
     record {
-      steps_taken = run.0;
-      most = run.2;
-      stop = run.1;
-      ends = run.3;
-      outcome = ap (λ (r : Ran). outcome_of_run command.dump r)
-          (laws.runs_are_computed first command.budget run.0 run.1 begins run.3);
+      ends = ends_as laws command (machine_of command script files) begins;
       states = holds_after laws size sized modules script.events come;
     }
 
@@ -170,18 +186,31 @@ module _ (told : FilesTold) where
   rest_short None names short = short
   rest_short (Some name) names short = All-tail IsShortFile name names short
 
-holds_of_words : RunLaws → (words : List (List ℕ)) (told : FilesTold) (command : Command)
-    → command_of words ≡ Some command → AreGoodFiles command told
+-- the files of a run that begins are short
+short_inputs : (told : FilesTold) (command : Command) → command.restore ≡ None
+    → AreGoodFiles command told → All (IsShortFile told) (inputs_of command)
+short_inputs told command begins good =
+    let first = kind_by command.script in
+    subst (λ n. All (λ name. length (file_named told name) ≤ n) (inputs_of command))
+    (longest_input command.script)
+    (subst (λ (restore : Option (List ℕ)).
+    All (λ name. length (file_named told name) ≤ longest (first_by restore first))
+    (files_by restore (inputs_of command))) begins good.short)
+
+pub holds_of_words : RunLaws → (words : List (List ℕ)) (told : FilesTold) (command : Command)
+    → command_of words ≡ Some command → command.restore ≡ None → AreGoodFiles command told
     → HoldsOfWords words told command
-holds_of_words laws words told command is good =
+holds_of_words laws words told command is begins good =
     let files = map (named_file told) command.modules in
-    let read = is_read told command.script command.modules good.short good.script in
+    let inputs = short_inputs told command begins good in
+    let read = is_read told command.script command.modules inputs good.script in
     let short = none_too_long files (All-map IsNotLong (named_file told) command.modules
-    (rest_short told command.script command.modules good.short)) in
+    (rest_short told command.script command.modules inputs)) in
     record {
       script = read.script;
       is_script = read.is;
       outcome = ap (outcome_named told) is
+          ∙ ap (outcome_from_files told command) begins
           ∙ ap (λ r. outcome_behind command r files) read.is
           ∙ ap (λ o. outcome_by command o read.script files) short;
       run = holds_of_run laws command read.script files read.come;
@@ -210,7 +239,7 @@ come_from (Some named) script is =
     come_by named (nat_lt LONGEST_FILE (length named.file)) (script_of named.file) script refl refl
     is
 
-holds_of_files : RunLaws → (command : Command) (script_file : Option NamedFile)
+pub holds_of_files : RunLaws → (command : Command) (script_file : Option NamedFile)
     (files : List NamedFile) (script : Script) → script_by script_file ≡ Ok script
     → HoldsOfFiles command script_file files script
 holds_of_files laws command script_file files script is = record {
@@ -219,6 +248,3 @@ holds_of_files laws command script_file files script is = record {
       ∙ ap (λ o. outcome_by command o script files) short;
   run = holds_of_run laws command script files (come_from script_file script is);
 }
-
-pub headline : RunLaws → Headline
-headline laws = record { words = holds_of_words laws; files = holds_of_files laws }

@@ -10,15 +10,21 @@ use Rattle.iop_ports.specs.Files.{FilesTold, IsAskedName, Asked, Untold, NoName,
 use Rattle.iop_front.specs.Answers.{FilesRead, AreFilesOf, IsNameAsked}
 use Rattle.iop_front.specs.Outcome.{OpensAndReads, OpensInOrder, IsGoodFile, MayGoOn, none, more, read_limit, first_too_long}
 use Rattle.iop_front.specs.Reading.{file_named}
-use Rattle.iop_front.specs.Named.{FileKind, AsModule}
+use Rattle.iop_front.specs.Named.{FileKind, AsScript, AsModule, AsSnapshot, longest}
+
+-- as much of every file may be read as of a module's
+pub room_for : (kind : FileKind) {room : ℕ} → room ≡ read_limit → room ≤ longest kind + 1
+room_for AsScript limit = omega (arith, limit)
+room_for AsModule limit = omega (arith, limit)
+room_for AsSnapshot limit = omega (arith, limit)
 
 -- the fronts of the files of these names
 abbrev files_in : (List ℕ → Option (List ℕ)) → List (List ℕ) → List NamedFile
 files_in content names =
     map (λ name. record { name = name; file = take read_limit (unwrap_or (content name) []) }) names
 
-content_then : {name : List ℕ} {faults : ℕ} {old new : FilesTold}
-    → OpensAndReads name faults old new → new.content ≡ old.content
+content_then : {kind : FileKind} {name : List ℕ} {faults : ℕ} {old new : FilesTold}
+    → OpensAndReads kind name faults old new → new.content ≡ old.content
 content_then h = ap (λ (files : FilesTold). files.content) h.files
 
 -- the content stays
@@ -130,8 +136,8 @@ asked_then (Named other) name None = refl
 asked_then (Named other) name (Some bytes) = refl
 
 module _ (faults : ℕ) where
-  asked_by_reading : {name : List ℕ} {old new : FilesTold} → OpensAndReads name faults old new
-      → IsNameAsked name faults new
+  asked_by_reading : {kind : FileKind} {name : List ℕ} {old new : FilesTold}
+      → OpensAndReads kind name faults old new → IsNameAsked name faults new
   asked_by_reading {name = name} {old = old} h =
       subst (IsNameAsked name faults) (sym h.files)
       (asked_then old.asked name (old.content name), refl)
@@ -151,8 +157,9 @@ module _ (faults : ℕ) where
   name_asked kind before name (Some files) None h = tt
   name_asked kind before name (Some files) (Some after) h = asked_last before name h
 
-  stray_not : {name : List ℕ} {old new : FilesTold} → OpensAndReads name faults old new
-      → IsSome (old.content name) → new.strays ≡ old.strays
+  stray_not : {kind : FileKind} {name : List ℕ} {old new : FilesTold}
+      → OpensAndReads kind name faults old new → IsSome (old.content name)
+      → new.strays ≡ old.strays
   stray_not {name = name} {old = old} h some =
       let there : is_some (old.content name) ≡ true = some in
       ap (λ (files : FilesTold). files.strays) h.files
@@ -230,8 +237,8 @@ abbrev IsLongOf : List ℕ → ℕ → FilesTold → FilesTold → Type 0
 IsLongOf name faults old new =
     IsNameAsked name faults new × (LONGEST_FILE < length (file_named old name))
 
-long_alone : {name : List ℕ} {faults : ℕ} {old new : FilesTold} (long : NamedFile)
-    → OpensAndReads name faults old new
+long_alone : {kind : FileKind} {name : List ℕ} {faults : ℕ} {old new : FilesTold}
+    (long : NamedFile) → OpensAndReads kind name faults old new
     → nat_lt LONGEST_FILE (length (take read_limit (file_named old name))) ≡ true
     → name ≡ long.name → IsLongOf long.name faults old new
 long_alone {name = name} {faults = faults} {old = old} {new = new} long h is_long same =

@@ -1,12 +1,12 @@
 -- The modules that a command names are few and short, and those that were read have room in the
 -- machine, each with its words of the script.
-use Rattle.std.proofs.Common.{◌≡◌, ℕ, suc, ◌+◌, ◌≤◌, ◌==◌, bytes_eq, Bool, true, false, cond, Option, Some, None, IfSome, option_map, unwrap_or, MatchOption, List, [], ◌∷◌, All, map, find, length, refl, sym, subst, arith}
+use Rattle.std.proofs.Common.{◌≡◌, ℕ, suc, ◌+◌, ◌≤◌, ◌==◌, bytes_eq, Bool, true, false, cond, Option, Some, None, IfSome, option_map, unwrap_or, List, [], ◌∷◌, All, map, find, length, refl, sym, subst, arith}
 use Rattle.std.proofs.lemmas.List.{length-append, length-map}
 use Rattle.std.proofs.lemmas.List.Elements.{All-nil, All-cons, All-head, All-tail}
 use Rattle.std.proofs.lemmas.List.Sums.{sum_by-cons}
 use Rattle.std.specs.Option.{option_or}
 use Rattle.iop_machine.specs.Modules.{NamedFile, HasRoom, modules_from, strings}
-use Rattle.iop_options.specs.Commands.{AreModules}
+use Rattle.iop_options.specs.Commands.{HasOneSource}
 use Rattle.iop_options.specs.declared.limits.TheConstants.{LONGEST_WORD}
 use Rattle.iop_script.specs.Laws.{FitBlock, CanRun, bytes_of_words}
 use Rattle.iop_script.specs.Scripts.{Args, Named, Script, words_of_number, words_of_name, words_for}
@@ -25,14 +25,22 @@ unmap f P (x ∷ xs) h =
     All-cons (λ x. P (f x)) x xs (All-head P (f x) (map f xs) h)
     (unmap f P xs (All-tail P (f x) (map f xs) h))
 
--- the modules that a command names are few and short, and none where one is generated
-modules_short : (generate : Option ℕ) (words : List (List ℕ))
-    → MatchOption generate (AreModules words) (λ workers. words ≡ [])
+-- no words are few and short
+no_words_short : (words : List (List ℕ)) → words ≡ []
     → (length words ≤ MOST_MODULES) × All IsShortWord words
-modules_short None words h = (h.few, h.short)
-modules_short (Some workers) words none =
+no_words_short words none =
     subst (λ words. (length words ≤ MOST_MODULES) × All IsShortWord words) (sym none)
     (omega arith, All-nil IsShortWord)
+
+-- the modules that a command names are few and short, and none where one is generated, or where it
+-- goes on from a snapshot
+modules_short : (generate : Option ℕ) (restore : Option (List ℕ)) (words : List (List ℕ))
+    → HasOneSource generate restore words
+    → (length words ≤ MOST_MODULES) × All IsShortWord words
+modules_short None None words h = (h.few, h.short)
+modules_short None (Some name) words none = no_words_short words none
+modules_short (Some workers) None words none = no_words_short words none
+modules_short (Some workers) (Some name) words never = absurd never
 
 -- the words as the program holds them
 pub record AreShortWords {S : Type 0} (bytes : S → List ℕ) (words : List S) : Type 0 where
@@ -40,11 +48,11 @@ pub record AreShortWords {S : Type 0} (bytes : S → List ℕ) (words : List S) 
   pub short : All (λ word. IsShortWord (bytes word)) words
 
 -- those of a command are few and short
-pub words_short : {S : Type 0} (bytes : S → List ℕ) (generate : Option ℕ) (words : List S)
-    → MatchOption generate (AreModules (map bytes words)) (λ workers. map bytes words ≡ [])
-    → AreShortWords bytes words
-words_short bytes generate words h =
-    let short = modules_short generate (map bytes words) h in
+pub words_short : {S : Type 0} (bytes : S → List ℕ) (generate : Option ℕ)
+    (restore : Option (List ℕ)) (words : List S)
+    → HasOneSource generate restore (map bytes words) → AreShortWords bytes words
+words_short bytes generate restore words h =
+    let short = modules_short generate restore (map bytes words) h in
     record {
       few = subst (λ n. n ≤ MOST_MODULES) (length-map words bytes) short.0;
       short = unmap bytes IsShortWord words short.1;

@@ -11,7 +11,7 @@ use Rattle.iop_script.specs.declared.fault.ScriptFault.{ScriptFault}
 use Rattle.iop_script.specs.declared.fault.ScriptFault.TheVariants.{Line, Memory}
 use Rattle.iop_front.specs.Inputs.{Seen, HasTaken, HasStopped, HasScript, HasInputs, IsScriptOf, unread_of}
 use Rattle.iop_front.specs.Outcome.{IsGoodFile}
-use Rattle.iop_front.specs.Named.{FileKind, AsScript, AsModule, kind_by, first_kind, files_of}
+use Rattle.iop_front.specs.Named.{FileKind, AsScript, AsModule, AsSnapshot, kind_by, inputs_of}
 use Rattle.iop_front.specs.declared.unread.Unread.{Unread}
 use Rattle.iop_front.proofs.OpeningLemmas.{IsNotLong, AreFollowed}
 use Rattle.iop_front.proofs.TakingLemmas.{takes_none, takes-append, stops_short, stops_bad, stops_behind}
@@ -54,6 +54,7 @@ script_good : (kind : FileKind) (file : List ℕ) (script : Script) → script_o
     → IsGoodFile kind file
 script_good AsScript file script e = ap is_ok e
 script_good AsModule file script e = tt
+script_good AsSnapshot file script e = tt
 
 -- so the modules' may be read behind it
 script_followed : (name : Option (List ℕ)) (file : Option NamedFile) (script : Script)
@@ -73,7 +74,7 @@ module _ (command : Command) (script : Script) (old between new : Seen)
   inputs_read modules k = record {
     file = h.file;
     has_file = h.has_file;
-    taken = takes-append (first_kind command) (option_to_list command.script) command.modules
+    taken = takes-append (kind_by command.script) (option_to_list command.script) command.modules
         (option_to_list h.file) modules old between new (script_short h.file script h.says)
         (script_followed command.script h.file script h.has_file h.says) h.taken k;
     says = h.says;
@@ -82,10 +83,10 @@ module _ (command : Command) (script : Script) (old between new : Seen)
   -- or one was not
   pub stops_behind_script : (unread : Unread)
       → HasStopped AsModule command.modules unread between new
-      → HasStopped (first_kind command) (files_of command) unread old new
+      → HasStopped (kind_by command.script) (inputs_of command) unread old new
   stops_behind_script unread k =
       let script_names = option_to_list command.script in
-      stops_behind (first_kind command) (files_of command) script_names command.modules []
+      stops_behind (kind_by command.script) (inputs_of command) script_names command.modules []
       (option_to_list h.file) old between new
       (ap (λ t. script_names ++ t) (sym (append-nil command.modules))) h.taken
       (script_short h.file script h.says)

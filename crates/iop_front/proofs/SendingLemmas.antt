@@ -6,6 +6,7 @@ use Rattle.iop_base.specs.Output.{Output, StopsShort, FailsAt, extended}
 use Rattle.iop_base.proofs.Giving.{extended-nil, console_of-append}
 use Rattle.iop_ports.specs.Sinks.{SinkTold, Sends}
 use Rattle.iop_trace.specs.Outs.{Leaves, output_with}
+use Rattle.iop_front.specs.Keeping.{Written}
 use Rattle.iop_front.specs.Outcome.{Refuses}
 
 -- it leaves this
@@ -122,6 +123,7 @@ console_by true old new pieces traced h = short_console old new pieces traced h
 console_by false old new pieces traced h = whole_console old new pieces traced h
 
 -- a refusal writes nothing to the console
-pub refusal_console : (line : List ℕ) (old new : Output) → Refuses line old new
-    → ConsoleSame old new
-refusal_console line old new h = console_by h.0 old new (Traced line ∷ []) tt h.1
+pub refusal_console : (line : List ℕ) (old new : Written) → Refuses line old new
+    → ConsoleSame old.output new.output
+refusal_console line old new h =
+    console_by h.failed old.output new.output (Traced line ∷ []) tt h.leaves

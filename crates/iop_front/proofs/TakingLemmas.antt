@@ -20,7 +20,7 @@ use Rattle.iop_front.specs.Reading.{HasRead, file_named, opened_with, left_after
 use Rattle.iop_front.specs.Named.{FileKind, AsScript, AsModule}
 use Rattle.iop_front.specs.declared.unread.Unread.{Unread}
 use Rattle.iop_front.specs.declared.unread.Unread.TheVariants.{Unreadable, TooLong, BadScript, NoMemory}
-use Rattle.iop_front.proofs.OpeningLemmas.{IsNotLong, AreFollowed, read_none, read-append, are_files-append}
+use Rattle.iop_front.proofs.OpeningLemmas.{IsNotLong, AreFollowed, read_none, read-append, are_files-append, room_for}
 
 -- the files of short modules are not too long
 pub files_short : (files : List NamedFile) → All IsShort files → All IsNotLong files
@@ -185,7 +185,7 @@ module _ (kind : FileKind) (names more : List (List ℕ)) (old new : Seen) where
 -- one file was opened, and read as far as there was room
 module _ (kind : FileKind) (name : List ℕ) (room faults : ℕ) (limit : room ≡ read_limit) where
   opened_alone : (files after : FilesTold) (new : Option FilesTold)
-      → OpensAndReads name faults files after → new ≡ Some after
+      → OpensAndReads kind name faults files after → new ≡ Some after
       → FilesRead kind (name ∷ []) faults (Some files) new
   opened_alone files after new h e =
       subst (FilesRead kind (name ∷ []) faults (Some files)) (sym e) (more h tt none)
@@ -205,16 +205,17 @@ module _ (kind : FileKind) (name : List ℕ) (room faults : ℕ) (limit : room �
   file_read len bytes (Some files) new h =
       opened_alone files
       (opened_with name true faults (drop room (file_named files name)) files) new
-      (record { opens = true; taken = room; within = omega (arith, limit); files = refl }) h.2
+      (record { opens = true; taken = room; within = room_for kind limit; files = refl }) h.2
 
   file_unread : (failed : Failed) (bytes : List ℕ) (old new : Option FilesTold)
       → HasRead name room faults (Err failed) bytes old new
       → FilesRead kind (name ∷ []) faults old new
   file_unread failed bytes None new h = h
   file_unread failed bytes (Some files) new h =
+      let most = room_for kind limit in
       opened_alone files
       (opened_with name h.0 faults (left_after name h.0 h.1 files) files) new
-      (record { opens = h.0; taken = h.1; within = omega (arith, limit, h.2); files = refl }) h.3
+      (record { opens = h.0; taken = h.1; within = omega (arith, most, h.2); files = refl }) h.3
 
 -- it was read whole, as far as there was room
 pub takes_one : (kind : FileKind) (name bytes : List ℕ) (room len : ℕ) (old new : Seen)

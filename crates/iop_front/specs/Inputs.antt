@@ -11,7 +11,7 @@ use Rattle.iop_options.specs.declared.limits.TheConstants.{LONGEST_WORD}
 use Rattle.iop_front.specs.declared.unread.Unread.{Unread}
 use Rattle.iop_front.specs.declared.unread.Unread.TheVariants.{Unreadable, TooLong, BadScript, NoMemory}
 use Rattle.iop_options.specs.Commands.{Command}
-use Rattle.iop_front.specs.Named.{FileKind, AsScript, kind_by, first_kind, files_of}
+use Rattle.iop_front.specs.Named.{FileKind, AsScript, kind_by, inputs_of}
 use Rattle.iop_script.specs.Reading.{BadLine, empty_script, script_of}
 use Rattle.iop_script.specs.Scripts.{Script}
 use Rattle.iop_script.specs.declared.fault.ScriptFault.{ScriptFault}
@@ -42,8 +42,8 @@ GoesOn kind [] = Unit {0}
 GoesOn kind (first ∷ []) = Unit {0}
 GoesOn kind (first ∷ next ∷ files) = IsGoodFile kind first.file
 
--- these files were opened and read, one after the other, the first as one of this kind and the others
--- as modules, and no call failed
+-- these files were opened and read, one after the other, the first as one of this kind and the
+-- others as modules, and no call failed
 pub record HasTaken (kind : FileKind) (names : List (List ℕ)) (files : List NamedFile)
     (old new : Seen) : Type 0 where
   pub are_files : AreFilesOf names files old.told
@@ -116,11 +116,12 @@ pub record HasScript (name : Option (List ℕ)) (script : Script) (old new : See
   pub taken : HasTaken (kind_by name) (option_to_list name) (option_to_list file) old new
   pub says : IsScriptOf file script
 
--- the files of a command were read, all of them: its script's, if it has one, and its modules'
+-- the files of a command whose run begins were read, all of them: its script's, if it has one, and
+-- its modules'
 pub record HasInputs (command : Command) (script : Script) (modules : List NamedFile)
     (old new : Seen) : Type 0 where
   pub file : Option NamedFile
   pub has_file : is_some file ≡ is_some command.script
-  pub taken : HasTaken (first_kind command) (files_of command) (option_to_list file ++ modules)
+  pub taken : HasTaken (kind_by command.script) (inputs_of command) (option_to_list file ++ modules)
       old new
   pub says : IsScriptOf file script

@@ -1,9 +1,11 @@
 pub mod Answers
 pub mod Headline
 pub mod Inputs
+pub mod Keeping
 pub mod Loadings
 pub mod Named
 pub mod Outcome
 pub mod Promises
 pub mod Reading
+pub mod Snapshots
 pub mod Statuses

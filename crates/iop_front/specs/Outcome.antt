@@ -3,13 +3,14 @@
 use Rattle.std.specs.Prelude.{◌≡◌, ◌⊎◌, ℕ, ◌+◌, ◌≤◌, nat_lt, Bool, true, false, not, if◌then◌else◌, Option, Some, None, option_map, unwrap_or, Result, Ok, Err, is_ok, List, [], ◌∷◌}
 use Rattle.std.specs.Prelude.{◌++◌, codes, decimal, find, length, map}
 use Rattle.iop_base.specs.Piece.{Piece, Traced}
-use Rattle.iop_base.specs.Output.{Output}
 use Rattle.iop_base.specs.Text.{line_bytes}
 use Rattle.iop_base.specs.declared.line.Line.TheVariants.{End}
 use Rattle.iop_base.specs.declared.stop.Stop.{Stop}
+use Rattle.iop_base.specs.declared.stop.Stop.TheVariants.{Budget}
 use Rattle.iop_machine.specs.Modules.{NamedFile, none_loaded}
+use Rattle.iop_machine.specs.Restoring.{iop_in, is_savable_at, machine_in, snap}
 use Rattle.iop_machine.specs.Stepping.{Ran, run_of}
-use Rattle.iop_machine.specs.World.{World, beginning}
+use Rattle.iop_machine.specs.World.{World, beginning, booted}
 use Rattle.iop_modload.specs.declared.limits.TheConstants.{LONGEST_FILE}
 use Rattle.iop_ports.specs.Files.{FilesTold}
 use Rattle.iop_ports.specs.Sinks.{SinkTold}
@@ -18,24 +19,33 @@ use Rattle.iop_script.specs.Scripts.{Script}
 use Rattle.iop_trace.specs.Dumps.{dump_lines}
 use Rattle.iop_trace.specs.Outs.{Leaves, output_with}
 use Rattle.iop_ram.specs.Windows.{window_of}
+use Rattle.iop_saved_machine.specs.Back.{MachineState}
 use Rattle.iop_generator.specs.Sources.{source, file_of_source}
 use Rattle.iop_options.specs.Values.{DumpRange, ram_bytes}
 use Rattle.iop_front.specs.declared.status.Status.{Status}
-use Rattle.iop_front.specs.declared.status.Status.TheVariants.{BadWords, BadScript, TooLong, SinkFault, NoMemory}
+use Rattle.iop_front.specs.declared.status.Status.TheVariants.{BadSnapshot, BadWords, BadScript, TooLong, SinkFault, NoMemory}
 use Rattle.iop_options.specs.Commands.{Command}
-use Rattle.iop_front.specs.Named.{FileKind, AsScript, AsModule}
+use Rattle.iop_front.specs.Keeping.{KeptFile, Keeps, Written}
+use Rattle.iop_front.specs.Named.{FileKind, AsScript, AsModule, AsSnapshot, longest}
 use Rattle.iop_front.specs.Reading.{file_named, opened_with, left_after}
 use Rattle.iop_front.specs.Statuses.{status_code, status_of}
 
--- the pieces for the console and the trace; the status where no write fails, and where one does
+-- the pieces for the console and the trace; the status where no write fails, and where one of these
+-- does; and the file that is kept behind them, if one is
 pub record Outcome : Type 0 where
   pub pieces : List Piece
   pub status : Status
   pub status_if_cut : Status
+  pub kept : Option KeptFile
 
 -- a refusal is one line on the trace; where its write fails, the status stays
 abbrev pub refusal : Status → List ℕ → Outcome
-refusal status line = record { pieces = Traced line ∷ []; status = status; status_if_cut = status }
+refusal status line = record {
+  pieces = Traced line ∷ [];
+  status = status;
+  status_if_cut = status;
+  kept = None;
+}
 
 abbrev pub bad_words_line : List ℕ
 bad_words_line = codes "iop: bad words\n"
@@ -47,9 +57,13 @@ bad_script_line number = codes "iop: script line " ++ decimal number ++ codes "\
 abbrev pub cannot_read_line : List ℕ → List ℕ
 cannot_read_line name = codes "iop: cannot read " ++ name ++ codes "\n"
 
-abbrev pub too_long_line : List ℕ → List ℕ
-too_long_line name =
-    codes "iop: " ++ name ++ (codes " is over " ++ decimal LONGEST_FILE ++ codes " bytes\n")
+-- of a file that may have so many bytes
+abbrev pub too_long_line : (most : ℕ) → List ℕ → List ℕ
+too_long_line most name =
+    codes "iop: " ++ name ++ (codes " is over " ++ decimal most ++ codes " bytes\n")
+
+abbrev pub bad_snapshot_line : List ℕ → List ℕ
+bad_snapshot_line name = codes "iop: bad snapshot " ++ name ++ codes "\n"
 
 -- the lines of a dump, if one is asked for
 abbrev pub dump_pieces : (ram : List ℕ) → Option DumpRange → List Piece
@@ -62,13 +76,35 @@ abbrev pub ending_of : Option DumpRange → World → Stop → List Piece
 ending_of dump world stop = Traced (line_bytes world.iop.kernel.clock (End stop))
     ∷ dump_pieces world.iop.memory.ram dump
 
+-- whether a run that ended so, in this state, can be resumed
+abbrev pub can_be_resumed : Stop → World → Bool
+can_be_resumed Budget world = is_savable_at world.iop.kernel.clock
+can_be_resumed stop world = false
+
+-- the bytes of a machine's snapshot
+unfoldable pub snapshot_of : World → List ℕ
+snapshot_of world = snap world.iop
+
+-- the snapshot of a run's end, under a name, if one is asked for and the run can be resumed
+abbrev pub kept_of : (save : Option (List ℕ)) → World → Stop → Option KeptFile
+kept_of None world stop = None
+kept_of (Some name) world stop =
+    if can_be_resumed stop world
+    then Some (record { name = name; bytes = snapshot_of world }) else None
+
 -- of a run
-abbrev pub outcome_of_run : Option DumpRange → Ran → Outcome
-outcome_of_run dump ran = record {
+abbrev pub outcome_of_run : Option DumpRange → (save : Option (List ℕ)) → Ran → Outcome
+outcome_of_run dump save ran = record {
   pieces = ran.pieces ++ ending_of dump ran.world ran.stop;
   status = status_of ran.stop;
   status_if_cut = SinkFault;
+  kept = kept_of save ran.world ran.stop;
 }
+
+-- of a command's run from a machine
+abbrev pub outcome_from : Command → World → Outcome
+outcome_from command world =
+    outcome_of_run command.dump command.save (run_of command.budget world)
 
 -- the generated module, by the number of its workers
 abbrev pub generated_module : ℕ → NamedFile
@@ -82,11 +118,11 @@ abbrev pub modules_to_load : (generate : Option ℕ) → List NamedFile → List
 modules_to_load None files = files
 modules_to_load (Some workers) files = generated_module workers ∷ []
 
--- the run of the machine that loads the modules, one after the other, as the command and the script say
+-- the run of the machine that loads the modules, one after the other, as the command and the script
+-- say
 abbrev pub outcome_of_modules : Command → Script → List NamedFile → Outcome
-outcome_of_modules command script files = outcome_of_run command.dump (run_of command.budget
-    (beginning (ram_bytes command.ram)
-    (none_loaded script (modules_to_load command.generate files)) script.events))
+outcome_of_modules command script files = outcome_from command (beginning (ram_bytes command.ram)
+    (none_loaded script (modules_to_load command.generate files)) script.events)
 
 -- the first file that is too long
 abbrev pub first_too_long : List NamedFile → Option NamedFile
@@ -94,7 +130,7 @@ first_too_long files = find (λ named. nat_lt LONGEST_FILE (length named.file)) 
 
 -- it decides, and else the modules are run
 abbrev pub outcome_by : Command → Option NamedFile → Script → List NamedFile → Outcome
-outcome_by command (Some long) script files = refusal TooLong (too_long_line long.name)
+outcome_by command (Some long) script files = refusal TooLong (too_long_line LONGEST_FILE long.name)
 outcome_by command None script files = outcome_of_modules command script files
 
 -- of the files of modules, in order
@@ -109,7 +145,8 @@ script_read (Err bad) = Err (refusal BadScript (bad_script_line bad.number))
 -- the script of a file, or the refusal of the file: it is too long, or has a bad line
 abbrev pub script_from : NamedFile → Result Script Outcome
 script_from named =
-    if nat_lt LONGEST_FILE (length named.file) then Err (refusal TooLong (too_long_line named.name))
+    if nat_lt LONGEST_FILE (length named.file)
+    then Err (refusal TooLong (too_long_line LONGEST_FILE named.name))
     else script_read (script_of named.file)
 
 -- of the script's file, if there is one; else nothing is said
@@ -126,57 +163,83 @@ outcome_behind command (Ok script) files = outcome_of_files command script files
 abbrev pub outcome_of_inputs : Command → Option NamedFile → List NamedFile → Outcome
 outcome_of_inputs command script files = outcome_behind command (script_by script) files
 
+-- of what a snapshot's file is a snapshot of, if it is one: it goes on
+abbrev pub outcome_restored : Command → (name : List ℕ) → Option MachineState → Outcome
+outcome_restored command name None = refusal BadSnapshot (bad_snapshot_line name)
+outcome_restored command name (Some m) = outcome_from command (booted (iop_in m))
+
+-- of the file of a snapshot
+abbrev pub outcome_of_snapshot : Command → NamedFile → Outcome
+outcome_of_snapshot command named =
+    if nat_lt (longest AsSnapshot) (length named.file)
+    then refusal TooLong (too_long_line (longest AsSnapshot) named.name)
+    else outcome_restored command named.name (machine_in named.file)
+
 -- the file of a name; a name that the content does not have counts as an empty file
 abbrev pub named_file : FilesTold → List ℕ → NamedFile
 named_file told name = record { name = name; file = file_named told name }
 
--- the outcome of a command, by what the words are
-abbrev pub outcome_named : FilesTold → Option Command → Outcome
-outcome_named told None = refusal BadWords bad_words_line
-outcome_named told (Some command) =
+-- the outcome of a command, by whether it goes on from a snapshot
+abbrev pub outcome_from_files : FilesTold → Command → (restore : Option (List ℕ)) → Outcome
+outcome_from_files told command None =
     outcome_of_inputs command (option_map (named_file told) command.script)
     (map (named_file told) command.modules)
+outcome_from_files told command (Some name) = outcome_of_snapshot command (named_file told name)
+
+-- and by what the words are
+abbrev pub outcome_named : FilesTold → Option Command → Outcome
+outcome_named told None = refusal BadWords bad_words_line
+outcome_named told (Some command) = outcome_from_files told command command.restore
 
 -- the pieces are on the trace, or stop short where a write failed, by whether all are whole
 abbrev pub TraceLeaves : Bool → SinkTold → SinkTold → List Piece → Type 0
 TraceLeaves whole old new pieces = (console : SinkTold)
     → Leaves (not whole) (output_with console old false []) (output_with console new false []) pieces
 
--- a refusal's line was written to the trace, or a front of it, and a write failed
-abbrev pub Refuses : List ℕ → Output → Output → Type 0
-Refuses line old new = (failed : Bool) × Leaves failed old new (Traced line ∷ [])
+-- a refusal's line was written to the trace, or a front of it, and a write failed; the keep was not
+-- called
+pub record Refuses (line : List ℕ) (old new : Written) : Type 0 where
+  pub failed : Bool
+  pub leaves : Leaves failed old.output new.output (Traced line ∷ [])
+  pub keep : new.keep ≡ old.keep
 
--- the outcome came: all its pieces are there, or they stop short where a write failed
-abbrev pub Comes : Outcome → Status → Output → Output → Type 0
-Comes outcome status old new =
-    (failed : Bool)
-    × (status ≡ (if failed then outcome.status_if_cut else outcome.status))
-    × Leaves failed old new outcome.pieces
+-- the outcome came: all its pieces are there, and its file is kept; or they stop short where a
+-- write failed, and the keep was not called; or they are there, and the file is not kept whole
+pub data Comes (outcome : Outcome) (status : Status) (old new : Written) : Type 0 where
+  all_written : status ≡ outcome.status → Leaves false old.output new.output outcome.pieces
+      → Keeps outcome.kept true old.keep new.keep → Comes outcome status old new
+  cut_short : status ≡ outcome.status_if_cut → Leaves true old.output new.output outcome.pieces
+      → new.keep ≡ old.keep → Comes outcome status old new
+  not_kept : status ≡ SinkFault → Leaves false old.output new.output outcome.pieces
+      → Keeps outcome.kept false old.keep new.keep → Comes outcome status old new
 
 -- or there was no memory, and nothing was written
-abbrev pub Meets : Outcome → Status → Output → Output → Type 0
+abbrev pub Meets : Outcome → Status → Written → Written → Type 0
 Meets outcome status old new = ((status ≡ NoMemory) × (new ≡ old)) ⊎ Comes outcome status old new
 
 -- the same of the exit status
-abbrev pub MeetsCode : Outcome → ℕ → Output → Output → Type 0
+abbrev pub MeetsCode : Outcome → ℕ → Written → Written → Type 0
 MeetsCode outcome code old new =
     (status : Status) × (code ≡ status_code status) × Meets outcome status old new
 
--- how many bytes of a file are read at most: one more than it may have
+-- how many bytes of a script's or a module's file are read at most: one more than it may have
 abbrev pub read_limit : ℕ
 read_limit = LONGEST_FILE + 1
 
--- one file was opened, or its opening failed, and so many bytes of it were read
-pub record OpensAndReads (name : List ℕ) (faults : ℕ) (old new : FilesTold) : Type 0 where
+-- one file was opened as one of this kind, or its opening failed, and so many bytes of it were
+-- read: one more than it may have, at most
+pub record OpensAndReads (kind : FileKind) (name : List ℕ) (faults : ℕ) (old new : FilesTold)
+    : Type 0 where
   pub opens : Bool
   pub taken : ℕ
-  pub within : taken ≤ read_limit
+  pub within : taken ≤ longest kind + 1
   pub files : new ≡ opened_with name opens faults (left_after name opens taken old) old
 
 -- a script has no bad line
 abbrev pub IsGoodFile : (kind : FileKind) → (file : List ℕ) → Type 0
 IsGoodFile AsScript file = is_ok (script_of file) ≡ true
 IsGoodFile AsModule file = Unit {0}
+IsGoodFile AsSnapshot file = Unit {0}
 
 -- another file may be opened behind this one only where it is not too long, and good
 abbrev pub MayGoOn : (kind : FileKind) → (file : List ℕ) → List (List ℕ) → Type 0
@@ -189,6 +252,6 @@ pub data OpensInOrder (faults : ℕ)
     : (kind : FileKind) → List (List ℕ) → FilesTold → FilesTold → Type 0 where
   none : {kind : FileKind} {files : FilesTold} → OpensInOrder faults kind [] files files
   more : {kind : FileKind} {name : List ℕ} {names : List (List ℕ)} {old between new : FilesTold}
-      → OpensAndReads name faults old between → MayGoOn kind (file_named old name) names
+      → OpensAndReads kind name faults old between → MayGoOn kind (file_named old name) names
       → OpensInOrder faults AsModule names between new
       → OpensInOrder faults kind (name ∷ names) old new

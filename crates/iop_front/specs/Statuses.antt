@@ -4,7 +4,7 @@ use Rattle.iop_base.specs.declared.stop.Stop.{Stop}
 use Rattle.iop_base.specs.declared.stop.Stop.TheVariants as stops
 use Rattle.iop_front.specs.declared.status.Status.{Status}
 use Rattle.iop_front.specs.declared.status.Status.TheVariants.{Quiet, Budget, GuestFault, BadWords, BadScript, CannotRead, TooLong}
-use Rattle.iop_front.specs.declared.status.Status.TheVariants.{SinkFault, NoMemory}
+use Rattle.iop_front.specs.declared.status.Status.TheVariants.{SinkFault, BadSnapshot, NoMemory}
 
 abbrev pub status_code : Status → ℕ
 status_code Quiet = 0
@@ -15,6 +15,7 @@ status_code BadScript = 21
 status_code CannotRead = 22
 status_code TooLong = 23
 status_code SinkFault = 24
+status_code BadSnapshot = 25
 status_code NoMemory = 30
 
 -- of a run that ended so, where no write failed
@@ -32,7 +33,8 @@ IsRanCode code = IsRunCode code ⊎ (code ≡ 24)
 
 -- a refusal's
 abbrev pub IsRefusalCode : ℕ → Type 0
-IsRefusalCode code = (code ≡ 20) ⊎ ((code ≡ 21) ⊎ ((code ≡ 22) ⊎ (code ≡ 23)))
+IsRefusalCode code =
+    (code ≡ 20) ⊎ ((code ≡ 21) ⊎ ((code ≡ 22) ⊎ ((code ≡ 23) ⊎ (code ≡ 25))))
 
 -- all that a command answers
 abbrev pub IsExitCode : ℕ → Type 0

@@ -1,4 +1,4 @@
-//! What a command reads before the machine is made: its script and its modules.
+//! What a command whose run begins reads before the machine is made: its script and its modules.
 
 ghost use Rattle.std.specs.Prelude.{◌≡◌, ◌≤◌, Some, [], ◌∷◌, All, IfOk, MatchResult, length, option_to_list};
 ghost use Rattle.iop_script.specs.declared.statements.TheConstants.{MOST_MODULES};
@@ -7,7 +7,7 @@ ghost use Rattle.iop_script.specs.Laws.{CanRun};
 ghost use Rattle.iop_script.specs.Reading.{empty_script};
 ghost use Rattle.iop_front.specs.Inputs.{seen, HasScript, HasInputs, HasStopped, IsShort};
 ghost use Rattle.iop_front.specs.Outcome.{read_limit};
-ghost use Rattle.iop_front.specs.Named.{AsScript, kind_by, first_kind, files_of};
+ghost use Rattle.iop_front.specs.Named.{AsScript, kind_by, inputs_of};
 
 use crate::modules::{read_buffer, read_modules};
 use crate::reading::read_whole;
@@ -86,9 +86,9 @@ fn read_script_of<'a, F: Files>(
     }
 }
 
-/// Reads what a command names: first its script, and then its modules, in order. The first file
-/// that cannot be read or is too long, or a bad line of the script, decides, and no later file is
-/// opened. Where memory is wanting, no further file is opened.
+/// Reads what a command whose run begins names: first its script, and then its modules, in order.
+/// The first file that cannot be read or is too long, or a bad line of the script, decides, and no
+/// later file is opened. Where memory is wanting, no further file is opened.
 #[inline(never)]
 pub(crate) fn read_inputs<'a, F: Files>(
     alloc: Global,
@@ -98,7 +98,7 @@ pub(crate) fn read_inputs<'a, F: Files>(
     ensures read { MatchResult result
         (λ inputs. HasInputs options.now inputs.script inputs.modules.items
         (seen F.told F.faults files.old) (seen F.told F.faults files.new))
-        (λ unread. HasStopped (first_kind options.now) (files_of options.now) unread
+        (λ unread. HasStopped (kind_by options.now.script) (inputs_of options.now) unread
         (seen F.told F.faults files.old) (seen F.told F.faults files.new)) }
     ensures runs { IfOk result (λ inputs. CanRun inputs.script) }
     ensures short_script { IfOk result (λ inputs. ScriptIsShort inputs.script) }

@@ -5,19 +5,24 @@ ghost use Rattle.iop_front.specs.Headline.{Headline};
 
 use iop_machine::laws;
 
-/// For all words that are a command, and files of which none is too long and whose script is good,
-/// the outcome that `iop_main` promises is that of one run: from the machine's beginning with these
-/// modules and this script to its end. So it is of the files that a command has read, also where
-/// the host's files do not tell what they are. In the run a module links exactly where each of its
-/// import tables finds a registered library of its name and major version, each live stub that is
-/// executed goes to its function, each switch runs the first ready thread of the best priority, and
-/// the other laws of states and steps hold (`HoldsAfter`), but for those on the kernel's area and
-/// on what a module begins with.
+/// For all words that are a command whose run begins, and files of which none is too long and whose
+/// script is good, the outcome that `iop_main` promises is that of one run: from the machine's
+/// beginning with these modules and this script to its end. So it is of the files that a command
+/// has read, also where the host's files do not tell what they are. In the run a module links
+/// exactly where each of its import tables finds a registered library of its name and major
+/// version, each live stub that is executed goes to its function, each switch runs the first ready
+/// thread of the best priority, and the other laws of states and steps hold (`HoldsAfter`), but for
+/// those on the kernel's area and on what a module begins with.
+///
+/// For all bytes that are a machine's snapshot, the outcome of a command that goes on from them is
+/// that of the run from this machine. It stays a machine, and what is said of each state of a
+/// machine holds in it (`HoldsIn`); the laws of runs from the beginning are not said of it.
 pub fn headline()
     ensures { Headline }
 {
     laws::events_change_their_lines();
     laws::next_coming_is_least();
+    laws::restored_machines_are_machines();
     laws::running_threads_were_taken();
     laws::runs_are_awake();
     laws::runs_are_computed();

@@ -1,3 +1,5 @@
+//! Reading one file.
+
 ghost use Rattle.std.specs.Prelude.{◌≡◌, ◌≤◌, [], ◌∷◌, length, take, IfOk, OnOk, OnErr, MatchResult};
 ghost use Rattle.iop_modload.specs.declared.limits.TheConstants.{LONGEST_FILE};
 ghost use Rattle.iop_ports.specs.Counts.{HasCause};

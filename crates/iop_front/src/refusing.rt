@@ -1,8 +1,10 @@
 //! The lines of refusals.
 
 ghost use Rattle.std.specs.Prelude.{◌≡◌, ◌++◌, Bool};
+ghost use Rattle.iop_modload.specs.declared.limits.TheConstants.{LONGEST_FILE};
+ghost use Rattle.iop_front.specs.Named.{AsSnapshot, longest};
 ghost use Rattle.iop_ports.specs.Sinks.{Sends};
-ghost use Rattle.iop_front.specs.Outcome.{bad_script_line, cannot_read_line, too_long_line};
+ghost use Rattle.iop_front.specs.Outcome.{bad_script_line, bad_snapshot_line, cannot_read_line, too_long_line};
 
 use crate::status::Status;
 use arrayvec::ArrayVec;
@@ -51,11 +53,31 @@ pub(crate) fn refuse_unread<T: Sink>(name: &str, trace: &mut T) -> Status
 /// Refuses a file that is too long.
 pub(crate) fn refuse_too_long<T: Sink>(name: &str, trace: &mut T) -> Status
     ensures status { result ≡ Status.TooLong }
-    ensures sent { (whole : Bool) × Sends whole (too_long_line name.now)
+    ensures sent { (whole : Bool) × Sends whole (too_long_line LONGEST_FILE name.now)
         (T.told trace.old) (T.told trace.new) }
 {
     let _ = send_named(trace, b"iop: ", name, b" is over 4194304 bytes\n");
     Status::TooLong
+}
+
+/// Refuses a snapshot's file that is too long.
+pub(crate) fn refuse_too_long_snapshot<T: Sink>(name: &str, trace: &mut T) -> Status
+    ensures status { result ≡ Status.TooLong }
+    ensures sent { (whole : Bool) × Sends whole (too_long_line (longest AsSnapshot) name.now)
+        (T.told trace.old) (T.told trace.new) }
+{
+    let _ = send_named(trace, b"iop: ", name, b" is over 301989888 bytes\n");
+    Status::TooLong
+}
+
+/// Refuses a file that is no snapshot.
+pub(crate) fn refuse_bad_snapshot<T: Sink>(name: &str, trace: &mut T) -> Status
+    ensures status { result ≡ Status.BadSnapshot }
+    ensures sent { (whole : Bool) × Sends whole (bad_snapshot_line name.now)
+        (T.told trace.old) (T.told trace.new) }
+{
+    let _ = send_named(trace, b"iop: bad snapshot ", name, b"\n");
+    Status::BadSnapshot
 }
 
 /// Makes the line for a script whose first bad line has this number.

@@ -18,10 +18,12 @@ pub enum Status {
     BadScript,
     /// 22: a file cannot be read.
     CannotRead,
-    /// 23: a file has more than 4,194,304 bytes.
+    /// 23: a file has more than 4,194,304 bytes, or a snapshot's more than 301,989,888.
     TooLong,
-    /// 24: a write to the console or the trace failed.
+    /// 24: a write to the console or the trace failed, or the snapshot could not be written.
     SinkFault,
+    /// 25: a file is no snapshot.
+    BadSnapshot,
     /// 30: stands for want of memory. Nothing was written.
     NoMemory,
 }
@@ -40,6 +42,7 @@ impl Status {
             Status::CannotRead => 22,
             Status::TooLong => 23,
             Status::SinkFault => 24,
+            Status::BadSnapshot => 25,
             Status::NoMemory => 30,
         }
     }

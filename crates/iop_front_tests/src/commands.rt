@@ -2,7 +2,7 @@
 
 use crate::sources::{PLAIN, exports, file_of, hello};
 use iop_front::{Status, iop_main};
-use iop_ports::{MemFiles, MemSink};
+use iop_ports::{MemFiles, MemKeep, MemSink};
 use std::alloc::Global;
 use std::process::Abort;
 use std::test::Fail;
@@ -137,12 +137,21 @@ pub fn answers(
     let mut files = files_of(alloc, faults.files, run.files)?;
     let mut console = sink_of(alloc, faults.room, faults.console)?;
     let mut trace = sink_of(alloc, 100_000, faults.trace)?;
-    let code = iop_main(alloc, words, &mut files, &mut console, &mut trace);
+    let mut keep = MemKeep::new(alloc, 0, Vec::new(alloc))?;
+    let code = iop_main(
+        alloc,
+        words,
+        &mut files,
+        &mut keep,
+        &mut console,
+        &mut trace,
+    );
     if let Some(wanted) = run.trace {
         assert_eq!(rt; trace.bytes(), wanted.as_bytes());
     }
     assert_eq!(rt; code, run.status.code());
     assert_eq!(rt; console.bytes(), run.text.as_bytes());
+    assert_eq!(rt; keep.calls(), 0);
     Ok(Calls {
         files: files.calls(),
         strays: files.strays(),

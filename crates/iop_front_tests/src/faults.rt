@@ -1,11 +1,12 @@
 //! Commands whose files or sinks fail, and such whose cannot.
 
-ghost use Rattle.std.specs.Prelude.{◌≢◌};
+ghost use Rattle.std.specs.Prelude.{◌≡◌, ◌≢◌};
+ghost use Rattle.iop_base.specs.Counts.{HasCause};
 
 use crate::commands::{Calls, Content, Faults, NO_FAULTS, Run, calls_of, made, words_of};
 use crate::sources::{PLAIN, PRINTS_THREE};
 use iop_front::{Status, iop_main};
-use iop_ports::{CountSink, SureFiles, TrickleSink};
+use iop_ports::{CountSink, MemKeep, SureFiles, TrickleSink};
 use std::alloc::Global;
 use std::process::Abort;
 use std::test::Fail;
@@ -99,7 +100,8 @@ fn fails_behind(
     let number = (count as u64).saturating_add(1);
     let mut console = CountSink::new();
     let mut trace = TrickleSink::new(alloc, 100, vec![in alloc; number]?)?;
-    let code = iop_main(alloc, words, files, &mut console, &mut trace);
+    let mut keep = MemKeep::new(alloc, 0, Vec::new(alloc))?;
+    let code = iop_main(alloc, words, files, &mut keep, &mut console, &mut trace);
     let status = if count < PLAIN_TRACE.len() {
         Status::SinkFault
     } else {
@@ -258,19 +260,21 @@ fn each_text_and_line_is_written_at_once(rt: HostRuntime) -> Result<(), Fail> {
     Ok(())
 }
 
-/// Runs a command over files and sinks that cannot fail. That it answers no fault follows from the
-/// clauses of `iop_main`.
+/// Runs a command over files and sinks that cannot fail. That it answers a fault only where the
+/// keep fails follows from the clauses of `iop_main`.
 fn answers_no_fault(
     alloc: Global,
     words: &[String],
     files: &mut SureFiles,
+    keep: &mut MemKeep,
     console: &mut CountSink,
     trace: &mut CountSink,
 ) -> u8
     ensures readable { result ≢ 22 }
-    ensures writable { result ≢ 24 }
+    ensures writable { result ≡ 24
+        → HasCause keep.old.sink.calls.faults keep.new.sink.calls.faults }
 {
-    iop_main(alloc, words, files, console, trace)
+    iop_main(alloc, words, files, keep, console, trace)
 }
 
 #[test]
@@ -281,7 +285,15 @@ fn sure_ports(rt: HostRuntime) -> Result<(), Fail> {
     let mut console = CountSink::new();
     let mut trace = CountSink::new();
     let words = words_of(alloc, "t.irx")?;
-    let code = answers_no_fault(alloc, &words, &mut files, &mut console, &mut trace);
+    let mut keep = MemKeep::new(alloc, 0, Vec::new(alloc))?;
+    let code = answers_no_fault(
+        alloc,
+        &words,
+        &mut files,
+        &mut keep,
+        &mut console,
+        &mut trace,
+    );
     assert_eq!(rt; code, Status::Quiet.code());
     assert_eq!(rt; console.count, 0);
     assert_eq!(rt; trace.count, 72);

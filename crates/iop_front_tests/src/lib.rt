@@ -1,5 +1,5 @@
 //! Tests of iop_front: what commands answer and write, with one file, several files and options,
-//! and where files and sinks fail.
+//! where files and sinks fail, and what goes on from a snapshot.
 #![tactic(auto)]
 
 #[cfg(test)]
@@ -16,6 +16,8 @@ mod several_files;
 mod single_files;
 #[cfg(test)]
 mod sizes;
+#[cfg(test)]
+mod snapshots;
 #[cfg(test)]
 mod sources;
 #[cfg(test)]

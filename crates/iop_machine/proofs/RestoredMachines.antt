@@ -1,14 +1,13 @@
 -- A machine that was read and put back, and can go on, is one.
-use Rattle.std.proofs.Common.{◌≡◌, ℕ, zero, suc, ◌+◌, ◌<◌, ◌≤◌, nat_le, nat_lt, Bool, true, false, is_some, Option, Some, None, option_and_then, List, [], ◌∷◌, length, refl, ap, sym, ◌∙◌, subst, arith}
+use Rattle.std.proofs.Common.{◌≡◌, ℕ, zero, suc, ◌+◌, ◌<◌, ◌≤◌, nat_le, nat_lt, true, false, is_some, Option, Some, None, option_and_then, List, [], ◌∷◌, length, refl, ap, sym, ◌∙◌, subst, arith}
 use Rattle.std.specs.Prelude.{◌&&◌, ◌||◌, All, AllPairs, IfSome}
 use Rattle.std.specs.List.{list_all}
 use Rattle.std.proofs.lemmas.Bool.{and_parts}
 use Rattle.std.proofs.lemmas.Option.{cond_some}
 use Rattle.std.proofs.lemmas.Bool.Decides.{nat_tests}
 use Rattle.std.proofs.lemmas.List.Elements.{All-nil, All-cons}
-use Rattle.iop_exec.specs.declared.cpu.Cpu.{Cpu}
 use Rattle.iop_intr.specs.declared.irqs.TheConstants.{IRQ_LINES}
-use Rattle.iop_kernel.specs.System.{Core, Kernel, in_handler, is_active}
+use Rattle.iop_kernel.specs.System.{Core}
 use Rattle.iop_kernel.specs.declared.active_handler.ActiveHandler.{ActiveHandler}
 use Rattle.iop_modload.specs.declared.limits.TheConstants.{LONGEST_FILE}
 use Rattle.iop_saved_checks.specs.Kernels.{agrees}
@@ -25,14 +24,15 @@ use Rattle.iop_snapshot.specs.Forms.{read_whole}
 use Rattle.iop_snapshot.specs.Reading.{GivesNone}
 use Rattle.iop_snapshot.specs.declared.fault.SnapFault.{SnapFault}
 use Rattle.iop_snapshot.specs.declared.fault.SnapFault.TheVariants.{Bad, Memory}
-use Rattle.iop_thread.specs.States.{zeroed_at}
 use Rattle.iop_time.specs.declared.ticks.TheConstants.{NEVER}
 use Rattle.iop_machine.specs.Events.{CanCome}
 use Rattle.iop_machine.specs.Laws.{IsMachine}
+use Rattle.iop_machine.specs.Loader.{loader_may_go_on}
 use Rattle.iop_machine.specs.Modules.{Module, ModulesLeft, CanBeLeft, HasRoom, modules_of, strings}
 use Rattle.iop_kernel.specs.Registers.{IsBare, nobodys}
 use Rattle.iop_machine.specs.Restoring.{is_savable_at, iop_in, left_in, may_have_taken, may_come, may_come_behind, has_room, may_be_left, may_go_on, if_it_may, machine_in}
 use Rattle.iop_machine.specs.RestoringLaws.{RestoredMachinesAreMachines}
+use Rattle.iop_machine.specs.ScriptWords.{words_may_stand}
 use Rattle.iop_machine.specs.World.{booted}
 use Rattle.iop_machine.specs.declared.arguments.TheConstants.{MOST_WORDS, MOST_WORD_BYTES}
 
@@ -190,6 +190,8 @@ pub record HasPassed (m : MachineState) : Type 0 where
   pub taken : may_have_taken m.system.core.kernel ≡ true
   pub events : may_come_behind 0 m.loading.events ≡ true
   pub left : may_be_left (left_in m.loading) ≡ true
+  pub words : words_may_stand m.loading ≡ true
+  pub loader : loader_may_go_on m ≡ true
 
 pub has_passed : (m : MachineState) → may_go_on m ≡ true → HasPassed m
 has_passed m may =
@@ -198,11 +200,23 @@ has_passed m may =
     let taken = may_have_taken k in
     let events = may_come_behind 0 m.loading.events in
     let left = may_be_left (left_in m.loading) in
-    let moment = and_parts (agreed && taken && events && left) (is_savable_at k.clock) may in
-    let four = and_parts (agreed && taken && events) left moment.0 in
+    let moment = is_savable_at k.clock in
+    let words = words_may_stand m.loading in
+    let seven =
+    and_parts (agreed && taken && events && left && moment && words) (loader_may_go_on m) may in
+    let six = and_parts (agreed && taken && events && left && moment) words seven.0 in
+    let five = and_parts (agreed && taken && events && left) moment six.0 in
+    let four = and_parts (agreed && taken && events) left five.0 in
     let three = and_parts (agreed && taken) events four.0 in
     let two = and_parts agreed taken three.0 in
-    record { agrees = two.0; taken = two.1; events = three.1; left = four.1 }
+    record {
+      agrees = two.0;
+      taken = two.1;
+      events = three.1;
+      left = four.1;
+      words = six.1;
+      loader = seven.1;
+    }
 
 -- bytes that are no parts are no machine
 pub none_read : (bytes : List ℕ) → read_whole machine_form bytes ≡ None

@@ -5,6 +5,8 @@ pub mod Registers
 pub mod Events
 pub mod Looking
 pub mod World
+pub mod Loader
+pub mod ScriptWords
 pub mod Restoring
 pub mod Storing
 pub mod Services

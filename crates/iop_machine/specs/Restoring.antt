@@ -12,6 +12,8 @@ use Rattle.iop_script.specs.declared.statements.TheConstants.{MOST_MODULES}
 use Rattle.iop_snapshot.specs.Forms.{read_whole}
 use Rattle.iop_time.specs.declared.ticks.TheConstants.{NEVER}
 use Rattle.iop_kernel.specs.System.{Kernel}
+use Rattle.iop_machine.specs.Loader.{loader_may_go_on}
+use Rattle.iop_machine.specs.ScriptWords.{words_may_stand}
 use Rattle.iop_machine.specs.Iop.{Iop, system_of}
 use Rattle.iop_machine.specs.Modules.{Module, ModulesLeft, modules_of, strings}
 use Rattle.iop_machine.specs.declared.arguments.TheConstants.{MOST_WORDS, MOST_WORD_BYTES}
@@ -90,13 +92,13 @@ may_be_left left =
     && list_all has_room (modules_of left)
 
 -- whether a machine that was put back can go on: its tables agree, and alarms and delays took
--- instructions; events can come, and modules can be left; and its moment is one at which machines
--- are saved
+-- instructions; events can come, and modules can be left; its moment is one at which machines are
+-- saved; no two lists of words are for one module; and its loader can go on
 abbrev pub may_go_on : MachineState → Bool
 may_go_on m =
     agrees m.system.memory m.system.core.kernel && may_have_taken m.system.core.kernel
     && may_come_behind 0 m.loading.events && may_be_left (left_in m.loading)
-    && is_savable_at m.system.core.kernel.clock
+    && is_savable_at m.system.core.kernel.clock && words_may_stand m.loading && loader_may_go_on m
 
 abbrev pub if_it_may : MachineState → Option MachineState
 if_it_may m = if may_go_on m then Some m else None

@@ -14,7 +14,9 @@ mod machine;
 mod modules_left;
 mod progress;
 mod registers;
+mod restored_loader;
 mod restoring;
+mod script_words;
 mod services;
 mod snapshots;
 

@@ -61,6 +61,7 @@ impl Machine {
             StandsForWorld machine
             (beginning size (none_loaded script modules.items) script.events)) }
         ensures sound { IfOk result IsSoundMachine }
+        ensures at_budget { IfOk result (λ machine. machine.at_budget ≡ false) }
     {
         let left = ModulesLeft::new(1, modules, script.args, script.named);
         let events = Events::new(script.events);

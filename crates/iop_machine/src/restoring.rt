@@ -15,6 +15,8 @@ ghost use Rattle.iop_script.specs.declared.statements.TheConstants.{MOST_MODULES
 
 use crate::arguments::{MOST_WORD_BYTES, MOST_WORDS};
 use crate::modules_left::words_for;
+use crate::restored_loader::loader_may_go_on;
+use crate::script_words::words_may_stand;
 use crate::snapshots::SAVABLE_MOMENTS;
 use iop_intr::IRQ_LINES;
 use iop_kernel::Kernel;
@@ -27,8 +29,8 @@ use iop_script::{Args, MOST_MODULES, Named, Raise, Word};
 use iop_time::NEVER;
 
 /// Says whether a machine that was put back can go on: its tables agree, and alarms and delays took
-/// instructions; events can come, and modules can be left; and its moment is one at which machines
-/// are saved.
+/// instructions; events can come, and modules can be left; its moment is one at which machines are
+/// saved; no two lists of words are for one module; and its loader can go on.
 pub(crate) fn may_go_on(made: &RestoredMachine<KernelReady>) -> bool
     ensures { (m : MachineState) → HoldsMachine KernelStands made.now m → result ≡ may_go_on m }
 {
@@ -37,6 +39,8 @@ pub(crate) fn may_go_on(made: &RestoredMachine<KernelReady>) -> bool
         && events_may_come(&made.loading.events)
         && may_be_left(&made.loading)
         && made.core.kernel.now() < SAVABLE_MOMENTS
+        && words_may_stand(&made.loading)
+        && loader_may_go_on(made)
 }
 
 /// Says whether each alarm and each delay can have taken an instruction.

@@ -91,6 +91,7 @@ impl Machine {
             × (snap (iop_in m) ≡ bytes.now))
             (GivesNone (machine_in bytes.now)) }
         ensures sound { IfOk result IsSoundMachine }
+        ensures at_budget { IfOk result (λ machine. machine.at_budget ≡ true) }
     {
         let made = restore_machine(alloc, KernelReady::new(alloc)?, bytes)?;
         if !may_go_on(&made) {
@@ -105,8 +106,9 @@ impl Machine {
         requires modules { may_be_left (left_in (loading_parts made.loading)) ≡ true }
         requires events { may_come_behind 0 made.loading.events.items ≡ true }
         requires short { LoadingIsShort (loading_parts made.loading) }
-        ensures { (m : MachineState) → HoldsMachine KernelStands made m
+        ensures stands { (m : MachineState) → HoldsMachine KernelStands made m
             → IsPlaced m.system.core.kernel → StandsForWorld result (booted (iop_in m)) }
+        ensures at_budget { result.at_budget ≡ true }
     {
         let RestoredMachine {
             core: RestoredKernel { kernel, cpu },

@@ -23,6 +23,11 @@ const PLAIN_FILE: [u8; 152] = [
     0x08, 0x00, 0xE0, 0x03, 0x21, 0x10, 0x00, 0x00,
 ];
 
+/// The trace of a machine that loads it twice.
+pub(crate) const TRACE_OF_TWO: &[u8] =
+    b"0 load 1 ok 00010000 00000008\n0 run 1\n2 result 1 0 resident\n\
+    2 load 2 ok 00010100 00000008\n5 result 2 0 resident\n";
+
 /// Makes that module, by the name of `m.irx`.
 fn plain_module(alloc: Global) -> Result<Module, AllocError>
     ensures name { IfOk result (λ made. length made.name ≤ 5) }
@@ -59,7 +64,7 @@ fn words_for_first(alloc: Global) -> Result<Script, AllocError>
 }
 
 /// Makes a machine that loads that module twice.
-fn loads_it_twice(alloc: Global) -> Result<Machine, AllocError>
+pub(crate) fn loads_it_twice(alloc: Global) -> Result<Machine, AllocError>
     ensures { IfOk result IsSoundMachine }
 {
     let first = plain_module(alloc)?;
@@ -69,7 +74,7 @@ fn loads_it_twice(alloc: Global) -> Result<Machine, AllocError>
 }
 
 /// Runs it by so many instructions, and compares why it stops, and the moment behind them.
-fn run_by(
+pub(crate) fn run_by(
     rt: &impl Abort,
     machine: &mut Machine,
     console: &mut MemSink,
@@ -103,12 +108,7 @@ fn run_in_parts(rt: &impl Abort, alloc: Global, machine: &mut Machine) -> Result
     let arguments = b"\x08\x20\0\0\0\0\0\0m.irx\0\0".as_slice();
     assert_eq!(rt; machine.window(0x2000, 15), Some(arguments));
     assert_eq!(rt; machine.window(0x1F_FFF8, 9), None);
-    assert_eq!(rt;
-        trace.bytes(),
-        b"0 load 1 ok 00010000 00000008\n0 run 1\n2 result 1 0 resident\n\
-        2 load 2 ok 00010100 00000008\n5 result 2 0 resident\n"
-            .as_slice()
-    );
+    assert_eq!(rt; trace.bytes(), TRACE_OF_TWO);
     Ok(())
 }
 

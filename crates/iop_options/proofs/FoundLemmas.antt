@@ -94,7 +94,7 @@ LeftOut rule = rule.defaults ≡ []
 
 iop_left_out : AllByRecursion LeftOut iop_rules
 unfolding iop_rules
-iop_left_out = (refl, (refl, (refl, (refl, (refl, (refl, tt))))))
+iop_left_out = (refl, (refl, (refl, (refl, (refl, (refl, (refl, (refl, tt))))))))
 
 with_default-none : (rows : List Row) (rule : Rule) → LeftOut rule → with_default rows rule ≡ rows
 with_default-none rows rule none =
@@ -228,6 +228,8 @@ holds_parts matches parts hold =
       dump = value_is (codes "dump") refl;
       ram = value_is (codes "ram") refl;
       generate = value_is (codes "generate") refl;
+      save = value_is (codes "save") refl;
+      restore = value_is (codes "restore") refl;
       files = raw_values-rows f (codes "module") ∙ hold.files;
     }
 

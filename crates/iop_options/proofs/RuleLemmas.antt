@@ -29,7 +29,8 @@ file_built = record file_rule {
 unfoldable pub iop_rules : List Rule
 iop_rules = option_built (codes "budget") ∷ option_built (codes "script")
     ∷ option_built (codes "dump") ∷ option_built (codes "ram")
-    ∷ option_built (codes "generate") ∷ file_built ∷ []
+    ∷ option_built (codes "generate") ∷ option_built (codes "save")
+    ∷ option_built (codes "restore") ∷ file_built ∷ []
 
 abbrev pub iop_shape : Shape
 iop_shape = record {

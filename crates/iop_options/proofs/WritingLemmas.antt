@@ -188,12 +188,16 @@ module _ (name text : List ℕ) (parts rest : List Part) where
           let dumped = and_parts (is_single here (codes "dump")) _ script.1 in
           let sized = and_parts (is_single here (codes "ram")) _ dumped.1 in
           let generate = and_parts (is_single here (codes "generate")) _ sized.1 in
+          let saved = and_parts (is_single here (codes "save")) _ generate.1 in
+          let restored = and_parts (is_single here (codes "restore")) _ saved.1 in
           rw (
             (values_move (codes "budget")).1 budget.0,
             (values_move (codes "script")).1 script.0,
             (values_move (codes "dump")).1 dumped.0,
             (values_move (codes "ram")).1 sized.0,
             (values_move (codes "generate")).1 generate.0,
+            (values_move (codes "save")).1 saved.0,
+            (values_move (codes "restore")).1 restored.0,
             files_move,
           ) refl
 

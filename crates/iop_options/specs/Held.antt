@@ -10,5 +10,7 @@ command_held o = record {
   dump = o.dump;
   ram = o.ram;
   generate = o.generate;
+  save = option_map string_bytes o.save;
+  restore = option_map string_bytes o.restore;
   modules = map string_bytes o.modules.items;
 }

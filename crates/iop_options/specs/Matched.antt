@@ -24,10 +24,11 @@ bare_app = on_top (λ shape. record shape { no_binary_name = true; disable_help_
     (new_app (codes "iop"))
 
 unfoldable pub iop_app : App
-iop_app = with_rule (with_rule (with_rule (with_rule (with_rule (with_rule bare_app
-    (option_rule (codes "budget"))) (option_rule (codes "script")))
+iop_app = with_rule (with_rule (with_rule (with_rule (with_rule (with_rule (with_rule (with_rule
+    bare_app (option_rule (codes "budget"))) (option_rule (codes "script")))
     (option_rule (codes "dump"))) (option_rule (codes "ram")))
-    (option_rule (codes "generate"))) file_rule
+    (option_rule (codes "generate"))) (option_rule (codes "save")))
+    (option_rule (codes "restore"))) file_rule
 
 -- the list, unless it is empty
 abbrev pub unless_empty : List (List ℕ) → Option (List (List ℕ))
@@ -41,6 +42,8 @@ pub record HoldsParts (matches : ArgMatches) (parts : List Part) : Type 0 where
   pub ram : first_value (found_of matches) (codes "ram") ≡ value_of (codes "ram") parts
   pub generate : first_value (found_of matches) (codes "generate")
       ≡ value_of (codes "generate") parts
+  pub save : first_value (found_of matches) (codes "save") ≡ value_of (codes "save") parts
+  pub restore : first_value (found_of matches) (codes "restore") ≡ value_of (codes "restore") parts
   pub files : option_map raw_values (matched_of (found_of matches) (codes "module"))
       ≡ unless_empty (files_of parts)
 
@@ -55,7 +58,8 @@ command_matched matches =
     let found = found_of matches in
     command_from (first_value found (codes "budget")) (first_value found (codes "script"))
     (first_value found (codes "dump")) (first_value found (codes "ram"))
-    (first_value found (codes "generate")) (files_matched matches)
+    (first_value found (codes "generate")) (first_value found (codes "save"))
+    (first_value found (codes "restore")) (files_matched matches)
 
 -- the matches are those of the parts, unless host memory runs out
 abbrev pub FindsParts : Result ArgMatches WordFault → Option (List Part) → Type 0

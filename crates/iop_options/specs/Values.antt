@@ -5,7 +5,7 @@ use Rattle.std.specs.Str.{bytes_eq}
 use Rattle.iop_base.specs.Places.{range_at}
 use Rattle.iop_base.specs.declared.limits.TheConstants.{MOST_WORKERS}
 use Rattle.iop_options.specs.Numbers.{number_of}
-use Rattle.iop_options.specs.declared.limits.TheConstants.{DEFAULT_BUDGET, MOST_BUDGET, LONGEST_DUMP, MOST_HEX_DIGITS}
+use Rattle.iop_options.specs.declared.limits.TheConstants.{DEFAULT_BUDGET, MOST_BUDGET, LONGEST_DUMP, MOST_HEX_DIGITS, LONGEST_WORD}
 use Rattle.iop_options.specs.declared.ram_size.RamSize.{RamSize}
 use Rattle.iop_options.specs.declared.ram_size.RamSize.TheVariants.{TwoMiB, EightMiB}
 
@@ -30,6 +30,14 @@ budget_of (Some text) = number_of 10 0 MOST_BUDGET text
 -- the name of a script's file
 abbrev pub script_of : List ℕ → Option (List ℕ)
 script_of text = if nat_le 1 (length text) then Some text else None
+
+-- a name of 1 to `LONGEST_WORD` bytes
+abbrev pub is_short_name : List ℕ → Bool
+is_short_name text = nat_le 1 (length text) && nat_le (length text) LONGEST_WORD
+
+-- the name of a snapshot's file
+abbrev pub snapshot_of : List ℕ → Option (List ℕ)
+snapshot_of text = if is_short_name text then Some text else None
 
 -- how many workers a generated module has
 abbrev pub workers_of : List ℕ → Option ℕ

@@ -39,7 +39,8 @@ kind_of (b ∷ rest) = if is_hyphen b then behind_hyphen rest else plain
 -- each takes one value
 abbrev pub option_names : List (List ℕ)
 option_names =
-    codes "budget" ∷ codes "script" ∷ codes "dump" ∷ codes "ram" ∷ codes "generate" ∷ []
+    codes "budget" ∷ codes "script" ∷ codes "dump" ∷ codes "ram" ∷ codes "generate"
+    ∷ codes "save" ∷ codes "restore" ∷ []
 
 abbrev pub is_option : List ℕ → Bool
 is_option name = list_any (λ option. bytes_eq option name) option_names

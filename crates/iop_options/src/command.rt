@@ -4,7 +4,7 @@ ghost use Rattle.std.specs.Prelude.{◌≡◌, ◌≢◌, IfOk, None, option_and
 ghost use Rattle.clap.specs.Words.{app_of, rule_of, kind_of};
 ghost use Rattle.clap.specs.declared.error.kind.ErrorKind.TheVariants.{OutOfMemory};
 ghost use Rattle.iop_options.specs.Parts.{parts_from, unless_repeated};
-ghost use Rattle.iop_options.specs.Matched.{FindsParts, iop_app, option_rule};
+ghost use Rattle.iop_options.specs.Matched.{FindsParts, iop_app, option_rule, file_rule};
 
 use crate::fault::WordFault;
 use clap::error::ErrorKind;
@@ -19,11 +19,18 @@ fn value_option<'a>(alloc: Global, name: &'a str) -> Arg<'a>
     Arg::new(alloc, name).long(name).action(ArgAction::Set)
 }
 
-/// The command: five options, each of one value, and any number of modules.
+/// The words that name modules.
+fn module_words<'a>(alloc: Global) -> Arg<'a>
+    ensures rule { rule_of result ≡ file_rule }
+    ensures local { result.global ≡ false }
+{
+    Arg::new(alloc, "module").action(ArgAction::Append)
+}
+
+/// The command: seven options, each of one value, and any number of modules.
 fn iop_command<'a>(alloc: Global) -> Result<Command<'a>, AllocError>
     ensures { IfOk result (λ command. app_of command ≡ iop_app) }
 {
-    let module = Arg::new(alloc, "module").action(ArgAction::Append);
     Command::new(alloc, "iop")
         .no_binary_name(true)
         .disable_help_flag(true)
@@ -32,7 +39,9 @@ fn iop_command<'a>(alloc: Global) -> Result<Command<'a>, AllocError>
         .arg(value_option(alloc, "dump"))?
         .arg(value_option(alloc, "ram"))?
         .arg(value_option(alloc, "generate"))?
-        .arg(module)
+        .arg(value_option(alloc, "save"))?
+        .arg(value_option(alloc, "restore"))?
+        .arg(module_words(alloc))
 }
 
 /// What an error of `clap` says of the words.

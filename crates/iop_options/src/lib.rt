@@ -8,6 +8,7 @@ mod fault;
 pub mod laws;
 mod limits;
 mod modules;
+mod names;
 mod numbers;
 mod options;
 mod parsing;

@@ -12,5 +12,5 @@ pub const LONGEST_DUMP: u32 = 0x1_0000;
 /// How many digits a number of a dump may have at most.
 pub(crate) const MOST_HEX_DIGITS: usize = 8;
 
-/// How many bytes the word that names a module's file may have at most.
+/// How many bytes the name of a module's file, or of a snapshot's, may have at most.
 pub const LONGEST_WORD: usize = 255;

@@ -1,8 +1,8 @@
 //! The values of options.
 
-ghost use Rattle.std.specs.Prelude.{◌≡◌, option_map};
+ghost use Rattle.std.specs.Prelude.{◌≡◌};
 ghost use Rattle.std.specs.Option.{option_copied};
-ghost use Rattle.iop_options.specs.Values.{budget_of, script_of, workers_of, ram_bytes, ram_of, hex_of, range_of, dump_of};
+ghost use Rattle.iop_options.specs.Values.{budget_of, workers_of, ram_bytes, ram_of, hex_of, range_of, dump_of};
 ghost use Rattle.iop_options.specs.Commands.{if_given};
 
 use crate::dump_range::DumpRange;
@@ -19,16 +19,6 @@ pub(crate) fn budget_of(value: Option<&str>) -> Option<u64>
     match value {
         None => Some(DEFAULT_BUDGET),
         Some(text) => number_of(text, 10, 0, MOST_BUDGET),
-    }
-}
-
-/// Reads the name of a script's file, which is not empty.
-pub(crate) fn script_of(value: Option<&str>) -> Option<Option<&str>>
-    ensures { option_map option_copied result ≡ if_given script_of (option_copied value.entry) }
-{
-    match value {
-        None => Some(None),
-        Some(text) => (!text.is_empty()).then_some(Some(text)),
     }
 }
 

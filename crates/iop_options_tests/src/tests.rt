@@ -27,6 +27,15 @@ a --ram 8 --budget 1 -- --ram|1 none ram 8 [a] [--ram]
 --generate 250|10000000 none generate 250
 --generate=0001 --budget 7 --|7 none generate 1
 --script é é|10000000 é [é]
+--save s a|10000000 none save s [a]
+a --save=-x --script f|10000000 f save -x [a]
+--save s --ram 8 --dump 7ffff0:10 a|10000000 none dump 7ffff0:10 ram 8 save s [a]
+--generate 3 --save=s|10000000 none generate 3 save s
+--restore s|10000000 none restore s
+--restore=--x --budget 7 --|7 none restore --x
+--save s --restore s|10000000 none save s restore s
+--restore - --dump 1ffff0:10|10000000 none dump 1ffff0:10 restore -
+-- --restore --save|10000000 none [--restore] [--save]
 |bad
 --|bad
 --budget 5|bad
@@ -76,10 +85,32 @@ a --budget|bad
 --generate 4294967297|bad
 --generate 1 a|bad
 --generate 1 |bad
+--save s|bad
+--save= a|bad
+--save  a|bad
+--save --restore s|bad
+--save s --save t a|bad
+--save -x a|bad
+--restore|bad
+--restore=|bad
+--restore |bad
+--restore s --restore s|bad
+--restore s --ram 8|bad
+--ram 2 --restore s|bad
+--restore s --script f|bad
+--restore s a.irx|bad
+--restore s -- a|bad
+--restore s |bad
+--restore s --generate 3|bad
+--restore s --generate 3 a|bad
+--restore s --dump 7ffff0:10|bad
+--dump 1ffff0:11 --restore s|bad
 a |bad
 -a|bad
 -é a|bad
 a --help|bad
+a --saves s|bad
+--restores s|bad
 -h|bad
 --version a|bad
 help a|10000000 none [help] [a]
@@ -96,13 +127,18 @@ fn rows() -> Lines<'static> {
     TABLE.lines()
 }
 
-/// Tells what a command line chooses, as a line of text. Words are separated by single spaces.
-fn chosen(alloc: Global, line: &str) -> Result<String, Fail> {
+/// Gives the words of a command line, which are separated by single spaces.
+fn words_of(alloc: Global, line: &str) -> Result<Vec<String>, Fail> {
     let mut words = Vec::new(alloc);
     for word in line.split(' ') {
         words.push(String::from_str(alloc, word)?)?;
     }
-    match parse_options(alloc, &words) {
+    Ok(words)
+}
+
+/// Tells what a command line chooses, as a line of text.
+fn chosen(alloc: Global, line: &str) -> Result<String, Fail> {
+    match parse_options(alloc, &words_of(alloc, line)?) {
         Ok(options) => shown(alloc, &options),
         Err(WordFault::Bad) => Ok(String::from_str(alloc, "bad")?),
         Err(WordFault::Memory) => Ok(String::from_str(alloc, "memory")?),
@@ -124,6 +160,12 @@ fn shown(alloc: Global, options: &Options) -> Result<String, Fail> {
     }
     if let Some(workers) = options.generate {
         text.push_str(format!(in alloc; " generate {}", workers)?.as_str())?;
+    }
+    if let Some(name) = &options.save {
+        text.push_str(format!(in alloc; " save {}", name.as_str())?.as_str())?;
+    }
+    if let Some(name) = &options.restore {
+        text.push_str(format!(in alloc; " restore {}", name.as_str())?.as_str())?;
     }
     for module in options.modules.iter() {
         text.push_str(format!(in alloc; " [{}]", module.as_str())?.as_str())?;
@@ -154,5 +196,25 @@ fn counts_and_lengths(rt: HostRuntime) -> Result<(), Fail> {
     assert!(rt; is_command(rt.alloc(), 64, 255)?);
     assert!(rt; !is_command(rt.alloc(), 65, 1)?);
     assert!(rt; !is_command(rt.alloc(), 1, 256)?);
+    Ok(())
+}
+
+/// Reads a command line with one more word, which is a text so many times.
+fn takes_name(alloc: Global, line: &str, text: &str, times: usize) -> Result<bool, Fail> {
+    let mut words = words_of(alloc, line)?;
+    words.push(text.repeat(alloc, times)?)?;
+    Ok(parse_options(alloc, &words).is_ok())
+}
+
+#[test]
+fn names_of_snapshots(rt: HostRuntime) -> Result<(), Fail> {
+    for line in ["a --save", "--restore"] {
+        assert!(rt; takes_name(rt.alloc(), line, "s", 1)?, "{line}");
+        assert!(rt; takes_name(rt.alloc(), line, "s", 255)?, "{line}");
+        assert!(rt; takes_name(rt.alloc(), line, "é", 127)?, "{line}");
+        assert!(rt; !takes_name(rt.alloc(), line, "s", 0)?, "{line}");
+        assert!(rt; !takes_name(rt.alloc(), line, "s", 256)?, "{line}");
+        assert!(rt; !takes_name(rt.alloc(), line, "é", 128)?, "{line}");
+    }
     Ok(())
 }

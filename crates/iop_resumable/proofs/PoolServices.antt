@@ -16,6 +16,7 @@ use Rattle.iop_kernel.specs.Stacks.{owner_of}
 use Rattle.iop_kernel.specs.System.{Core, Left, System, may_switch, caller, argument}
 use Rattle.iop_kernel.specs.VariablePools.{makes_vpl, creates_vpl_at, takes_or_waits, allocate_vpl, serves_thvpool}
 use Rattle.iop_kernel.specs.Callers.{may_leave}
+use Rattle.iop_kernel.specs.declared.pool_services.TheConstants.{FROM_BELOW}
 use Rattle.iop_kernel.proofs.Walk.Changes.{TakesBlock}
 use Rattle.iop_kernel.proofs.Walk.Changes.VariableChanges.{takes}
 use Rattle.iop_kernel.proofs.Walk.Libraries.{thvpool_goes, thfpool_goes}
@@ -37,9 +38,10 @@ use Rattle.iop_sysmem.specs.BlockMap.{BlockMap, AreBlocks}
 use Rattle.iop_thread.specs.declared.kind.Kind.{Kind}
 use Rattle.iop_thread.specs.declared.kind.Kind.TheVariants.{VariablePool, FixedPool}
 use Rattle.iop_resumable.proofs.Changed.{changed}
-use Rattle.iop_resumable.proofs.MadePools.{block_taken, variable_made, may_want, fixed_made}
+use Rattle.iop_resumable.proofs.MadePools.{variable_made, may_want, fixed_made}
 use Rattle.iop_resumable.proofs.ObjectMoves.{P, Q, with_others, each_moves, object_moves, meets_pools}
 use Rattle.iop_resumable.proofs.Standing.{Stands, stand_waiters, stand_state, stand_creates}
+use Rattle.iop_resumable.proofs.TakenBlocks.{block_taken}
 
 -- where RAM has no byte no block is taken
 
@@ -85,7 +87,7 @@ module _ (s : System) (placed : IsPlaced s.core.kernel) (h : Stands s.core.kerne
         let many = word_in s.memory place 2 in
         makes_goes each (makes_vpl (owner_of s) attr option many) vpls (variable.bytes attr many)
         (λ bytes sized base left some is.
-        let taken = block_taken s.blocks left bytes base blocks is some in
+        let taken = block_taken s.blocks left FROM_BELOW bytes base blocks is some in
         with_others s.core.kernel are h VariablePool _
         (stand_creates VariablePool vpls (are VariablePool) (h VariablePool) _ tt
         (variable_made attr option many bytes base sized taken.starts
@@ -101,7 +103,7 @@ module _ (s : System) (placed : IsPlaced s.core.kernel) (h : Stands s.core.kerne
         makes_goes each (makes_fpl (owner_of s) attr option many count)
         s.core.kernel.fixed_pools (fixed.bytes attr many count)
         (λ bytes sized base left some is.
-        let taken = block_taken s.blocks left bytes base blocks is some in
+        let taken = block_taken s.blocks left FROM_BELOW bytes base blocks is some in
         with_others s.core.kernel are h FixedPool _
         (stand_creates FixedPool s.core.kernel.fixed_pools (are FixedPool) (h FixedPool) _ tt
         (fixed_made attr option many count bytes base sized taken.starts

@@ -1,8 +1,9 @@
 -- A kernel stays as it can be put back, and that suffices to put it back.
 use Rattle.std.proofs.Common.{◌≡◌, ℕ, false, Option, Some, None, List, [], All, arith}
-use Rattle.std.specs.Prelude.{is_some, ◌||◌}
+use Rattle.std.specs.Prelude.{is_some, ◌||◌, IfSome}
 use Rattle.std.proofs.lemmas.Bool.Decides.{nat_tests}
 use Rattle.std.proofs.lemmas.List.Elements.{All-nil, All-cons}
+use Rattle.iop_kernel.specs.Registers.{nobodys}
 use Rattle.iop_kernel.specs.Serving.{services}
 use Rattle.iop_kernel.specs.System.{Core, beginning}
 use Rattle.iop_kernel.specs.declared.active_handler.ActiveHandler.{ActiveHandler}
@@ -18,10 +19,10 @@ use Rattle.iop_resumable.proofs.Kept.{HoldsOf}
 use Rattle.iop_resumable.proofs.KeptMoves.{services_hold}
 use Rattle.iop_resumable.proofs.KeptRegisters.{Kept}
 use Rattle.iop_resumable.proofs.Objects.{objects_can_stand, objects_stay_regular}
-use Rattle.iop_resumable.proofs.SomePriorities.{HasPriorities}
-use Rattle.iop_resumable.proofs.PriorityServices.{services_have}
+use Rattle.iop_resumable.proofs.SomePriorities.{HasPriorities, HavePriorities, stays, made_some}
 use Rattle.iop_resumable.proofs.Sound.{Sound}
 use Rattle.iop_resumable.proofs.Standing.{Stands}
+use Rattle.iop_resumable.proofs.ThreadsServed.{services_have}
 use Rattle.iop_resumable.proofs.Waiting.{wait_by_priority}
 
 -- both parts of what holds of a thread
@@ -48,8 +49,9 @@ holds_of c h = record {
 pub services_stay_regular : ServicesStayRegular
 services_stay_regular s code serving h =
     let holds = services_hold s (holds_of s.core h) code in
+    let some = priorities_of s.core.kernel.threads.live h.regular.threads in
     let have =
-    services_have s (priorities_of s.core.kernel.threads.live h.regular.threads) code in
+    services_have HavePriorities HasPriorities stays s some (made_some s some) code in
     record {
       regular = record {
         objects = objects_stay_regular s code serving h.regular.objects;
@@ -90,6 +92,13 @@ nothing_active : (handler : Option ActiveHandler) (running : Option ℕ)
 nothing_active None running idle = grind (arith, nat_tests, idle)
 nothing_active (Some handler) running idle = grind (arith, nat_tests, idle)
 
+-- where no thread runs, a handler keeps registers that nobody has
+kept_where : (handler : Option ActiveHandler) (running : Option ℕ)
+    → IfSome handler (λ handler. running ≡ None → handler.kept ≡ nobodys) → running ≡ None
+    → IfSome handler (λ handler. handler.kept ≡ nobodys)
+kept_where None running kept idle = tt
+kept_where (Some handler) running kept idle = kept idle
+
 pub cores_can_be_back : CoresCanBeBack
 cores_can_be_back = record {
   back = λ c core regular bare few. record {
@@ -107,8 +116,8 @@ cores_can_be_back = record {
       numbers = few;
     };
     cause = regular.cause;
-    cpu = λ idle. bare.cpu (nothing_active c.kernel.handler c.kernel.threads.running idle);
-    kept = bare.kept;
+    cpu = λ idle. bare.processor (nothing_active c.kernel.handler c.kernel.threads.running idle);
+    kept = kept_where c.kernel.handler c.kernel.threads.running bare.kept;
   };
   steady = λ c regular cpu.
       record { cpu = cpu; threads = regular.threads; handler = regular.handler };

@@ -27,12 +27,12 @@ use Rattle.iop_saved_kernel.specs.Laws.{CanHaveBegun, IsReadableKept}
 use Rattle.iop_resumable.specs.Laws.{HasDeliveries, StepsStayRegular}
 use Rattle.iop_resumable.specs.Regular.{IsRegular, StandsStill}
 use Rattle.iop_resumable.proofs.KeptRegisters.{AreKept, keeps_kept}
-use Rattle.iop_resumable.proofs.Priorities.{HaveStill, still_have}
+use Rattle.iop_resumable.proofs.LiveThreads.{HaveStill, still_have}
 use Rattle.iop_resumable.proofs.SomePriorities.{HasPriorities, HavePriorities, stays}
 use Rattle.iop_resumable.proofs.Regular.{readable, kept_of, priorities_of}
 
 -- other threads stand there
-with_others : (c : Core) (h : IsRegular c) (t : ThreadTable) → AreKept t → HavePriorities t
+with_others : (c : Core) (h : IsRegular c) (t : ThreadTable) → AreKept t → HavePriorities t.live
     → IsRegular (record c { kernel = record c.kernel { threads = t } })
 with_others c h t kept have = record {
   objects = λ kind. h.objects kind;
@@ -76,7 +76,7 @@ module _ (c : Core) (h : HasDeliveries c) (may : may_deliver c ≡ true) where
   outside : c.cpu.in_slot ≡ false
   outside =
       by c.kernel.handler c.kernel.threads.running c.cpu.in_slot c.kernel.interrupts may
-      (λ idle. ap (λ (cpu : Cpu). cpu.in_slot) (h.bare.cpu idle))
+      (λ idle. ap (λ (cpu : Cpu). cpu.in_slot) (h.bare.processor idle))
     where
       by : (handler : Option ActiveHandler) (running : Option ℕ) (in_slot on : Bool)
           → (on && not (is_some handler) && not (is_some running && in_slot)) ≡ true
@@ -126,7 +126,7 @@ module _ (c : Core) (h : HasDeliveries c) (may : may_deliver c ≡ true) where
           threads = readable _
               ((keeps_kept c.kernel.threads
               (kept_of c.kernel.threads.live h.regular.threads)).wakes delay.thread (code_word OK))
-              ((still_have HasPriorities stays c.kernel.threads
+              ((still_have HavePriorities HasPriorities stays c.kernel.threads
               (priorities_of c.kernel.threads.live h.regular.threads)).wakes delay.thread
               (code_word OK));
           handler = h.regular.handler;
@@ -140,9 +140,9 @@ module _ (c : Core) (h : IsRegular c) where
   kept : AreKept c.kernel.threads
   kept = kept_of c.kernel.threads.live h.threads
 
-  still : HaveStill HasPriorities stays c.kernel.threads
+  still : HaveStill HavePriorities HasPriorities stays c.kernel.threads
   still =
-      still_have HasPriorities stays c.kernel.threads
+      still_have HavePriorities HasPriorities stays c.kernel.threads
       (priorities_of c.kernel.threads.live h.threads)
 
   dispatched_so : IsReadableKept c.cpu → (d : threads.Dispatch)

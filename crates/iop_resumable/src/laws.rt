@@ -1,6 +1,6 @@
 //! Laws of what can be put back: each is the contract of a function that does nothing.
 
-ghost use Rattle.iop_resumable.specs.Laws.{BeginningIsRegular, CoresCanBeBack, LinesStay, ObjectsStayRegular, ServicesStayRegular, StepsStayRegular};
+ghost use Rattle.iop_resumable.specs.Laws.{BeginningIsRegular, CoresCanBeBack, KernelsStayMade, LinesStay, ObjectsStayRegular, ServicesStayRegular, StepsStayRegular};
 
 /// Whatever is served, the objects of all kinds are as they can be put back again.
 pub fn objects_stay_regular()
@@ -31,4 +31,9 @@ pub fn steps_stay_regular()
 /// All interrupt lines stay, which deliveries ask for.
 pub fn lines_stay()
     ensures { LinesStay }
+{}
+
+/// Threads and pools stay such as the calls of a guest make them, whatever a machine does.
+pub fn kernels_stay_made()
+    ensures { KernelsStayMade }
 {}

@@ -1,33 +1,33 @@
 -- A machine whose run ended with its budget comes back from its snapshot, and what is put back stands
 -- for it.
-use Rattle.std.proofs.Common.{◌≡◌, ℕ, ◌+◌, ◌<◌, ◌≤◌, nat_le, nat_lt, true, false, Option, Some, None, List, [], ◌++◌, append-nil, refl, ap, sym, ◌∙◌, subst, arith}
+use Rattle.std.proofs.Common.{◌≡◌, ◌<◌, true, false, Option, Some, None, [], length, append-nil, refl, ap, sym, ◌∙◌, arith}
 use Rattle.std.proofs.lemmas.Bool.{and_from, le-leb, lt-ltb}
 use Rattle.iop_base.specs.declared.stop.Stop.{Stop}
-use Rattle.iop_base.specs.declared.stop.Stop.TheVariants.{Budget}
-use Rattle.iop_kernel.specs.System.{Kernel}
 use Rattle.iop_machine.specs.Iop.{Iop, core_of}
 use Rattle.iop_machine.specs.Laws.{IsMachine}
-use Rattle.iop_machine.specs.Restoring.{iop_in, machine_in, may_go_on, snap, state_of}
-use Rattle.iop_machine.specs.Running.{Ends}
+use Rattle.iop_machine.specs.Loader.{loader_may_go_on}
+use Rattle.iop_machine.specs.Restoring.{machine_in, may_go_on, snap, state_of}
 use Rattle.iop_machine.specs.Standing.{StandsForWorld}
 use Rattle.iop_machine.specs.Stepping.{executes, steps}
-use Rattle.iop_machine.specs.World.{World, booted}
+use Rattle.iop_machine.specs.World.{World}
 use Rattle.iop_machine.specs.declared.machine.Machine.{Machine}
 use Rattle.iop_machine.specs.declared.snapshots.TheConstants.{SAVABLE_MOMENTS}
 use Rattle.iop_machine.proofs.KeepingMachine.{steps_keep_machine}
 use Rattle.iop_machine.proofs.RestoredMachines.{goes_back, machine_read}
 use Rattle.iop_saved_checks.specs.Kernels.{agrees}
 use Rattle.iop_saved_checks.specs.Laws.{CoresInRunsAgree}
-use Rattle.iop_saved_machine.specs.Back.{MachineState, machine_back, machine_form, parts_of}
+use Rattle.iop_saved_machine.specs.Back.{MachineState, machine_form, parts_of}
 use Rattle.iop_saved_machine.specs.Laws.{MachinesAreLawful, MachinesAreRead, MachinesComeBack, machine_in_order}
-use Rattle.iop_saved_machine.specs.Parts.{MachineParts, written_machine}
-use Rattle.iop_snapshot.specs.Forms.{Form, IsLawful, if_last, read_whole}
+use Rattle.iop_saved_machine.specs.Parts.{written_machine}
+use Rattle.iop_snapshot.specs.Forms.{Form, IsLawful, read_whole}
 use Rattle.iop_thread.specs.Ordering.{TablesStandInOrder}
 use Rattle.iop_resumable_runs.specs.Laws.{CanBeResumed, RunsStayResumable, SnapshotsComeBack, resumed_of}
 use Rattle.iop_resumable_runs.specs.Resumable.{IsResumable}
 use Rattle.iop_resumable_runs.proofs.GoingOn.{agrees_in_order, events_pass, left_passes}
 use Rattle.iop_resumable_runs.proofs.Resuming.{resumable_machines_are_read}
 use Rattle.iop_resumable_runs.proofs.Settled.{budget_executes, settled, executing_booted}
+use Rattle.iop_resumable_runs.proofs.Headers.{headers_pass}
+use Rattle.iop_resumable_runs.proofs.Words.{words_pass}
 
 -- what was spelled, all of it, is read
 whole_reads : {X : Type 0} (form : Form X) → IsLawful form → (x : X) → form.fits x ≡ true
@@ -60,14 +60,22 @@ module _ (lawful : MachinesAreLawful) (come : MachinesComeBack) (reads : Machine
     places = machine.sound.places;
     pools = machine.sound.pools;
     settled = settled w e;
+    made = h.made;
   })
+
+  -- its loader can go on
+  loads : loader_may_go_on m ≡ true
+  loads =
+      and_from _ _ (and_from _ _
+      (headers_pass (length w.iop.memory.ram) w.iop.libraries h.headers) h.begun)
+      (h.loader (executing_booted w e))
 
   goes_on : may_go_on (machine_in_order m) ≡ true
   goes_on =
-      and_from _ _ (and_from _ _ (and_from _ _ (and_from _ _
+      and_from _ _ (and_from _ _ (and_from _ _ (and_from _ _ (and_from _ _ (and_from _ _
       (agrees_in_order w.iop.memory w.iop.kernel ∙ agreed) (le-leb _ _ machine.numbers))
       (events_pass w.iop.events machine.events)) (left_passes w.iop.modules h.modules))
-      (lt-ltb _ _ early)
+      (lt-ltb _ _ early)) (words_pass m.loading h.words)) loads
 
   comes_back : machine_in (snap w.iop) ≡ Some (machine_in_order m)
   comes_back =

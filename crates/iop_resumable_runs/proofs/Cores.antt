@@ -1,5 +1,5 @@
 -- What each turn leaves of the kernel and its processor.
-use Rattle.std.proofs.Common.{◌≡◌, ℕ, ◌+◌, ◌<◌, ◌^◌, nat_lt, Bool, true, false, cond, Option, Some, None, IfSome, List, [], ◌∷◌, length, refl, sym, ◌∙◌, subst, arith, inl, inr}
+use Rattle.std.proofs.Common.{◌≡◌, ℕ, ◌+◌, ◌<◌, ◌^◌, nat_lt, Bool, true, false, cond, Option, Some, None, List, [], ◌∷◌, length, refl, sym, ◌∙◌, subst, arith, inl, inr}
 use Rattle.std.proofs.lemmas.Bool.{cond_both}
 use Rattle.std.proofs.lemmas.List.{length-set}
 use Rattle.iop_base.specs.Places.{IsRamSize}
@@ -14,19 +14,17 @@ use Rattle.iop_kernel.specs.DeliveryLaws.{at_moment}
 use Rattle.iop_kernel.specs.Dispatching.{Dispatched, dispatches}
 use Rattle.iop_kernel.specs.Laws.{IsCore}
 use Rattle.iop_kernel.specs.Serving.{services}
-use Rattle.iop_kernel.specs.System.{Core, Served, is_active}
-use Rattle.iop_kernel.specs.declared.active_handler.ActiveHandler.{ActiveHandler}
+use Rattle.iop_kernel.specs.System.{Core, Served}
 use Rattle.iop_kernel.specs.declared.after.After.{After}
 use Rattle.iop_kernel.specs.declared.after.After.TheVariants.{Resume, Switch, ModuleReturned, Fault}
 use Rattle.iop_machine.specs.Iop.{Iop, core_of}
 use Rattle.iop_machine.specs.Laws.{IsSoundWorld}
 use Rattle.iop_machine.specs.Looking.{after_event, after_events, takes_events, next_coming}
 use Rattle.iop_machine.specs.Events.{due_events}
-use Rattle.iop_kernel.specs.Registers.{nobodys}
 use Rattle.iop_machine.specs.Services.{calls, calls_by, calling, serves, returns_by}
 use Rattle.iop_machine.specs.Stepping.{Turn, takes_turn, performs, waits_by}
 use Rattle.iop_machine.specs.World.{World}
-use Rattle.iop_resumable.specs.Laws.{HasNoOthers, IsServing}
+use Rattle.iop_resumable.specs.Laws.{IsServing}
 use Rattle.iop_resumable.proofs.Lines.{lines_stay}
 use Rattle.iop_resumable.proofs.Regular.{services_stay_regular}
 use Rattle.iop_resumable.proofs.Steps.{steps_stay_regular}
@@ -105,18 +103,6 @@ events_sound s h = (core_steps h).raises _
 
 -- ---- each turn
 
--- registers that nobody has are zero
-pub no_others : (c : Core) → (is_active c.kernel ≡ false → c.cpu ≡ nobodys)
-    → IfSome c.kernel.handler (λ handler. c.kernel.threads.running ≡ None
-    → handler.kept ≡ nobodys) → HasNoOthers c
-no_others c idle kept = record { cpu = idle; kept = by c.kernel.handler kept }
-  where
-    by : (o : Option ActiveHandler)
-        → IfSome o (λ handler. c.kernel.threads.running ≡ None → handler.kept ≡ nobodys)
-        → c.kernel.threads.running ≡ None → IfSome o (λ handler. handler.kept ≡ nobodys)
-    by None kept none = tt
-    by (Some handler) kept none = kept none
-
 -- memory is small
 small_ram : (size : ℕ) → IsRamSize size → size < 2 ^ 32
 small_ram size (inl is) = omega (arith, is)
@@ -176,19 +162,11 @@ module _ (s : Iop) (h : IsResumableCore (core_of s)) where
   performs_core none serving (Faults kind) readable = h
 
 -- a turn takes the events that are due first of all
-module _ (w : World) (sound : IsSoundWorld w) (h : IsResumableCore (core_of w.iop))
-    (reads : (memory : List ℕ) (cpu : Cpu) → IsReadable cpu
-    → IsReadable (cpu_after cpu (row memory cpu))) where
-  abbrev v : Iop
-  v = takes_events w.iop
-
-  core : IsCore (core_of v)
+module _ (w : World) (sound : IsSoundWorld w) where
+  core : IsCore (core_of (takes_events w.iop))
   core = events_sound w.iop sound.core
 
-  taken : IsResumableCore (core_of v)
-  taken = events_core w.iop h
-
-  serving : IsServing (calling v)
+  pub serving : IsServing (calling (takes_events w.iop))
   serving = record {
     placed = core.placed;
     blocks = sound.whole.are_blocks;
@@ -196,14 +174,23 @@ module _ (w : World) (sound : IsSoundWorld w) (h : IsResumableCore (core_of w.io
         (small_ram _ sound.whole.sound.sized);
   }
 
+module _ (w : World) (sound : IsSoundWorld w) (h : IsResumableCore (core_of w.iop))
+    (reads : (memory : List ℕ) (cpu : Cpu) → IsReadable cpu
+    → IsReadable (cpu_after cpu (row memory cpu))) where
+  abbrev v : Iop
+  v = takes_events w.iop
+
+  taken : IsResumableCore (core_of v)
+  taken = events_core w.iop h
+
   delivered_core : (d : Delivered) → delivers (core_of v) ≡ Some d → IsResumableCore d.core
   delivered_core d is =
       resumable d.core (
         steps_stay_regular.delivers (core_of v) d (record {
           regular = taken.regular;
           cpu = taken.cpu;
-          bare = no_others (core_of v) sound.bare.processor sound.bare.kept;
-          timers = core.placed.delays.kept;
+          bare = record { processor = sound.bare.processor; kept = sound.bare.kept };
+          timers = (core w sound).placed.delays.kept;
           lines = taken.lines;
         }) is,
         lines_stay.delivers (core_of v) d is ∙ taken.lines,
@@ -228,6 +215,6 @@ module _ (w : World) (sound : IsSoundWorld w) (h : IsResumableCore (core_of w.io
   turn_core (delivery d goes is) = delivered_core d is
   turn_core (dispatch d goes none is) = dispatched_core d is
   turn_core (execution goes looks) =
-      performs_core v taken looks.dispatch_is serving (row v.memory.ram v.cpu)
+      performs_core v taken looks.dispatch_is (serving w sound) (row v.memory.ram v.cpu)
       (reads v.memory.ram v.cpu taken.cpu)
   turn_core (waiting goes looks) = waits_core v taken looks.dispatch_is (next_coming v)

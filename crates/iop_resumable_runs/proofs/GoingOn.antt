@@ -1,6 +1,6 @@
 -- What holds of each machine of a run passes the test of machines that are put back.
-use Rattle.std.proofs.Common.{◌≡◌, ℕ, zero, suc, ◌+◌, ◌<◌, ◌≤◌, nat_le, nat_lt, true, List, [], ◌∷◌, length, refl, ap, ◌∙◌, arith}
-use Rattle.std.specs.Prelude.{All, AllPairs}
+use Rattle.std.proofs.Common.{◌≡◌, ℕ, ◌<◌, ◌≤◌, true, List, [], ◌∷◌, refl, arith}
+use Rattle.std.specs.Prelude.{All}
 use Rattle.std.specs.List.{list_all}
 use Rattle.std.proofs.lemmas.Bool.{and_from, le-leb, lt-ltb}
 use Rattle.std.proofs.lemmas.List.Elements.{All-head, All-tail}
@@ -11,6 +11,7 @@ use Rattle.iop_machine.specs.Events.{CanCome}
 use Rattle.iop_machine.specs.Modules.{CanBeLeft, HasRoom, Module, ModulesLeft, modules_of}
 use Rattle.iop_machine.specs.Restoring.{has_room, may_be_left, may_come_behind}
 use Rattle.iop_saved_checks.specs.Kernels.{agrees, all_objects_agree}
+use Rattle.iop_saved_checks.specs.Made.{threads_can_be, pools_are_inside}
 use Rattle.iop_saved_checks.specs.Objects.{objects_agree}
 use Rattle.iop_saved_checks.specs.Threads.{threads_agree, delays_agree}
 use Rattle.iop_script.specs.declared.raise.Raise.{Raise}
@@ -59,5 +60,5 @@ left_passes left can =
 -- whether tables agree does not ask in which order threads are ready
 pub agrees_in_order : (memory : Memory) (k : Kernel)
     → agrees memory (record k { threads = in_order k.threads }) ≡ agrees memory k
-unfolding agrees threads_agree delays_agree all_objects_agree objects_agree
+unfolding agrees threads_agree delays_agree all_objects_agree objects_agree threads_can_be pools_are_inside
 agrees_in_order memory k = refl

@@ -4,6 +4,7 @@ use Rattle.std.proofs.lemmas.List.Elements.{All-tail}
 use Rattle.std.proofs.lemmas.List.Sums.{length-filter, count_by-le-length}
 use Rattle.iop_machine.specs.Events.{is_due, left_events}
 use Rattle.iop_machine.specs.Modules.{CanBeLeft, ModulesLeft, NamedFile, HasRoom, modules_from, without_first}
+use Rattle.iop_machine.specs.ScriptWords.{IsShortName, WordsCanStand}
 use Rattle.iop_saved_machine.specs.Loading.{LoadingParts, LoadingIsShort}
 use Rattle.iop_saved_machine.specs.declared.begun_module.BegunModule.{BegunModule}
 use Rattle.iop_saved_script.specs.Sizes.{FileIsShort}
@@ -21,9 +22,11 @@ parts_left begun left events = record {
   named = left.named;
 }
 
--- the modules can be left, and all lists have room in their counts, whatever module runs
+-- the modules can be left, with the script's words, and all lists have room in their counts,
+-- whatever module runs
 pub record AreLeft (left : ModulesLeft) (events : List Raise) : Type 0 where
   pub modules : CanBeLeft left
+  pub words : WordsCanStand left
   pub short : (begun : Option BegunModule) → LoadingIsShort (parts_left begun left events)
 
 module _ (args : List Args) (named : List Named) (next : ℕ) where
@@ -38,6 +41,11 @@ module _ (args : List Args) (named : List Named) (next : ℕ) where
       some = omega arith;
       few = omega (arith, h.modules.few);
       room = All-tail HasRoom _ (modules_from args named (suc next) rest) h.modules.room;
+    };
+    words = record {
+      numbers = h.words.numbers;
+      names = h.words.names;
+      short = All-tail IsShortName first rest h.words.short;
     };
     short = λ begun. let short = h.short begun in record {
       modules = omega (arith, short.modules);
@@ -62,6 +70,7 @@ events_taken left events moment h =
     let stays = λ (e : Raise). not (is_due moment e) in
     record {
       modules = h.modules;
+      words = h.words;
       short = λ begun. let short = h.short begun in record {
         modules = short.modules;
         files = short.files;

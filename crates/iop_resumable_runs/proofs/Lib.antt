@@ -2,9 +2,16 @@ pub mod Readable
 pub mod Loader
 pub mod Still
 pub mod Cores
+pub mod MadeTurns
 pub mod Left
 pub mod Libraries
+pub mod Headers
+pub mod Words
 pub mod Beside
+pub mod Returned
+pub mod Begun
+pub mod BegunTurns
+pub mod LoaderTurns
 pub mod Resuming
 pub mod Settled
 pub mod GoingOn

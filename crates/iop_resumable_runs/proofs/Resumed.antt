@@ -1,13 +1,12 @@
 -- A machine that was put back from a snapshot can be resumed, too.
-use Rattle.std.proofs.Common.{◌≡◌, ℕ, ◌==◌, true, Some, List, length, ap, ◌∙◌}
-use Rattle.std.specs.Prelude.{All}
+use Rattle.std.proofs.Common.{◌≡◌, ◌==◌, ◌&&◌, true, length, ap, ◌∙◌}
+use Rattle.std.specs.List.{list_all}
 use Rattle.std.proofs.lemmas.Bool.{and_parts, eqb-true}
-use Rattle.iop_base.specs.Numbers.{IsByte}
 use Rattle.iop_intr.specs.declared.irqs.TheConstants.{IRQ_LINES}
 use Rattle.iop_kernel.specs.Kinds.{table}
 use Rattle.iop_kernel.specs.System.{Core}
-use Rattle.iop_machine.specs.Restoring.{iop_in, left_in, machine_in}
-use Rattle.iop_machine.specs.World.{booted}
+use Rattle.iop_machine.specs.Loader.{has_header, is_between, loader_is_dormant, loader_may_go_on, may_have_begun}
+use Rattle.iop_machine.specs.Restoring.{left_in}
 use Rattle.iop_machine.proofs.RestoredMachines.{can_be_left, has_passed, was_read}
 use Rattle.iop_resumable.specs.Regular.{CanStand, IsRegular}
 use Rattle.iop_saved_checks.specs.Laws.{AgreeingCoresAreSound}
@@ -28,6 +27,8 @@ use Rattle.iop_snapshot.proofs.Combining.{whole_exact}
 use Rattle.iop_thread.specs.declared.kind.Kind.{Kind}
 use Rattle.iop_thread.specs.declared.kind.Kind.TheVariants.{Semaphore, EventFlag, Mailbox, VariablePool, FixedPool}
 use Rattle.iop_resumable_runs.specs.Laws.{RestoredMachinesAreResumable}
+use Rattle.iop_resumable_runs.proofs.Headers.{headers_of}
+use Rattle.iop_resumable_runs.proofs.Words.{words_of}
 
 -- all interrupt lines were read
 lines_fit : (p : Parts) → steady_form_of_parts.fits p ≡ true → length p.irqs ≡ IRQ_LINES
@@ -57,6 +58,23 @@ regular_back c can steady = record {
     stand VariablePool = can.tables.variable_pools.0
     stand FixedPool = can.tables.fixed_pools.0
 
+-- what its loader has passed
+record LoaderPassed (m : MachineState) : Type 0 where
+  pub headers : list_all (has_header (length m.system.memory.ram)) m.system.libraries ≡ true
+  pub begun : may_have_begun (length m.system.memory.ram) m.loading.next m.loading.begun ≡ true
+  pub between : is_between (loader_is_dormant m.system.core.kernel) (length m.loading.modules)
+      m.loading.begun ≡ true
+
+loader_parts : (m : MachineState) → loader_may_go_on m ≡ true → LoaderPassed m
+loader_parts m may =
+    let size = length m.system.memory.ram in
+    let headers = list_all (has_header size) m.system.libraries in
+    let begun = may_have_begun size m.loading.next m.loading.begun in
+    let all = and_parts (headers && begun) (is_between (loader_is_dormant m.system.core.kernel)
+    (length m.loading.modules) m.loading.begun) may in
+    let two = and_parts headers begun all.0 in
+    record { headers = two.0; begun = two.1; between = all.1 }
+
 pub restored_resumable : MachinesAreLawful → MachinesTellWhatWasPut → MachinesAreRead
     → AgreeingCoresAreSound → RestoredMachinesAreResumable
 restored_resumable lawful tells reads sound bytes m all e =
@@ -67,6 +85,7 @@ restored_resumable lawful tells reads sound bytes m all e =
     let steady = reads.steady p m fits was.back in
     let passed = has_passed m was.may in
     let runs = sound m.system.memory m.system.core can.core steady passed.agrees in
+    let loads = loader_parts m passed.loader in
     let same = ap (λ (p : MachineParts). p.core.irqs) (tells.parts p m fits was.back) in
     record {
       core = record {
@@ -78,4 +97,10 @@ restored_resumable lawful tells reads sound bytes m all e =
       modules = can_be_left (left_in m.loading) passed.left;
       short = tells.short p m fits was.back;
       libraries = can.libraries;
+      headers = headers_of (length m.system.memory.ram) m.system.libraries loads.headers;
+      words = words_of m.loading passed.words;
+      begun = loads.begun;
+      new = λ new. absurd (cc new);
+      loader = λ booted. loads.between;
+      made = runs.made;
     }

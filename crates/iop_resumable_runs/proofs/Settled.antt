@@ -1,6 +1,6 @@
 -- Where a run ended with its budget, the next step executes an instruction, so that no thread is to be
 -- dispatched.
-use Rattle.std.proofs.Common.{◌≡◌, ℕ, zero, suc, Bool, true, false, Option, Some, None, option_map, refl, ap, sym, ◌∙◌}
+use Rattle.std.proofs.Common.{◌≡◌, ℕ, Bool, true, false, Option, Some, None, option_map, refl, ap, sym, ◌∙◌}
 use Rattle.iop_base.specs.declared.stop.Stop.{Stop}
 use Rattle.iop_base.specs.declared.stop.Stop.TheVariants.{Budget}
 use Rattle.iop_kernel.specs.Dispatching.{dispatches}

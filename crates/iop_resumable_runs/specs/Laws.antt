@@ -1,12 +1,14 @@
 -- What the laws of runs that can be resumed say.
 use Rattle.std.specs.Prelude.{◌≡◌, ℕ, ◌+◌, ◌<◌, ◌^◌, true, Some, None, List, All}
 use Rattle.iop_base.specs.Numbers.{IsByte}
+use Rattle.iop_base.specs.Places.{IsRamSize}
 use Rattle.iop_base.specs.declared.stop.Stop.TheVariants.{Budget}
 use Rattle.iop_machine.specs.Iop.{Iop, core_of}
 use Rattle.iop_machine.specs.Laws.{IsMachine}
 use Rattle.iop_machine.specs.Modules.{CanBeLeft, ModulesLeft}
 use Rattle.iop_machine.specs.Restoring.{iop_in, loading_of, machine_in, snap, state_of}
 use Rattle.iop_machine.specs.Running.{Ends}
+use Rattle.iop_machine.specs.ScriptWords.{WordsCanStand}
 use Rattle.iop_machine.specs.Standing.{StandsForWorld}
 use Rattle.iop_machine.specs.Stepping.{steps}
 use Rattle.iop_machine.specs.World.{World, booted, reset, beginning}
@@ -23,8 +25,8 @@ use Rattle.iop_resumable_runs.specs.Resumable.{IsResumable}
 -- a machine begins as one that can be resumed
 abbrev pub RunsBeginResumable : Type 0
 RunsBeginResumable =
-    (size : ℕ) (modules : ModulesLeft) (events : List Raise) → CanBeLeft modules
-    → LoadingIsShort (loading_of (reset size modules events))
+    (size : ℕ) (modules : ModulesLeft) (events : List Raise) → IsRamSize size → CanBeLeft modules
+    → LoadingIsShort (loading_of (reset size modules events)) → WordsCanStand modules
     → IsResumable (beginning size modules events)
 
 -- and each of its steps leaves one

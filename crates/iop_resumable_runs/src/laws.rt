@@ -10,8 +10,9 @@ use iop_saved_machine::laws::{
 };
 use iop_thread::laws::tables_stand_in_order;
 
-/// A machine begins so that it can be resumed, where its modules can be left and its lists have
-/// room in their counts.
+/// A machine begins so that it can be resumed, where its modules can be left, its lists have room
+/// in their counts, the script has one list of words at most for each module and each name, and
+/// the names of modules are short.
 pub fn runs_begin_resumable()
     ensures { RunsBeginResumable }
 {}

@@ -1,7 +1,7 @@
 -- Where the tables of a kernel agree, threads and those that wait are in their places, and no wait
 -- is overdue.
 use Rattle.std.proofs.Common.{◌≡◌, ℕ, Bool, true, false, not, Option, Some, None, List, [], ◌∷◌, map, All, refl, sym, ◌∙◌, subst, arith}
-use Rattle.std.specs.Prelude.{◌==◌, ◌&&◌, ◌||◌, is_some, if◌then◌else◌}
+use Rattle.std.specs.Prelude.{◌==◌, ◌&&◌, ◌||◌, is_some, if◌then◌else◌, length}
 use Rattle.std.specs.List.{list_all}
 use Rattle.std.proofs.lemmas.Bool.{and_parts}
 use Rattle.std.proofs.lemmas.Bool.Decides.{nat_tests}
@@ -31,6 +31,7 @@ use Rattle.iop_thread.specs.declared.wait.Wait.TheVariants.{Sleep, Delay, Object
 use Rattle.iop_saved_checks.specs.Idle.{is_idle_where}
 use Rattle.iop_saved_checks.specs.Kernels.{is_awake, all_objects_agree, agrees}
 use Rattle.iop_saved_checks.specs.Laws.{TablesAreSound, HasLoaded}
+use Rattle.iop_saved_checks.specs.Made.{AreMade}
 use Rattle.iop_saved_checks.specs.Objects.{agrees_in, objects_agree}
 use Rattle.iop_saved_checks.specs.Places.{has_place}
 use Rattle.iop_saved_checks.specs.Threads.{is_awaited, is_unwoken, has_loaded, is_in_turn, thread_agrees, threads_agree, delays_agree}
@@ -46,11 +47,14 @@ pub record AllAgree (memory : Memory) (k : Kernel) : Type 0 where
   pub threads : threads_agree k ≡ true
   pub delays : delays_agree k ≡ true
   pub objects : (kind : Kind) → objects_agree memory k.threads kind (table kind k) ≡ true
+  pub made : AreMade (length memory.ram) k
 
 pub all_agree : (memory : Memory) (k : Kernel) → agrees memory k ≡ true → AllAgree memory k
 unfolding agrees all_objects_agree
 all_agree memory k h =
-    let rest = and_parts _ _ h in
+    let pools = and_parts _ _ h in
+    let made = and_parts _ _ pools.0 in
+    let rest = and_parts _ _ made.0 in
     let delays = and_parts _ _ rest.0 in
     let threads = and_parts _ _ delays.0 in
     let fixed = and_parts _ _ rest.1 in
@@ -61,6 +65,7 @@ all_agree memory k h =
       threads = threads.1;
       delays = delays.1;
       objects = of flag.0 flag.1 box.1 variable.1 fixed.1;
+      made = record { threads = made.1; pools = pools.1 };
     }
   where
     of : objects_agree memory k.threads Semaphore k.semaphores ≡ true

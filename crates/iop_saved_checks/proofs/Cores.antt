@@ -146,6 +146,7 @@ cores_sound memory c back steady agree =
       places = is.places;
       pools = tables.pools;
       settled = is.settled c.cpu;
+      made = is.made;
     }
 
 pub cores_agree : CoresInRunsAgree
@@ -158,4 +159,5 @@ cores_agree memory c back h =
       awake = h.core.awake;
       places = h.places;
       settled = λ cpu. none_for c.kernel c.cpu cpu h.settled;
+      made = h.made;
     })

@@ -1,4 +1,5 @@
 pub mod Lists
+pub mod FixedEnds
 pub mod ThreadsLeft
 pub mod WaiterParts
 pub mod Waits

@@ -1,5 +1,5 @@
 -- What holds of each element of a list of which a test holds of all.
-use Rattle.std.proofs.Common.{◌≡◌, ℕ, zero, suc, ◌+◌, ◌<◌, ◌≤◌, Bool, true, false, Some, List, [], ◌∷◌, length, drop, All, refl, sym, ◌∙◌, ap, arith}
+use Rattle.std.proofs.Common.{◌≡◌, ℕ, zero, suc, ◌+◌, ◌<◌, ◌≤◌, Bool, true, false, Option, Some, None, option_map, List, [], ◌∷◌, length, drop, All, refl, sym, ◌∙◌, ap, arith}
 use Rattle.std.specs.Prelude.{◌&&◌, slice_get}
 use Rattle.std.specs.List.{list_all}
 use Rattle.std.proofs.lemmas.Bool.{and_parts, and_from}
@@ -49,6 +49,16 @@ module _ {X : Type 0} (p : X → Bool) (xs : List X) (k : ℕ) (x : X) (is : sli
     -- and where it does not, all do not
     pub all_false : (b : Bool) → list_all p (drop k xs) ≡ b → false ≡ p x → false ≡ b
     all_false b h bad = ap (λ c. c && list_all p (drop (k + 1) xs)) bad ∙ sym all_more ∙ h
+
+-- what a test answers of the element at a place
+pub tested : {X : Type 0} (p : X → Bool) (xs : List X) (k : ℕ) (b : Bool)
+    → option_map p (slice_get xs k) ≡ Some b → (x : X) × (slice_get xs k ≡ Some x) × (b ≡ p x)
+tested {X} p xs k b is = by (slice_get xs k) refl is
+  where
+    by : (o : Option X) → slice_get xs k ≡ o → option_map p o ≡ Some b
+        → (x : X) × (slice_get xs k ≡ Some x) × (b ≡ p x)
+    by None at none = absurd (cc none)
+    by (Some x) at some = (x, at, sym (same_Some (p x) b some))
 
 -- none is left behind the last one
 pub all_done : {X : Type 0} (p : X → Bool) (xs : List X) (k : ℕ) (b : Bool)

@@ -284,10 +284,11 @@ module _ (memory : Memory) (k : Kernel) (regular : TablesAreRegular k)
   pub pass : agrees memory k ≡ true
   unfolding agrees all_objects_agree
   pass =
-      and_from _ _ (and_from _ _ (and_from _ _ awake_passes threads_pass) delays_pass)
+      and_from _ _ (and_from _ _
+      (and_from _ _ (and_from _ _ (and_from _ _ awake_passes threads_pass) delays_pass)
       (and_from _ _ (and_from _ _ (and_from _ _ (and_from _ _ (objects_pass Semaphore)
       (objects_pass EventFlag)) (objects_pass Mailbox)) (objects_pass VariablePool))
-      (objects_pass FixedPool))
+      (objects_pass FixedPool))) h.made.threads) h.made.pools
 
 pub sound_agree : SoundKernelsAgree
 sound_agree memory k regular h = pass memory k regular h

@@ -12,4 +12,5 @@ agreeing_are_sound memory k sound h =
       awake = awake memory k sound all;
       places = places memory k sound all;
       settled = λ cpu. settled memory k sound all cpu;
+      made = all.made;
     }

@@ -1,9 +1,10 @@
 -- Whether the tables of a kernel agree with each other and with memory, so that it is one in which
 -- a machine can stand where the budget of a run ends: this project's own profile.
-use Rattle.std.specs.Prelude.{Bool, ◌&&◌, ◌||◌, is_some}
+use Rattle.std.specs.Prelude.{Bool, ◌&&◌, ◌||◌, is_some, length}
 use Rattle.iop_kernel.specs.System.{Kernel, in_handler}
 use Rattle.iop_stubs.specs.Stubs.{Memory}
 use Rattle.iop_thread.specs.declared.kind.Kind.TheVariants.{Semaphore, EventFlag, Mailbox, VariablePool, FixedPool}
+use Rattle.iop_saved_checks.specs.Made.{threads_can_be, pools_are_inside}
 use Rattle.iop_saved_checks.specs.Objects.{objects_agree}
 use Rattle.iop_saved_checks.specs.Threads.{threads_agree, delays_agree}
 
@@ -23,3 +24,4 @@ all_objects_agree memory k =
 unfoldable pub agrees : Memory → Kernel → Bool
 agrees memory k =
     is_awake k && threads_agree k && delays_agree k && all_objects_agree memory k
+    && threads_can_be (length memory.ram) k.threads && pools_are_inside (length memory.ram) k

@@ -1,5 +1,5 @@
 -- What the law of kernels that agree says.
-use Rattle.std.specs.Prelude.{◌≡◌, true, None, All}
+use Rattle.std.specs.Prelude.{◌≡◌, true, None, All, length}
 use Rattle.iop_exec.specs.declared.cpu.Cpu.{Cpu}
 use Rattle.iop_kernel.specs.Dispatching.{dispatches}
 use Rattle.iop_kernel.specs.Kinds.{table}
@@ -21,6 +21,7 @@ use Rattle.iop_thread.specs.declared.state.State.{State}
 use Rattle.iop_time.specs.Timers.{AreTimers}
 use Rattle.iop_saved_kernel.specs.Laws.{CanBeBack, IsSteadyCore}
 use Rattle.iop_saved_checks.specs.Kernels.{agrees}
+use Rattle.iop_saved_checks.specs.Made.{AreMade}
 
 abbrev pub HasLoaded : State → Type 0
 HasLoaded = KeptBy AnyRegisters (λ registers. registers.pending ≡ None)
@@ -44,8 +45,10 @@ pub record IsInAgreement (memory : Memory) (k : Kernel) : Type 0 where
   pub awake : k.threads.running ≡ None → IsAwake k
   -- each thread that waits has a place for what it is told
   pub places : HavePlaces memory k
-  -- and no thread is to be dispatched
+  -- no thread is to be dispatched
   pub settled : (cpu : Cpu) → dispatches (core k cpu) ≡ None
+  -- and threads and pools are such as calls make them
+  pub made : AreMade (length memory.ram) k
 
 -- so it is where sound tables agree
 abbrev pub AgreeingKernelsAreSound : Type 0
@@ -70,8 +73,10 @@ pub record IsAsInRuns (memory : Memory) (c : Core) : Type 0 where
   pub core : IsCore c
   pub places : HavePlaces memory c.kernel
   pub pools : PoolsAreSound c.kernel
-  -- and no thread is to be dispatched
+  -- no thread is to be dispatched
   pub settled : dispatches c ≡ None
+  -- and threads and pools are such as calls make them
+  pub made : AreMade (length memory.ram) c.kernel
 
 -- so it is with what was read and put back, where its tables agree
 abbrev pub AgreeingCoresAreSound : Type 0

@@ -3,5 +3,6 @@ pub mod Idle
 pub mod Places
 pub mod Objects
 pub mod Threads
+pub mod Made
 pub mod Kernels
 pub mod Laws

@@ -7,7 +7,9 @@ ghost use Rattle.iop_kernel.specs.Kinds.{table};
 ghost use Rattle.iop_saved_checks.specs.Kernels.{is_awake, all_objects_agree, agrees};
 ghost use Rattle.iop_saved_checks.specs.Objects.{objects_agree};
 
+use crate::made::threads_can_be;
 use crate::objects::objects_agree;
+use crate::pools::pools_are_inside;
 use crate::threads::{delays_agree, threads_agree};
 use iop_kernel::Kernel;
 use iop_ready::Ready;
@@ -20,16 +22,20 @@ use iop_thread::Kind;
 /// A thread runs, or another may; each that waits for a time has a delay, each that waits for an
 /// object is once among those that wait for it, and no other thread is; a thread that sleeps has no
 /// wakeups, and nothing is pending of a load where a thread waits; there is nothing to be had for
-/// those that wait for an object, and each of them has a place in memory for what it is told; and
-/// no thread is to be dispatched now.
+/// those that wait for an object, and each of them has a place in memory for what it is told; no
+/// thread is to be dispatched now; and threads and pools are such as the calls of a guest make
+/// them.
 #[tactic(auto, unfolding(crate::specs::Kernels::agrees))]
 pub fn agrees<R: Ready>(kernel: &Kernel<R>, guest: &Guest) -> bool
     ensures { (k : State) → Holds R.stands kernel.now k → result ≡ agrees guest.now k }
 {
+    let ram = guest.ram();
     is_awake(kernel)
         && threads_agree(kernel)
         && delays_agree(kernel)
         && all_objects_agree(kernel, guest)
+        && threads_can_be(&kernel.threads, ram)
+        && pools_are_inside(kernel, ram)
 }
 
 /// Says whether the objects of all kinds agree with the threads and with memory.

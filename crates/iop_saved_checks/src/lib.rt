@@ -3,7 +3,9 @@
 
 mod kernel;
 pub mod laws;
+mod made;
 mod objects;
+mod pools;
 mod threads;
 mod waited;
 mod waiters;

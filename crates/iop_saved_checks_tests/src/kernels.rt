@@ -65,6 +65,15 @@ pub(crate) fn ready(id: u32, priority: u32) -> Numbers {
     ]
 }
 
+/// A dormant thread: its id, attribute, option, entry, stack, its size, `$gp` and first priority; and
+/// its wakeups.
+pub(crate) fn dormant(numbers: [u32; 8], wakeups: u32) -> Numbers {
+    let [id, attr, option, entry, stack, size, gp, priority] = numbers;
+    [
+        id, attr, option, entry, stack, size, gp, priority, priority, 0x10, 0, 0, wakeups,
+    ]
+}
+
 /// A processor at address 0, all zero: 36 words, no slot, and nothing pending.
 fn processor() -> [u8; 150] {
     let mut cpu = [0; 150];

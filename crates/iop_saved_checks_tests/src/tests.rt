@@ -1,4 +1,4 @@
-use crate::kernels::{Saved, agrees_again, loader, ready};
+use crate::kernels::{Numbers, Saved, agrees_again, dormant, loader, ready};
 use iop_stubs::Guest;
 use std::process::Abort;
 use std::test::Fail;
@@ -180,6 +180,100 @@ fn who_runs(rt: HostRuntime) -> Result<(), Fail> {
             ready: &[2],
             lists: &NONE,
         };
+        assert_eq!(rt; agrees_again(alloc, &guest, saved), Ok(wanted));
+    }
+    Ok(())
+}
+
+/// A kernel of these threads, of which none runs, and of these objects, alarms and delays.
+fn at_rest<'a>(threads: &'a [Numbers], lists: &'a [u32]) -> Saved<'a> {
+    Saved {
+        interrupts: true,
+        running: 0,
+        threads,
+        ready: &[],
+        lists,
+    }
+}
+
+#[test]
+fn which_loaders_can_be(rt: HostRuntime) -> Result<(), Fail> {
+    let alloc = rt.alloc();
+    let guest = Guest::new(alloc, 0x20_0000)?;
+    // The numbers of the only thread, and whether it can be.
+    let rows = [
+        ([1, 0x0200_0000, 0, 0, 0xC000, 0x4000, 0, 8], true),
+        ([1, 0x0100_0000, 0, 0, 0xC000, 0x4000, 0, 8], false),
+        ([1, 0x0200_0000, 1, 0, 0xC000, 0x4000, 0, 8], false),
+        ([1, 0x0200_0000, 0, 4, 0xC000, 0x4000, 0, 8], false),
+        ([1, 0x0200_0000, 0, 0, 0xC100, 0x4000, 0, 8], false),
+        ([1, 0x0200_0000, 0, 0, 0xC000, 0x3F00, 0, 8], false),
+        ([1, 0x0200_0000, 0, 0, 0xC000, 0x4000, 1, 8], false),
+        ([1, 0x0200_0000, 0, 0, 0xC000, 0x4000, 0, 9], false),
+        ([2, 0x0200_0000, 0, 0, 0x10000, 0x4000, 0, 8], false),
+    ];
+    for (numbers, wanted) in rows {
+        let threads = [dormant(numbers, 0)];
+        let saved = at_rest(&threads, &NONE);
+        assert_eq!(rt; agrees_again(alloc, &guest, saved), Ok(wanted));
+    }
+    Ok(())
+}
+
+#[test]
+fn which_threads_can_be(rt: HostRuntime) -> Result<(), Fail> {
+    let alloc = rt.alloc();
+    let guest = Guest::new(alloc, 0x20_0000)?;
+    // The attribute of a second thread, its entry, its stack and the size of that, and its wakeups;
+    // and whether it can be.
+    let rows = [
+        (0x0200_0000, 0x10000, 0x20000, 0x400, 0, true),
+        (0x0300_0000, 0, 0x1F_FC00, 0x400, 0x7FFF_FFFF, true),
+        (0x0200_0000, 0x10000, 0x8002_0000, 0x400, 0, true),
+        (0x0400_0000, 0x10000, 0x20000, 0x400, 0, false),
+        (0x0200_0000, 0x10002, 0x20000, 0x400, 0, false),
+        (0x0200_0000, 0x10000, 0xFF00, 0x400, 0, false),
+        (0x0200_0000, 0x10000, 0x20080, 0x400, 0, false),
+        (0x0200_0000, 0x10000, 0x20000, 0x480, 0, false),
+        (0x0200_0000, 0x10000, 0x20000, 0, 0, false),
+        (0x0200_0000, 0x10000, 0x1F_FD00, 0x400, 0, false),
+        (0x0200_0000, 0x10000, 0xFFFF_FF00, 0x400, 0, false),
+        (0x0200_0000, 0x10000, 0x20000, 0x400, 0x8000_0000, false),
+    ];
+    for (attr, entry, stack, size, wakeups, wanted) in rows {
+        let second = dormant([2, attr, 0, entry, stack, size, 5, 9], wakeups);
+        let threads = [loader(0x10, 0, 0, 0), second];
+        let saved = at_rest(&threads, &NONE);
+        assert_eq!(rt; agrees_again(alloc, &guest, saved), Ok(wanted));
+    }
+    Ok(())
+}
+
+#[test]
+fn which_pools_can_be(rt: HostRuntime) -> Result<(), Fail> {
+    let alloc = rt.alloc();
+    let guest = Guest::new(alloc, 0x20_0000)?;
+    let threads = [loader(0x10, 0, 0, 0)];
+    // Where a variable pool begins and its size, and whether it can be.
+    let variable = [
+        (0x1F_FF00, 256, true),
+        (0x1F_FF00, 272, false),
+        (0x20_0000, 64, false),
+    ];
+    for (base, size, wanted) in variable {
+        let lists = [0, 0, 0, 1, 1, 0, 0, base, size, 0, 0, 0, 0, 0];
+        let saved = at_rest(&threads, &lists);
+        assert_eq!(rt; agrees_again(alloc, &guest, saved), Ok(wanted));
+    }
+    // The same of a fixed pool, whose blocks have 64 bytes, and how many it has.
+    let fixed = [
+        (0x1F_FF00, 4, true),
+        (0x1F_FF00, 5, false),
+        (0x20_0000, 1, false),
+    ];
+    for (base, count, wanted) in fixed {
+        let lists = [0, 0, 0, 0, 1, 1, 0, 0, base, 64, count, 0, 0, 0, 0];
+        let saved = at_rest(&threads, &lists);
         assert_eq!(rt; agrees_again(alloc, &guest, saved), Ok(wanted));
     }
     Ok(())

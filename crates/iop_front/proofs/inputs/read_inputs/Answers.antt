@@ -1,7 +1,7 @@
 use Rattle.std.proofs.Common.{[], option_to_list, refl, subst}
 use Rattle.std.proofs.lemmas.Result.{err_from_is_err_and}
 use Rattle.iop_front.specs.Inputs.{seen, HasStopped, HasTaken}
-use Rattle.iop_front.specs.Named.{AsModule, first_kind, files_of}
+use Rattle.iop_front.specs.Named.{AsModule, kind_by, inputs_of}
 use Rattle.iop_front.proofs.ScriptLemmas.{inputs_read, stops_behind_script}
 use Rattle.iop_front.proofs.TakingLemmas.{takes_none, stops_short, stops_before}
 use Rattle.iop_front.proofs.inputs.read_inputs.Goals as goal
@@ -11,8 +11,8 @@ returns-in_err-buffer-clause-read g c =
     let now = seen g.F.Files.told g.F.Files.faults c.args.files.now in
     let command = c.args.options.now in
     let p = err_from_is_err_and c.from_residual.result c.from_residual.ensures.1 in
-    rw (p.1, p.2) (stops_short (first_kind command) (files_of command) [] (files_of command) []
-    now now refl (takes_none (first_kind command) now))
+    rw (p.1, p.2) (stops_short (kind_by command.script) (inputs_of command) []
+    (inputs_of command) [] now now refl (takes_none (kind_by command.script) now))
 
 pub returns-in_err-script-clause-read : goal.returns-in_err-script-clause-read
 returns-in_err-script-clause-read g c =
@@ -20,7 +20,7 @@ returns-in_err-script-clause-read g c =
     let command = c.args.options.now in
     let made = c.from_residual-in_err-script in
     let p = err_from_is_err_and made.result made.ensures.1 in
-    rw (p.1, p.2) (stops_before (first_kind command) (option_to_list command.script)
+    rw (p.1, p.2) (stops_before (kind_by command.script) (option_to_list command.script)
     command.modules (seen_by c.args.files.now) (seen_by c.read_script_of.new.files)
     c.in_err-script.field-0.0 c.in_err-script.ensures.read)
 

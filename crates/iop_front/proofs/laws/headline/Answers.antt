@@ -1,10 +1,11 @@
-use Rattle.iop_front.proofs.Headline.{headline}
+use Rattle.iop_front.proofs.Restored.{headline}
 use Rattle.iop_front.proofs.laws.headline.Goals as goal
 
 pub returns : goal.returns
 returns c = headline (record {
   events_change_their_lines = c.events_change_their_lines.ensures;
   next_coming_is_least = c.next_coming_is_least.ensures;
+  restored_machines_are_machines = c.restored_machines_are_machines.ensures;
   running_threads_were_taken = c.running_threads_were_taken.ensures;
   runs_are_awake = c.runs_are_awake.ensures;
   runs_are_computed = c.runs_are_computed.ensures;

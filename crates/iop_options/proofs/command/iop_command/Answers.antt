@@ -1,8 +1,7 @@
-use Rattle.std.proofs.Common.{◌≡◌, ◌∙◌, ap, ap₂, true, rules}
+use Rattle.std.proofs.Common.{◌≡◌, ◌∙◌, ap, ap₂, true}
 use Rattle.std.proofs.lemmas.Result.{IfOk-weaker}
-use Rattle.clap.specs.Walk.{rule_of}
 use Rattle.clap.specs.Simple.{Shape, app_of, app_of_fields, on_top, with_rule}
-use Rattle.iop_options.specs.Matched.{iop_app, bare_app, file_rule}
+use Rattle.iop_options.specs.Matched.{iop_app, bare_app}
 use Rattle.iop_options.proofs.command.iop_command.Goals as goal
 
 abbrev unnamed : Shape → Shape
@@ -14,11 +13,10 @@ helpless shape = record shape { disable_help_flag = true }
 pub returns : goal.returns
 unfolding iop_app
 returns c =
-    let file_is : rule_of c.action-module.result ≡ file_rule = search rules in
     let bare_is : app_of c.disable_help_flag.result ≡ bare_app =
     ap app_of_fields c.disable_help_flag.ensures
     ∙ ap (on_top helpless) (ap app_of_fields c.no_binary_name.ensures
-    ∙ ap (on_top unnamed) c.new-2.ensures.app) in
+    ∙ ap (on_top unnamed) c.new.ensures.app) in
     let one = c.in_ok-arg.ensures.shape c.value_option.ensures.local
     ∙ ap₂ with_rule bare_is c.value_option.ensures.rule in
     let two = c.in_ok-arg-2.ensures.shape c.value_option-2.ensures.local
@@ -29,5 +27,10 @@ returns c =
     ∙ ap₂ with_rule three c.value_option-4.ensures.rule in
     let five = c.in_ok-arg-5.ensures.shape c.value_option-5.ensures.local
     ∙ ap₂ with_rule four c.value_option-5.ensures.rule in
-    IfOk-weaker c.arg-6.result _ _
-    (λ command h. h.shape (search rules) ∙ ap₂ with_rule five file_is) c.arg-6.ensures
+    let six = c.in_ok-arg-6.ensures.shape c.value_option-6.ensures.local
+    ∙ ap₂ with_rule five c.value_option-6.ensures.rule in
+    let seven = c.in_ok-arg-7.ensures.shape c.value_option-7.ensures.local
+    ∙ ap₂ with_rule six c.value_option-7.ensures.rule in
+    IfOk-weaker c.arg-8.result _ _
+    (λ command h. h.shape c.module_words.ensures.local
+    ∙ ap₂ with_rule seven c.module_words.ensures.rule) c.arg-8.ensures

@@ -57,7 +57,7 @@ returns-clause-back c =
     (All-from_get_or IsByte bytes 0 (λ i inside. omega (arith, c.type_inv.bytes i))) found in (
       m,
       found,
-      c.going_on.ensures m holds law.machine.sound.core.placed,
+      c.going_on.ensures.stands m holds law.machine.sound.core.placed,
       law.machine,
       law.told,
     )
